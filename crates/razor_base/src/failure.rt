@@ -1,0 +1,21 @@
+use std::alloc::{AllocError, AllocFailed};
+
+/// A call on an outside object failed.
+#[derive(Clone, Copy, Debug, PartialEq, Eq)]
+pub struct Failed;
+
+/// Memory was refused.
+#[derive(Clone, Copy, Debug, PartialEq, Eq)]
+pub struct Memory;
+
+impl From<AllocError> for Memory {
+    fn from(_refused: AllocError) -> Self {
+        Memory
+    }
+}
+
+impl<T: Drop> From<AllocFailed<T>> for Memory {
+    fn from(_refused: AllocFailed<T>) -> Self {
+        Memory
+    }
+}

@@ -1,0 +1,14 @@
+//! What the compiler reads from and writes to, and reading and writing whole.
+//!
+//! A [`Desk`] gives the bytes of named inputs, a [`Sink`] takes bytes. Both are traits, so that the
+//! layers above are proved over every desk and every sink; [`MemDesk`] and [`MemSink`] lie in memory
+//! and tell all their bytes, [`HostDesk`] and [`HostSink`] are the real files and streams.
+#![tactic(auto)]
+
+mod desk;
+mod failure;
+mod sink;
+
+pub use desk::Desk;
+pub use failure::{Failed, Memory};
+pub use sink::Sink;
