@@ -1,0 +1,6 @@
+pub mod Fields
+pub mod Classifier
+pub mod Prefix
+pub mod Bits
+pub mod Spans
+pub mod Rules

@@ -1,0 +1,12 @@
+-- Spans as intervals.
+use Rattle.std.specs.Prelude.{ℕ, ◌<◌, ◌≤◌, List, slice_index_or}
+use Rattle.field_boxes.specs.declared.span.Span.{Span}
+use Rattle.field_boxes.specs.Fields.{greatest_of}
+use Rattle.field_boxes.specs.Classifier.{Interval}
+
+abbrev pub interval_of : Span → Interval
+interval_of s = record { lo = s.lo; hi = s.hi }
+
+-- each span reaches no further than its field
+abbrev pub AreInside : List Span → Type 0
+AreInside spans = (k : ℕ) (d : Span) → k < 5 → (slice_index_or spans k d).hi ≤ greatest_of k

@@ -1,0 +1,20 @@
+//! Headers, intervals, prefixes, rules and the names of decisions.
+//!
+//! A classifier is a list of rules, each with one interval for each of five fields and a decision. A
+//! header gets the decision of the first rule whose five intervals hold its five values: [`first`]
+//! gives that rule's place. `specs/Classifier.antt` says what this means over any list of fields, and
+//! the laws in [`laws`] tie the meaning over one field to the meaning over the rest.
+#![tactic(auto)]
+
+mod fields;
+mod header;
+pub mod laws;
+mod prefix;
+mod rule;
+mod span;
+
+pub use fields::{WIDTHS, greatest};
+pub use header::Header;
+pub use prefix::Prefix;
+pub use rule::Rule;
+pub use span::Span;
