@@ -1,3 +1,6 @@
+pub mod Bits
+pub mod FirstSeen
+pub mod Halves
 pub mod Residues
 pub mod Order
 pub mod Prefixes

@@ -1,8 +1,10 @@
 -- Prefixes as intervals.
-use Rattle.std.proofs.Common.{◌≡◌, ℕ, ◌+◌, ◌-◌, ◌*◌, ◌/◌, ◌%◌, ◌^◌, ◌<◌, ◌≤◌, Fits, arith, sym, subst}
+use Rattle.std.proofs.Common.{nat_le, nat_eq, ◌&&◌, ap, ◌∙◌, refl, Bool, true, false, eq-eqb, inl, inr, ◌≡◌, ℕ, ◌+◌, ◌-◌, ◌*◌, ◌/◌, ◌%◌, ◌^◌, ◌<◌, ◌≤◌, Fits, arith, sym, subst}
 use Rattle.std.specs.Int.{w32}
-use Rattle.std.proofs.lemmas.Nat.{pow_pos, pow-add, shr_split, shr_below, one_shl}
-use Rattle.std.proofs.Math.Nat.{mul-le-mul_right}
+use Rattle.std.proofs.lemmas.Nat.{pow_pos, pow-add, shr_split, shr_below, one_shl, mod_below, le-div, div_below}
+use Rattle.std.proofs.Math.Nat.{mul-le-mul_right, add-mul, one-mul}
+use Rattle.std.proofs.lemmas.Bool.{false≢true, leb-true, le-leb}
+use Rattle.std.proofs.lemmas.Bool.Decides.{eqb_tells}
 use Rattle.std.proofs.Math.Pow.{pow_mono}
 
 -- a multiple of a power, below a greater power, lies a whole step below it
@@ -26,3 +28,39 @@ top_fits w l v wide le small low =
     let positive = pow_pos (w - l) in
     let room : 2 ^ w ≤ 2 ^ 32 = pow_mono wide in
     rw one (omega (arith, step, positive, room))
+
+both : (a b : Bool) → (a && b) ≡ true → (a ≡ true) × (b ≡ true)
+both true b h = (refl, h)
+both false b h = absurd (false≢true h)
+
+-- a value that shares the high part with a multiple of a power lies in the step from there
+in_step : (k p v : ℕ) → p % 2 ^ k ≡ 0 → v / 2 ^ k ≡ p / 2 ^ k → (p ≤ v) × (v ≤ p + (2 ^ k - 1))
+in_step k p v low same =
+    let pv = shr_split v k in
+    let pp = shr_split p k in
+    let equal : v / 2 ^ k * 2 ^ k ≡ p / 2 ^ k * 2 ^ k = ap (λ x. x * 2 ^ k) same in
+    let below = mod_below v (2 ^ k) (pow_pos k) in
+    (omega (arith, pv, pp, equal, below), omega (arith, pv, pp, equal, below))
+
+same_high : (k p v : ℕ) → p % 2 ^ k ≡ 0 → p ≤ v → v ≤ p + (2 ^ k - 1) → v / 2 ^ k ≡ p / 2 ^ k
+same_high k p v low above under =
+    let pp = shr_split p k in
+    let positive = pow_pos k in
+    let least : p / 2 ^ k ≤ v / 2 ^ k = le-div (p / 2 ^ k) v (2 ^ k) positive (omega (arith, pp)) in
+    let next : (p / 2 ^ k + 1) * 2 ^ k ≡ p / 2 ^ k * 2 ^ k + 2 ^ k = add-mul (p / 2 ^ k) 1 (2 ^ k) ∙ ap (λ x. p / 2 ^ k * 2 ^ k + x) (one-mul (2 ^ k)) in
+    let most : v / 2 ^ k < p / 2 ^ k + 1 = div_below v (2 ^ k) (p / 2 ^ k + 1) positive (omega (arith, pp, next)) in
+    omega (arith, least, most)
+
+by_test : (k p v : ℕ) → p % 2 ^ k ≡ 0 → (t : Bool) → (nat_le p v && nat_le v (p + (2 ^ k - 1))) ≡ t → t ≡ nat_eq (v / 2 ^ k) (p / 2 ^ k)
+by_test k p v low true h =
+    let parts = both (nat_le p v) (nat_le v (p + (2 ^ k - 1))) h in
+    sym (eq-eqb (v / 2 ^ k) (p / 2 ^ k) (same_high k p v low (leb-true p v parts.0) (leb-true v (p + (2 ^ k - 1)) parts.1)))
+by_test k p v low false h =
+    elim (eqb_tells (v / 2 ^ k) (p / 2 ^ k)) [
+      | inl t ↦ let s = in_step k p v low t.1 in absurd (false≢true (sym h ∙ rw (le-leb p v s.0, le-leb v (p + (2 ^ k - 1)) s.1) refl))
+      | inr t ↦ sym t.0
+    ]
+
+-- the interval of a prefix holds the values that the prefix holds
+pub interval-prefix : (k p v : ℕ) → p % 2 ^ k ≡ 0 → (nat_le p v && nat_le v (p + (2 ^ k - 1))) ≡ nat_eq (v / 2 ^ k) (p / 2 ^ k)
+interval-prefix k p v low = by_test k p v low (nat_le p v && nat_le v (p + (2 ^ k - 1))) refl

@@ -1,7 +1,8 @@
 -- Prefixes of a field: the values that agree in their highest bits.
-use Rattle.std.specs.Prelude.{◌≡◌, ℕ, ◌+◌, ◌-◌, ◌/◌, ◌%◌, ◌^◌, ◌<◌, ◌≤◌, Bool, nat_eq}
+use Rattle.std.specs.Prelude.{◌≡◌, ℕ, ◌+◌, ◌-◌, ◌/◌, ◌%◌, ◌^◌, ◌<◌, ◌≤◌, Bool, List, take, nat_eq}
 use Rattle.field_boxes.specs.declared.prefix.Prefix.{Prefix}
 use Rattle.field_boxes.specs.Classifier.{Interval}
+use Rattle.field_boxes.specs.Bits.{bits}
 
 -- the prefix has at most width bits, its value too, and the bits below it are 0
 pub record FitsWidth (width : ℕ) (p : Prefix) : Type 0 where
@@ -17,3 +18,7 @@ prefix_holds width p v = nat_eq (v / 2 ^ (width - p.len)) (p.value / 2 ^ (width 
 -- the values that the prefix holds, as an interval
 abbrev pub prefix_interval : ℕ → Prefix → Interval
 prefix_interval width p = record { lo = p.value; hi = p.value + (2 ^ (width - p.len) - 1) }
+
+-- the highest len of the width bits of its value
+abbrev pub prefix_bits : ℕ → Prefix → List Bool
+prefix_bits width p = take p.len (bits width p.value)

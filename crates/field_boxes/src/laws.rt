@@ -1,7 +1,10 @@
 //! Laws of the definitions, for whoever relies on them. The functions do nothing.
-ghost use Rattle.std.specs.Prelude.{◌≡◌, ◌∷◌, ◌⊎◌, ℕ, List, length};
+ghost use Rattle.std.specs.Prelude.{◌≡◌, ◌<◌, ◌^◌, ◌∷◌, ◌⊎◌, ℕ, List, length};
 ghost use Rattle.field_boxes.specs.Fields.{ComesBefore};
-ghost use Rattle.field_boxes.specs.Classifier.{Rule, source, residue};
+ghost use Rattle.field_boxes.specs.Classifier.{Rule, source, residue, interval_holds};
+ghost use Rattle.field_boxes.specs.Prefix.{FitsWidth, prefix_bits, prefix_holds, prefix_interval};
+ghost use Rattle.field_boxes.specs.Bits.{bits, begins};
+ghost use Rattle.field_boxes.specs.declared.prefix.Prefix.{Prefix};
 
 /// What a list decides over a field and more fields is what its residue at the field's value decides
 /// over those.
@@ -13,4 +16,14 @@ pub fn source_by_residue()
 /// Of two headers one comes before the other, or they are the same.
 pub fn headers_are_ordered()
     ensures { (a b : List ℕ) → length a ≡ length b → ComesBefore a b ⊎ (a ≡ b) ⊎ ComesBefore b a }
+{}
+
+/// A prefix holds the values of the interval from its least value to its greatest.
+pub fn prefixes_are_intervals()
+    ensures { (width : ℕ) (p : Prefix) → FitsWidth width p → (v : ℕ) → interval_holds v (prefix_interval width p) ≡ prefix_holds width p v }
+{}
+
+/// A prefix holds the values whose bits begin with its own.
+pub fn prefixes_are_bits()
+    ensures { (width : ℕ) (p : Prefix) → FitsWidth width p → (v : ℕ) → v < 2 ^ width → prefix_holds width p v ≡ begins (prefix_bits width p) (bits width v) }
 {}

@@ -6,15 +6,21 @@
 //! the laws in [`laws`] tie the meaning over one field to the meaning over the rest.
 #![tactic(auto)]
 
+mod classifier;
+mod decisions;
 mod fields;
 mod header;
 pub mod laws;
+mod names;
 mod prefix;
 mod rule;
 mod span;
 
+pub use classifier::first;
+pub use decisions::Decisions;
 pub use fields::{WIDTHS, greatest};
 pub use header::Header;
+pub use names::decision_word;
 pub use prefix::Prefix;
 pub use rule::Rule;
 pub use span::Span;

@@ -1,0 +1,43 @@
+-- The names of decisions.
+use Rattle.std.specs.Prelude.{◌≢◌, ℕ, zero, suc, ◌≤◌, Bool, not, ◌&&◌, ◌||◌, ◌==◌, nat_le, List, [], ◌∷◌, ◌++◌, length, All, Option, Some, None, option_map, position, ◌+◌, slice_get, unwrap_or, if◌then◌else◌}
+use Rattle.std.specs.List.{list_any, list_all}
+use Rattle.std.specs.Char.{is_ascii_alphanumeric}
+use Rattle.std.specs.Str.{bytes_eq}
+
+-- the word for no decision
+abbrev pub miss : List ℕ
+miss = 109 ∷ 105 ∷ 115 ∷ 115 ∷ []
+
+-- a letter of ASCII, a digit, '_', '-' or '.'
+abbrev pub is_word_byte : ℕ → Bool
+is_word_byte b = is_ascii_alphanumeric b || b == 95 || b == 45 || b == 46
+
+-- 1 to 32 such bytes
+abbrev pub has_word_form : List ℕ → Bool
+has_word_form text = nat_le 1 (length text) && nat_le (length text) 32 && list_all is_word_byte text
+
+-- a decision word: of that form, and not the word for no decision
+abbrev pub is_decision_word : List ℕ → Bool
+is_decision_word text = has_word_form text && not (bytes_eq text miss)
+
+-- the name with a number: none for 0, and from 1 the names in their order
+abbrev pub name_at : List (List ℕ) → ℕ → Option (List ℕ)
+name_at names zero = None
+name_at names (suc k) = slice_get names k
+
+-- the text of a decision
+abbrev pub text_of : Option (List ℕ) → List ℕ
+text_of name = unwrap_or name miss
+
+-- the first number whose text this is: 0 for miss
+abbrev pub number_of : List (List ℕ) → List ℕ → Option ℕ
+number_of names text = if bytes_eq text miss then Some 0 else option_map (λ k. k + 1) (position (bytes_eq text) names)
+
+-- the names after one is seen: a new one goes last
+abbrev pub with_name : List (List ℕ) → List ℕ → List (List ℕ)
+with_name names name = if list_any (bytes_eq name) names then names else names ++ name ∷ []
+
+-- there are at most so many names, and none is the word for no decision
+pub record AreNames (names : List (List ℕ)) : Type 0 where
+  pub few : length names ≤ 262144
+  pub named : All (λ name. name ≢ miss) names

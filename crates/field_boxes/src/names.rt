@@ -1,0 +1,31 @@
+ghost use Rattle.std.specs.Prelude.{◌≡◌};
+ghost use Rattle.std.specs.List.{list_all};
+ghost use Rattle.field_boxes.specs.Names.{has_word_form, is_decision_word, is_word_byte};
+
+/// Whether the byte may stand in a decision word: a letter of ASCII, a digit, `_`, `-` or `.`.
+fn word_byte(byte: u8) -> bool
+    ensures { result ≡ is_word_byte byte }
+{
+    byte.is_ascii_alphanumeric() || byte == b'_' || byte == b'-' || byte == b'.'
+}
+
+fn word_bytes(text: &[u8]) -> bool
+    ensures { result ≡ list_all is_word_byte text.now }
+{
+    text.iter().all(|&byte| word_byte(byte))
+}
+
+/// Whether the text has 1 to 32 such bytes and no other.
+fn word_form(text: &[u8]) -> bool
+    ensures { result ≡ has_word_form text.now }
+{
+    1 <= text.len() && text.len() <= 32 && word_bytes(text)
+}
+
+/// Whether the text is a decision word: 1 to 32 letters of ASCII, digits, `_`, `-` and `.`, and not
+/// `miss`.
+pub fn decision_word(text: &[u8]) -> bool
+    ensures { result ≡ is_decision_word text.now }
+{
+    word_form(text) && text != b"miss".as_slice()
+}
