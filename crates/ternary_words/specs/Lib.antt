@@ -1,0 +1,6 @@
+pub mod Word
+pub mod Prefixes
+pub mod Table
+pub mod TableText
+pub mod Views
+pub mod Limits

@@ -1,0 +1,29 @@
+-- Words that are a prefix in each field.
+use Rattle.std.specs.Prelude.{ℕ, ◌-◌, Bool, true, ◌&&◌, List, [], ◌∷◌, ◌++◌, Some, None, map, replicate}
+use Rattle.field_boxes.specs.declared.prefix.Prefix.{Prefix}
+use Rattle.field_boxes.specs.Fields.{width}
+use Rattle.field_boxes.specs.Prefix.{FitsWidth, prefix_bits, prefix_holds}
+use Rattle.ternary_words.specs.Word.{Trit}
+
+-- the bits of a prefix, and '*' below them
+abbrev pub prefix_trits : ℕ → Prefix → List Trit
+prefix_trits w p = map (λ b. Some b) (prefix_bits w p) ++ replicate (w - p.len) None
+
+-- the prefixes of these fields, one after another
+abbrev pub fields_trits : List ℕ → List Prefix → List Trit
+fields_trits [] ps = []
+fields_trits (f ∷ fs) [] = []
+fields_trits (f ∷ fs) (p ∷ ps) = prefix_trits (width f) p ++ fields_trits fs ps
+
+-- each prefix fits its field
+abbrev pub FitFields : List ℕ → List Prefix → Type 0
+FitFields [] ps = Unit {0}
+FitFields (f ∷ fs) [] = Unit {0}
+FitFields (f ∷ fs) (p ∷ ps) = FitsWidth (width f) p × FitFields fs ps
+
+-- whether each prefix holds the value of its field
+abbrev pub all_hold : List ℕ → List Prefix → List ℕ → Bool
+all_hold [] ps values = true
+all_hold (f ∷ fs) [] values = true
+all_hold (f ∷ fs) (p ∷ ps) [] = true
+all_hold (f ∷ fs) (p ∷ ps) (v ∷ vs) = prefix_holds (width f) p v && all_hold fs ps vs

@@ -1,0 +1,21 @@
+ghost use Rattle.std.specs.Prelude.{◌≤◌, length, vec_len};
+ghost use Rattle.ternary_words.specs.Limits.{IsSlotWidth, AreNumbered};
+
+use crate::entry::Entry;
+use field_boxes::Decisions;
+
+/// A list of entries for slots of `slot` trits (104, 144 or 288), with the names of their decisions.
+///
+/// `composed` is the number of entries before redundant ones were removed. Both it and the number of
+/// entries are at most 262,144.
+#[derive(Drop)]
+pub struct Table {
+    pub slot: u16,
+    pub composed: u32,
+    pub entries: Vec<Entry>,
+    pub names: Decisions,
+    pub ghost width: { ∥ IsSlotWidth slot ∥₁ },
+    pub ghost counted: { composed ≤ 262144 },
+    pub ghost few: { vec_len entries ≤ 262144 },
+    pub ghost numbered: { AreNumbered (length names) entries.items },
+}
