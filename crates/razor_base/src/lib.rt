@@ -5,10 +5,13 @@
 //! and tell all their bytes, [`HostDesk`] and [`HostSink`] are the real files and streams.
 #![tactic(auto)]
 
+mod decimal;
 mod desk;
 mod failure;
 mod sink;
+mod write;
 
 pub use desk::Desk;
 pub use failure::{Failed, Memory};
 pub use sink::Sink;
+pub use write::{write_all, write_number};
