@@ -8,10 +8,12 @@
 mod decimal;
 mod desk;
 mod failure;
+mod pending;
 mod sink;
 mod write;
 
 pub use desk::Desk;
 pub use failure::{Failed, Memory};
+pub use pending::Pending;
 pub use sink::Sink;
 pub use write::{write_all, write_number};
