@@ -9,11 +9,13 @@ mod decimal;
 mod desk;
 mod failure;
 mod pending;
+mod read;
 mod sink;
 mod write;
 
 pub use desk::Desk;
 pub use failure::{Failed, Memory};
 pub use pending::Pending;
+pub use read::{ReadError, read_all};
 pub use sink::Sink;
 pub use write::{write_all, write_number};
