@@ -8,6 +8,8 @@
 mod decimal;
 mod desk;
 mod failure;
+mod fault_plan;
+mod mem_sink;
 mod pending;
 mod read;
 mod sink;
@@ -15,6 +17,7 @@ mod write;
 
 pub use desk::Desk;
 pub use failure::{Failed, Memory};
+pub use mem_sink::MemSink;
 pub use pending::Pending;
 pub use read::{ReadError, read_all};
 pub use sink::Sink;
