@@ -1,2 +1,5 @@
+pub mod FaultPlan
 pub mod Faults
+pub mod Input
+pub mod MemSink
 pub mod Output

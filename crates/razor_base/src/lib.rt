@@ -5,10 +5,20 @@
 //! and tell all their bytes, [`HostDesk`] and [`HostSink`] are the real files and streams.
 #![tactic(auto)]
 
+mod decimal;
 mod desk;
 mod failure;
+mod fault_plan;
+mod mem_sink;
+mod pending;
+mod read;
 mod sink;
+mod write;
 
 pub use desk::Desk;
 pub use failure::{Failed, Memory};
+pub use mem_sink::MemSink;
+pub use pending::Pending;
+pub use read::{ReadError, read_all};
 pub use sink::Sink;
+pub use write::{write_all, write_number};
