@@ -1,4 +1,6 @@
 ghost use Rattle.std.specs.Prelude.{◌≡◌};
+ghost use Rattle.std.specs.Bool.{OnTrue};
+ghost use Rattle.std.specs.Str.{IsAscii};
 ghost use Rattle.std.specs.List.{list_all};
 ghost use Rattle.field_boxes.specs.Names.{has_word_form, is_decision_word, is_word_byte};
 
@@ -25,7 +27,8 @@ fn word_form(text: &[u8]) -> bool
 /// Whether the text is a decision word: 1 to 32 letters of ASCII, digits, `_`, `-` and `.`, and not
 /// `miss`.
 pub fn decision_word(text: &[u8]) -> bool
-    ensures { result ≡ is_decision_word text.now }
+    ensures word { result ≡ is_decision_word text.now }
+    ensures ascii { OnTrue result (IsAscii text.now) }
 {
     word_form(text) && text != b"miss".as_slice()
 }

@@ -1,0 +1,10 @@
+-- Steps that may give nothing, and cutting a text at a separator.
+use Rattle.std.specs.Prelude.{ℕ, ◌+◌, Bool, ◌==◌, List, Option, Some, None, option_and_then, option_map, position, take, drop, if◌then◌else◌}
+
+infixl 10 ◌>>=◌
+abbrev pub ◌>>=◌ : {A B : Type 0} → Option A → (A → Option B) → Option B
+o >>= f = option_and_then f o
+
+-- what stands before the first separator, and what stands after it
+abbrev pub split_once : ℕ → List ℕ → Option (List ℕ × List ℕ)
+split_once separator text = option_map (λ i. (take i text, drop (i + 1) text)) (position (λ b. b == separator) text)
