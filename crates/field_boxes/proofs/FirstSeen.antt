@@ -1,10 +1,10 @@
 -- Names in the order in which they were first seen.
-use Rattle.std.proofs.Common.{◌≡◌, ◌≢◌, ◌∷◌, ◌++◌, ℕ, ◌+◌, ◌-◌, ◌<◌, zero, suc, add-one, List, Bool, true, false, cond, [], ap, refl, sym, ◌∙◌, arith, length, get_or, Some}
+use Rattle.std.proofs.Common.{◌≡◌, ◌≢◌, ◌∷◌, ◌++◌, ℕ, ◌+◌, ◌-◌, ◌<◌, ◌≤◌, zero, suc, add-one, List, Bool, true, false, cond, [], ap, refl, sym, ◌∙◌, arith, length, get_or, Some}
 use Rattle.std.specs.Prelude.{map, position, slice_get, Option, option_map, ◌||◌, not}
 use Rattle.std.specs.List.{list_any, prefix_len}
 use Rattle.std.specs.Str.{bytes_eq}
 use Rattle.std.proofs.lemmas.List.Quantifiers.{position-Some}
-use Rattle.std.proofs.lemmas.Option.{slice_get-get_or, slice_get-map}
+use Rattle.std.proofs.lemmas.Option.{slice_get-get_or, slice_get-map, slice_get_within, none-some}
 use Rattle.std.proofs.lemmas.List.{length-map, map-append, length-append}
 use Rattle.std.proofs.lemmas.Grind.{common_steps}
 use Rattle.std.proofs.lemmas.Slice.Eq.{bytes_eq-Decides}
@@ -59,3 +59,21 @@ AreNames-with_name names name room named h = named_with names name (list_any (by
 pub number_by : {X : Type 0} (f : X → List ℕ) (ks : List X) (name : List ℕ) (r : Option ℕ) → bytes_eq name miss ≡ false → r ≡ position (λ k. bytes_eq name (f k)) ks →
     option_map (λ k. k + 1) r ≡ number_of (map f ks) name
 number_by f ks name r other h = rw (other, position-map (bytes_eq name) f ks) (ap (option_map (λ k. k + 1)) h)
+
+get_append : (names more : List (List ℕ)) (k : ℕ) → k < length names → slice_get (names ++ more) k ≡ slice_get names k
+get_append [] more k h = absurd (omega arith)
+get_append (name ∷ names) more zero h = refl
+get_append (name ∷ names) more (suc k) h = get_append names more k (omega arith)
+
+kept_by : (names : List (List ℕ)) (name : List ℕ) (t : Bool) (k : ℕ) → k ≤ length names → name_at (cond t names (names ++ name ∷ [])) k ≡ name_at names k
+kept_by names name true k h = refl
+kept_by names name false zero h = refl
+kept_by names name false (suc k) h = get_append names (name ∷ []) k (omega arith)
+
+-- a name keeps its number
+pub name_at-with_name : (names : List (List ℕ)) (name : List ℕ) (k : ℕ) → k ≤ length names → name_at (with_name names name) k ≡ name_at names k
+name_at-with_name names name k h = kept_by names name (list_any (bytes_eq name) names) k h
+
+pub name_at_within : (names : List (List ℕ)) (n : ℕ) (name : List ℕ) → name_at names n ≡ Some name → (0 < n) × (n ≤ length names)
+name_at_within names zero name h = absurd (none-some name h)
+name_at_within names (suc k) name h = (omega arith, omega (arith, slice_get_within names k name h))

@@ -44,6 +44,8 @@ impl Decisions {
         requires room { length self.old < 262144 }
         ensures names { OnOk result (self.new ≡ with_name self.old name.now) }
         ensures number { IfOk result (λ n. name_at self.new n ≡ Some name.now) }
+        ensures within { IfOk result (λ n. (0 < n) × (n ≤ length self.new)) }
+        ensures kept { (k : ℕ) → k ≤ length self.old → name_at self.new k ≡ name_at self.old k }
         ensures err { OnErr result (self.new ≡ self.old) }
     {
         if let Some(place) = self.names.get_index_of(name) {

@@ -1,8 +1,8 @@
-ghost use Rattle.std.specs.Prelude.{◌≡◌};
+ghost use Rattle.std.specs.Prelude.{◌≡◌, ◌≢◌};
 ghost use Rattle.std.specs.Bool.{OnTrue};
 ghost use Rattle.std.specs.Str.{IsAscii};
 ghost use Rattle.std.specs.List.{list_all};
-ghost use Rattle.field_boxes.specs.Names.{has_word_form, is_decision_word, is_word_byte};
+ghost use Rattle.field_boxes.specs.Names.{miss, has_word_form, is_decision_word, is_word_byte};
 
 /// Whether the byte may stand in a decision word: a letter of ASCII, a digit, `_`, `-` or `.`.
 fn word_byte(byte: u8) -> bool
@@ -29,6 +29,7 @@ fn word_form(text: &[u8]) -> bool
 pub fn decision_word(text: &[u8]) -> bool
     ensures word { result ≡ is_decision_word text.now }
     ensures ascii { OnTrue result (IsAscii text.now) }
+    ensures named { OnTrue result (text.now ≢ miss) }
 {
     word_form(text) && text != b"miss".as_slice()
 }

@@ -5,3 +5,5 @@ pub mod Prefixes
 pub mod ThinLine
 pub mod ThinList
 pub mod ThinViews
+pub mod Numbered
+pub mod Reading

@@ -1,5 +1,6 @@
-ghost use Rattle.std.specs.Prelude.{◌≡◌};
+ghost use Rattle.std.specs.Prelude.{◌≡◌, ◌≢◌, IfSome};
 ghost use Rattle.std.specs.Option.{option_map};
+ghost use Rattle.field_boxes.specs.Names.{miss};
 ghost use Rattle.razor_core.specs.Columns.{decision_name};
 
 use field_boxes::decision_word;
@@ -7,7 +8,8 @@ use field_boxes::decision_word;
 /// The decision word that the text is.
 #[tactic(auto, unfolding(crate::specs::Columns::decision_name))]
 pub fn decision_column(text: &[u8]) -> Option<&str>
-    ensures { option_map (λ name. name.now) result ≡ decision_name text.now }
+    ensures name { option_map (λ name. name.now) result ≡ decision_name text.now }
+    ensures named { IfSome result (λ name. name.now ≢ miss) }
 {
     if !decision_word(text) {
         return None;

@@ -3,6 +3,9 @@
 
 mod address;
 mod decision;
+mod line;
+mod lines;
+mod list;
 mod number;
 mod port;
 mod prefixes;
@@ -11,4 +14,5 @@ mod reason;
 mod separator;
 mod thin_line;
 
+pub use list::{ListError, NumberedRule, ThinList};
 pub use reason::Reason;

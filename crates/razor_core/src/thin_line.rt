@@ -1,5 +1,6 @@
-ghost use Rattle.std.specs.Prelude.{◌≡◌};
+ghost use Rattle.std.specs.Prelude.{◌≡◌, ◌≢◌, IfSome};
 ghost use Rattle.std.specs.Option.{option_map};
+ghost use Rattle.field_boxes.specs.Names.{miss};
 ghost use Rattle.razor_core.specs.ThinLine.{columns_of, thin_rule};
 ghost use Rattle.razor_core.specs.ThinViews.{line_columns, line_rule};
 
@@ -51,7 +52,8 @@ fn cut_columns(line: &[u8]) -> Option<Columns<'_>>
 /// The rule that a thin line spells.
 #[tactic(auto, unfolding(crate::specs::ThinLine::thin_rule))]
 pub fn rule_of_line(line: &[u8]) -> Option<ThinRule<'_>>
-    ensures { option_map line_rule result ≡ thin_rule line.now }
+    ensures rule { option_map line_rule result ≡ thin_rule line.now }
+    ensures named { IfSome result (λ r. r.decision.now ≢ miss) }
 {
     let columns = cut_columns(line)?;
     let source = source_column(columns.source)?;

@@ -1,10 +1,10 @@
-use Rattle.std.proofs.Common.{◌≡◌, refl, sym, ◌∙◌, ap, subst}
+use Rattle.std.proofs.Common.{List, ℕ, ◌≡◌, refl, sym, ◌∙◌, ap, subst}
 use Rattle.std.specs.Prelude.{map}
 use Rattle.std.specs.List.{list_any}
 use Rattle.std.specs.Str.{bytes_eq}
 use Rattle.std.specs.String.{string_bytes}
-use Rattle.field_boxes.specs.Names.{with_name, AreNames}
-use Rattle.field_boxes.proofs.FirstSeen.{list_any-map, seen, number_found, number_stored, with_name-map, AreNames-with_name}
+use Rattle.field_boxes.specs.Names.{with_name, name_at, AreNames}
+use Rattle.field_boxes.proofs.FirstSeen.{list_any-map, seen, number_found, number_stored, with_name-map, AreNames-with_name, name_at-with_name}
 use Rattle.field_boxes.proofs.decisions.Decisions.intern.Goals as goal
 use Rattle.field_boxes.proofs.decisions.Decisions.intern.Goals.{In_ok-place}
 
@@ -34,3 +34,7 @@ returns-clause-number c =
     let stored = c.in_ok-place.ensures.stored in
     let same = ap (λ name. bytes_eq name (string_bytes stored.0)) (sym c.in_ok-owned.ensures.ok) ∙ stored.2 in
     number_stored string_bytes c.insert_full.new.self.keys c.args.name.now c.in_ok-place.place stored.0 stored.1 same
+
+pub returns-clause-kept : goal.returns-clause-kept
+returns-clause-kept c = λ k le.
+    subst (λ (names : List (List ℕ)). name_at names k ≡ name_at c.args.self.now k) (sym (names-after (goal.at.returns-clause-kept c).In_ok-place)) (name_at-with_name c.args.self.now c.args.name.now k le)

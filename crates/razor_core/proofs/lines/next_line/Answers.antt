@@ -1,0 +1,21 @@
+use Rattle.std.proofs.Common.{◌≡◌, ◌≢◌, ◌∷◌, [], ◌-◌, ℕ, List, length, take, drop, Some, None, subst, sym, arith, ap, ◌∙◌, eqb}
+use Rattle.std.proofs.Common.{false}
+use Rattle.std.proofs.lemmas.Grind.{common_steps}
+use Rattle.std.proofs.lemmas.Bool.{false≢true}
+use Rattle.razor_core.specs.ThinList.{lines_of}
+use Rattle.razor_core.proofs.Cuts.{CutsLine, cuts_line}
+use Rattle.razor_core.proofs.lines.next_line.Goals as goal
+
+nothing_after : (text : List ℕ) → take (length text - length text) (drop (length text) text) ≡ []
+nothing_after text = grind (arith, common_steps)
+
+has_byte : (text : List ℕ) → eqb (length text) 0 ≡ false → text ≢ []
+has_byte text h e = false≢true (sym h ∙ ap (λ (t : List ℕ). eqb (length t) 0) e)
+
+pub returns-in-Some-clause-line : goal.returns-in-Some-clause-line
+returns-in-Some-clause-line c = subst (CutsLine c.args.text.now) (sym c.in-Some.ensures) (cuts_line c.args.text.now)
+
+pub returns-in-None-clause-line : goal.returns-in-None-clause-line
+returns-in-None-clause-line c =
+    let last = subst (CutsLine c.args.text.now) (sym c.in-None.ensures) (cuts_line c.args.text.now) in
+    rw (nothing_after c.args.text.now) (last (has_byte c.args.text.now (sym c.if-is_empty.ensures)))
