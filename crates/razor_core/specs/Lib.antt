@@ -1,4 +1,6 @@
 pub mod Steps
+pub mod Command
+pub mod Commands
 pub mod Numbers
 pub mod Columns
 pub mod Prefixes
@@ -6,4 +8,5 @@ pub mod ThinLine
 pub mod ThinList
 pub mod ThinViews
 pub mod Numbered
+pub mod Lists
 pub mod Reading

@@ -27,3 +27,8 @@ IsLineRefused (line_errors.Bad reason) read = read ≡ Err reason
 abbrev pub IsListRefused : ListError → Result (List (Rule (List ℕ))) BadLine → Type 0
 IsListRefused errors.Memory read = Unit {0}
 IsListRefused (errors.BadLine line reason) read = read ≡ Err (record { line = line; reason = reason })
+
+-- the error of a line as the error of its list
+abbrev pub BecomesListError : LineError → ℕ → ListError → Type 0
+BecomesListError line_errors.Memory number error = error ≡ errors.Memory
+BecomesListError (line_errors.Bad reason) number error = error ≡ errors.BadLine number reason

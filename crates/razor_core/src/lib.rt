@@ -2,6 +2,7 @@
 #![tactic(auto)]
 
 mod address;
+mod command;
 mod decision;
 mod line;
 mod lines;
@@ -10,9 +11,13 @@ mod number;
 mod port;
 mod prefixes;
 mod protocol;
+mod reading;
 mod reason;
 mod separator;
 mod thin_line;
+mod words;
 
 pub use list::{ListError, NumberedRule, ThinList};
+pub use reading::read_list;
 pub use reason::Reason;
+pub use words::Words;
