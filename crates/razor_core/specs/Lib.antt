@@ -1,6 +1,11 @@
 pub mod Steps
 pub mod Command
 pub mod Commands
+pub mod Outside
+pub mod Turns
+pub mod Expansion
+pub mod Messages
+pub mod Ending
 pub mod Numbers
 pub mod Columns
 pub mod Prefixes

@@ -4,6 +4,7 @@
 mod address;
 mod command;
 mod decision;
+mod ending;
 mod line;
 mod lines;
 mod list;
