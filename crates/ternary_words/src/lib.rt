@@ -6,6 +6,7 @@
 #![tactic(auto)]
 
 mod entry;
+mod key;
 mod table;
 mod word;
 
