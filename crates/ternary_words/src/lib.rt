@@ -7,9 +7,13 @@
 
 mod entry;
 mod key;
+pub mod laws;
+mod lookup;
+mod masks;
 mod table;
 mod word;
 
 pub use entry::Entry;
+pub use lookup::look;
 pub use table::Table;
 pub use word::Word;
