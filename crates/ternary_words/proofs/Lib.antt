@@ -6,3 +6,4 @@ pub mod Matching
 pub mod PrefixHolds
 pub mod PrefixMasks
 pub mod PrefixTrits
+pub mod WordText

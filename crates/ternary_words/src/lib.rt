@@ -5,6 +5,7 @@
 //! first matching entry: [`look`] gives its place. [`write_table`] writes the text of a table.
 #![tactic(auto)]
 
+mod characters;
 mod entry;
 mod key;
 pub mod laws;
