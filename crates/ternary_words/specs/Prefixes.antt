@@ -1,5 +1,5 @@
 -- Words that are a prefix in each field.
-use Rattle.std.specs.Prelude.{ℕ, ◌-◌, Bool, true, ◌&&◌, List, [], ◌∷◌, ◌++◌, Some, None, map, replicate}
+use Rattle.std.specs.Prelude.{ℕ, ◌-◌, ◌*◌, ◌^◌, Bool, true, ◌&&◌, List, [], ◌∷◌, ◌++◌, Some, None, map, replicate}
 use Rattle.field_boxes.specs.declared.prefix.Prefix.{Prefix}
 use Rattle.field_boxes.specs.Fields.{width}
 use Rattle.field_boxes.specs.Prefix.{FitsWidth, prefix_bits, prefix_holds}
@@ -8,6 +8,16 @@ use Rattle.ternary_words.specs.Word.{Trit}
 -- the bits of a prefix, and '*' below them
 abbrev pub prefix_trits : ℕ → Prefix → List Trit
 prefix_trits w p = map (λ b. Some b) (prefix_bits w p) ++ replicate (w - p.len) None
+
+-- the number whose bits are 1 at the places that a prefix of so many bits sets
+abbrev pub mask_of : ℕ → Prefix → ℕ
+mask_of w p = (2 ^ p.len - 1) * 2 ^ (w - p.len)
+
+-- the masks of the prefixes of these fields
+abbrev pub masks_of : List ℕ → List Prefix → List ℕ
+masks_of [] ps = []
+masks_of (f ∷ fs) [] = []
+masks_of (f ∷ fs) (p ∷ ps) = mask_of (width f) p ∷ masks_of fs ps
 
 -- the prefixes of these fields, one after another
 abbrev pub fields_trits : List ℕ → List Prefix → List Trit

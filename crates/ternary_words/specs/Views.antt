@@ -1,5 +1,5 @@
 -- The words, entries and tables of the code as trits and names.
-use Rattle.std.specs.Prelude.{ℕ, List, map, position, Option}
+use Rattle.std.specs.Prelude.{ℕ, List, map, position, Option, option_and_then, slice_get}
 use Rattle.field_boxes.specs.Bits.{bits}
 use Rattle.field_boxes.specs.Names.{name_at}
 use Rattle.ternary_words.specs.declared.word.Word as code_word
@@ -21,3 +21,7 @@ table_of t = record { slot = t.slot; composed = t.composed; entries = map (entry
 -- the place of the first entry whose word matches the header
 abbrev pub first_match : List ℕ → List code_entry.Entry → Option ℕ
 first_match values entries = position (λ e. agrees (word_of e.word) (header_bits values)) entries
+
+-- what the entry at a place decides, by name: none where there is no place
+abbrev pub decided_at : List (List ℕ) → List code_entry.Entry → Option ℕ → Option (List ℕ)
+decided_at names entries place = option_and_then (λ k. option_and_then (λ e. name_at names e.decision) (slice_get entries k)) place

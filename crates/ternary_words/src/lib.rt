@@ -5,10 +5,16 @@
 //! first matching entry: [`look`] gives its place. [`write_table`] writes the text of a table.
 #![tactic(auto)]
 
+mod characters;
 mod entry;
+mod key;
+pub mod laws;
+mod lookup;
+mod masks;
 mod table;
 mod word;
 
 pub use entry::Entry;
+pub use lookup::look;
 pub use table::Table;
 pub use word::Word;

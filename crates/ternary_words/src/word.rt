@@ -1,5 +1,9 @@
 ghost use Rattle.std.specs.Prelude.{◌≡◌, ◌<◌, ◌^◌, bit_and};
 
+use crate::key::key;
+use crate::masks::{masks, values};
+use field_boxes::{Header, Prefix};
+
 /// A word of 104 trits, over the keys of headers. Place `p` counts from the highest bit of the source
 /// address; its trit is `*` where bit `103 - p` of `mask` is 0, and else that bit of `value`.
 #[derive(Clone, Copy, Debug, PartialEq, Eq)]
@@ -8,4 +12,32 @@ pub struct Word {
     pub mask: u128,
     pub ghost narrow: { mask < 2 ^ 104 },
     pub ghost masked: { bit_and value mask ≡ value },
+}
+
+impl Word {
+    ghost use Rattle.std.specs.Prelude.{ℕ, List};
+    ghost use Rattle.field_boxes.specs.Fields.{IsHeader, stated};
+    ghost use Rattle.ternary_words.specs.Word.{agrees, header_bits};
+    ghost use Rattle.ternary_words.specs.Prefixes.{FitFields, all_hold, fields_trits};
+    ghost use Rattle.ternary_words.specs.Views.{word_of};
+
+    /// The word that matches exactly the headers whose five values the prefixes hold.
+    pub fn of(prefixes: &[Prefix; 5]) -> Word
+        requires { FitFields stated prefixes.now }
+        ensures trits { word_of result ≡ fields_trits stated prefixes.now }
+        ensures boxes { (values : List ℕ) → IsHeader values →
+            agrees (word_of result) (header_bits values) ≡ all_hold stated prefixes.now values }
+    {
+        Word {
+            value: key(values(prefixes)),
+            mask: key(masks(prefixes)),
+        }
+    }
+
+    /// Whether each trit that isn't `*` equals the bit of the header's key at its place.
+    pub fn matches(&self, header: &Header) -> bool
+        ensures { result ≡ agrees (word_of self.now) (header_bits header.now.values) }
+    {
+        (key(header.values) ^ self.value) & self.mask == 0
+    }
 }

@@ -1,0 +1,28 @@
+ghost use Rattle.std.specs.Prelude.{◌≡◌, ◌+◌, ◌*◌, ◌≤◌, ◌<◌, ◌^◌, ℕ, slice_index};
+ghost use Rattle.field_boxes.specs.Fields.{width};
+ghost use Rattle.field_boxes.specs.Bits.{bits};
+ghost use Rattle.ternary_words.specs.Word.{key_of, header_bits};
+
+/// The number with the bits of `low`, so many as `width`, behind those of `high`.
+fn joined(high: u128, width: u8, low: u32) -> u128
+    requires room { high < 2 ^ 96 }
+    requires width { width ≤ 32 }
+    requires small { low < 2 ^ width }
+    ensures { result ≡ high * 2 ^ width + low }
+{
+    high << width | u128::from(low)
+}
+
+/// The 104 bits of one value for each field as a number, the first field's highest.
+pub(crate) fn key(values: [u32; 5]) -> u128
+    requires { (k : ℕ) → k < 5 → slice_index values k < 2 ^ width k }
+    ensures number { result ≡ key_of values }
+    ensures bits { bits 104 result ≡ header_bits values }
+    ensures small { result < 2 ^ 104 }
+{
+    let [source, destination, source_port, destination_port, protocol] = values;
+    let addresses = joined(u128::from(source), 32, destination);
+    let with_source_port = joined(addresses, 16, source_port);
+    let with_ports = joined(with_source_port, 16, destination_port);
+    joined(with_ports, 8, protocol)
+}

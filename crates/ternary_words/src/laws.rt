@@ -1,0 +1,11 @@
+//! Laws of the definitions, for whoever relies on them. The functions do nothing.
+ghost use Rattle.std.specs.Prelude.{◌≡◌, ℕ, List, map};
+ghost use Rattle.ternary_words.specs.Table.{answer};
+ghost use Rattle.ternary_words.specs.Views.{decided_at, entry_of, first_match};
+ghost use Rattle.ternary_words.specs.declared.entry.Entry.{Entry};
+
+/// What the entry at the first matching place decides is what the table answers.
+pub fn first_match_answers()
+    ensures { (names : List (List ℕ)) (values : List ℕ) (entries : List Entry) →
+        decided_at names entries (first_match values entries) ≡ answer (map (entry_of names) entries) values }
+{}
