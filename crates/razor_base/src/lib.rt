@@ -9,14 +9,17 @@ mod decimal;
 mod desk;
 mod failure;
 mod fault_plan;
+mod mem_desk;
 mod mem_sink;
 mod pending;
 mod read;
+mod remaining;
 mod sink;
 mod write;
 
 pub use desk::Desk;
 pub use failure::{Failed, Memory};
+pub use mem_desk::MemDesk;
 pub use mem_sink::MemSink;
 pub use pending::Pending;
 pub use read::{ReadError, read_all};
