@@ -1,5 +1,7 @@
 pub mod FaultPlan
 pub mod Faults
+pub mod HostDesk
+pub mod HostSink
 pub mod Input
 pub mod MemDesk
 pub mod MemSink
