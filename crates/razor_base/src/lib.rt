@@ -9,16 +9,26 @@ mod decimal;
 mod desk;
 mod failure;
 mod fault_plan;
+mod host_desk;
+mod host_sink;
+mod mem_desk;
 mod mem_sink;
 mod pending;
 mod read;
+mod remaining;
 mod sink;
 mod write;
 
 pub use desk::Desk;
 pub use failure::{Failed, Memory};
+pub use host_desk::HostDesk;
+pub use host_sink::HostSink;
+pub use mem_desk::MemDesk;
 pub use mem_sink::MemSink;
 pub use pending::Pending;
 pub use read::{ReadError, read_all};
 pub use sink::Sink;
 pub use write::{write_all, write_number};
+
+#[cfg(test)]
+mod tests;
