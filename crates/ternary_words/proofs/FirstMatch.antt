@@ -1,5 +1,5 @@
 -- The first entry that matches, by its place and by what it decides.
-use Rattle.std.proofs.Common.{◌≡◌, ◌∷◌, ℕ, ◌<◌, ◌≤◌, List, [], Bool, true, false, Option, Some, None, length, map, ap, refl, sym, ◌∙◌, arith}
+use Rattle.std.proofs.Common.{◌≡◌, ◌∷◌, ℕ, List, [], Bool, true, false, Option, Some, None, length, map, ap, refl, sym, ◌∙◌}
 use Rattle.std.specs.Prelude.{cond, find, nat_lt, option_and_then, position, slice_get}
 use Rattle.std.specs.List.{position_or_len}
 use Rattle.std.proofs.lemmas.List.Folds.{find_at}

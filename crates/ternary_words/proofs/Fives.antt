@@ -1,5 +1,5 @@
 -- Lists of five, one for each field.
-use Rattle.std.proofs.Common.{◌≡◌, ◌∷◌, ℕ, zero, suc, ◌^◌, ◌<◌, List, [], length, slice_index, get_or, map, ap, sym, ◌∙◌, refl, subst, arith}
+use Rattle.std.proofs.Common.{◌≡◌, ◌∷◌, ℕ, zero, suc, ◌^◌, ◌<◌, List, [], length, slice_index, get_or, map, ap, sym, refl, subst, arith}
 use Rattle.field_boxes.specs.Fields.{stated, width}
 use Rattle.field_boxes.specs.Prefix.{FitsWidth}
 use Rattle.field_boxes.specs.declared.prefix.Prefix.{Prefix}

@@ -1,5 +1,5 @@
 -- Numbers whose bits are those of others one after another.
-use Rattle.std.proofs.Common.{◌≡◌, ◌++◌, ℕ, ◌+◌, ◌*◌, ◌/◌, ◌%◌, ◌^◌, length, slice_index, ◌<◌, ◌≤◌, List, [], Bool, append_assoc, append-nil, ap, sym, ◌∙◌, arith}
+use Rattle.std.proofs.Common.{◌≡◌, ◌++◌, ℕ, ◌+◌, ◌*◌, ◌%◌, ◌^◌, length, slice_index, ◌<◌, ◌≤◌, List, [], append_assoc, append-nil, ap, sym, ◌∙◌, arith}
 use Rattle.std.specs.Prelude.{bit_or}
 use Rattle.std.proofs.lemmas.Nat.{div-mul-add, mod-mul-add, shl_whole, or_shifted}
 use Rattle.field_boxes.specs.Bits.{bits}

@@ -1,7 +1,7 @@
 -- Matching a word is one test on numbers: no bit of the mask stands where the key and the value differ.
-use Rattle.std.proofs.Common.{◌≡◌, ◌∷◌, ℕ, zero, suc, ◌+◌, ◌*◌, ◌/◌, ◌%◌, ◌^◌, ◌<◌, ◌≤◌, Bool, true, false, ap, refl, sym, ◌∙◌, arith, inl, inr, eq-eqb, rules}
-use Rattle.std.specs.Prelude.{nat_eq, ◌&&◌, bit_and, bit_xor, List}
-use Rattle.std.proofs.lemmas.Nat.{pow_pos, and_shr, xor_shr, and_mod, xor_mod, and_le_r, mod_below, mod-pow-add}
+use Rattle.std.proofs.Common.{◌≡◌, ℕ, zero, suc, ◌+◌, ◌*◌, ◌/◌, ◌%◌, ◌^◌, ◌<◌, ap, refl, sym, ◌∙◌, arith, inl, inr, eq-eqb}
+use Rattle.std.specs.Prelude.{nat_eq, ◌&&◌, bit_and, bit_xor}
+use Rattle.std.proofs.lemmas.Nat.{pow_pos, and_shr, xor_shr, and_mod, xor_mod, and_le_r, mod-pow-add}
 use Rattle.std.proofs.Math.Nat.{mod-eq_of_lt}
 use Rattle.std.proofs.Math.Numerals.{one-add}
 use Rattle.std.proofs.lemmas.Bool.Decides.{eqb_tells}

@@ -1,8 +1,7 @@
 -- The masks of prefixes: their size, their bits, and that a prefix's value lies in its mask.
-use Rattle.std.proofs.Common.{◌≡◌, ◌∷◌, ◌++◌, ℕ, zero, suc, ◌+◌, ◌-◌, ◌*◌, ◌/◌, ◌%◌, ◌^◌, ◌<◌, ◌≤◌, List, [], Bool, true, false, length, replicate, Fits, ap, refl, sym, subst, ◌∙◌, arith}
+use Rattle.std.proofs.Common.{◌≡◌, ℕ, ◌+◌, ◌-◌, ◌*◌, ◌%◌, ◌^◌, ◌<◌, ◌≤◌, Fits, ap, subst, ◌∙◌, arith}
 use Rattle.std.specs.Int.{w32}
-use Rattle.std.specs.Prelude.{bit_and, nat_eq}
-use Rattle.std.proofs.lemmas.Nat.{pow_pos, one_shl, shl_below, shr_split, shr_below, and_mask, and_block}
+use Rattle.std.proofs.lemmas.Nat.{pow_pos, one_shl, shl_below}
 use Rattle.std.proofs.Math.Nat.{mod-eq_of_lt}
 use Rattle.std.proofs.Math.Pow.{pow_mono}
 use Rattle.field_boxes.specs.Prefix.{FitsWidth}

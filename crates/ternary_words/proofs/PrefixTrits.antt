@@ -1,16 +1,14 @@
 -- The trits of a prefix: its bits where its mask is 1, and '*' below.
-use Rattle.std.proofs.Common.{◌≡◌, ◌∷◌, ◌++◌, ℕ, zero, suc, ◌+◌, ◌-◌, ◌*◌, ◌/◌, ◌%◌, ◌^◌, ◌<◌, ◌≤◌, List, [], Bool, true, false, Option, Some, None, length, replicate, map, take, ap, refl, sym, subst, ◌∙◌, arith}
-use Rattle.std.specs.Prelude.{nat_eq}
+use Rattle.std.proofs.Common.{◌≡◌, ◌∷◌, ◌++◌, ℕ, zero, suc, ◌+◌, ◌-◌, ◌*◌, ◌^◌, List, [], Bool, true, false, Some, None, length, replicate, map, take, ap, refl, sym, subst, ◌∙◌, arith}
 use Rattle.std.proofs.lemmas.Nat.{pow_pos}
-use Rattle.std.proofs.lemmas.List.{length-append, length-replicate}
 use Rattle.std.proofs.Math.Numerals.{one-add}
 use Rattle.std.proofs.Math.Nat.{pow-suc}
 use Rattle.field_boxes.specs.Bits.{bits}
 use Rattle.field_boxes.specs.Fields.{width}
-use Rattle.field_boxes.specs.Prefix.{FitsWidth, prefix_bits}
+use Rattle.field_boxes.specs.Prefix.{FitsWidth}
 use Rattle.field_boxes.specs.declared.prefix.Prefix.{Prefix}
 use Rattle.field_boxes.proofs.Bits.{length-bits}
-use Rattle.ternary_words.specs.Word.{Trit, trit, trits, field_bits}
+use Rattle.ternary_words.specs.Word.{trit, trits, field_bits}
 use Rattle.ternary_words.specs.Prefixes.{mask_of, masks_of, prefix_trits, fields_trits, FitFields}
 use Rattle.ternary_words.proofs.Joined.{bits-joined}
 

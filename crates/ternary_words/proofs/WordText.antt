@@ -1,12 +1,12 @@
 -- The characters of a word, place by place.
-use Rattle.std.proofs.Common.{◌≡◌, ◌∷◌, ◌++◌, ℕ, zero, suc, ◌+◌, ◌-◌, ◌/◌, ◌%◌, ◌^◌, ◌<◌, ◌≤◌, List, [], Bool, true, false, None, length, get_or, set, take, map, replicate, ap, refl, sym, subst, ◌∙◌, arith, append_assoc}
+use Rattle.std.proofs.Common.{◌≡◌, ◌∷◌, ◌++◌, ℕ, zero, suc, ◌+◌, ◌-◌, ◌/◌, ◌%◌, ◌^◌, ◌<◌, ◌≤◌, List, [], Bool, false, None, length, get_or, set, take, map, replicate, ap, refl, sym, ◌∙◌, arith, append_assoc}
 use Rattle.std.specs.Prelude.{bit_and, nat_eq}
 use Rattle.std.proofs.lemmas.Nat.{and_mask}
-use Rattle.std.proofs.lemmas.List.{length-map, length-take-le, take_all, map_more, set_at}
+use Rattle.std.proofs.lemmas.List.{length-append, length-map, length-replicate, replicate-append-replicate, take_at, length-take-le, take_all, map_more, set_at}
 use Rattle.field_boxes.specs.Bits.{bits}
 use Rattle.field_boxes.proofs.Bits.{length-bits}
 use Rattle.ternary_words.specs.Word.{Trit, trit, trits}
-use Rattle.ternary_words.specs.TableText.{trit_byte, word_text}
+use Rattle.ternary_words.specs.TableText.{trit_byte}
 
 get_or-bits : (n v p k : ℕ) → k + suc p ≡ n → get_or (bits n v) p false ≡ nat_eq (v / 2 ^ k % 2) 1
 get_or-bits zero v p k e = absurd (omega arith)
@@ -68,3 +68,17 @@ pub word_all : (n m v p room : ℕ) (characters : List ℕ) → n ≡ p →
 word_all n m v p room characters e so =
     let all = length-word n m v in
     so ∙ ap (λ w. map trit_byte w ++ replicate (room - p) 42) (take_all p (trits (bits n m) (bits n v)) (omega (arith, all))) ∙ ap (λ k. map trit_byte (trits (bits n m) (bits n v)) ++ replicate (room - k) 42) (sym e)
+
+cut_stars : (front : List ℕ) (some more n : ℕ) → length front + some ≡ n → take n (front ++ replicate (some + more) 42) ≡ front ++ replicate some 42
+cut_stars front some more n e =
+    ap (λ ss. take n (front ++ ss)) (sym (replicate-append-replicate some more 42))
+    ∙ ap (take n) (sym (append_assoc front (replicate some 42) (replicate more 42)))
+    ∙ take_at (front ++ replicate some 42) (replicate more 42) n (simp (length-append, length-replicate) e)
+
+-- a narrower slot has the front of these characters
+pub word_cut : (n slot room : ℕ) (word : List Trit) → length word ≡ n → n ≤ slot → slot ≤ room →
+    take slot (map trit_byte word ++ replicate (room - n) 42) ≡ map trit_byte word ++ replicate (slot - n) 42
+word_cut n slot room word e low high =
+    let all = length-map word trit_byte in
+    let parts : room - n ≡ (slot - n) + (room - slot) = omega arith in
+    ap (λ k. take slot (map trit_byte word ++ replicate k 42)) parts ∙ cut_stars (map trit_byte word) (slot - n) (room - slot) slot (omega (arith, all, e))

@@ -23,5 +23,9 @@ entry_line slot e = word_text slot e.word ++ 32 ∷ text_of e.decision ++ 10 ∷
 abbrev pub first_line : Table → List ℕ
 first_line t = codes "table 1 slot " ++ decimal t.slot ++ codes " composed " ++ decimal t.composed ++ codes " entries " ++ decimal (length t.entries) ++ 10 ∷ []
 
+-- a line for each entry
+abbrev pub entries_text : Table → List ℕ
+entries_text t = flat_map (entry_line t.slot) t.entries
+
 abbrev pub table_text : Table → List ℕ
-table_text t = first_line t ++ flat_map (entry_line t.slot) t.entries
+table_text t = first_line t ++ entries_text t

@@ -13,8 +13,10 @@ mod lookup;
 mod masks;
 mod table;
 mod word;
+mod write;
 
 pub use entry::Entry;
 pub use lookup::look;
 pub use table::Table;
 pub use word::Word;
+pub use write::write_table;

@@ -1,8 +1,7 @@
 use Rattle.std.proofs.Common.{◌≡◌, ℕ, List, length, map, ap, ◌∙◌, rules}
-use Rattle.std.specs.Prelude.{bit_and}
 use Rattle.field_boxes.specs.Fields.{stated}
 use Rattle.field_boxes.specs.Bits.{bits}
-use Rattle.ternary_words.specs.Word.{Trit, agrees, header_bits, trits, key_of}
+use Rattle.ternary_words.specs.Word.{agrees, header_bits, trits}
 use Rattle.ternary_words.specs.Prefixes.{FitFields, fields_trits, masks_of}
 use Rattle.field_boxes.specs.declared.prefix.Prefix.{Prefix}
 use Rattle.ternary_words.proofs.Masked.{masked_key}
