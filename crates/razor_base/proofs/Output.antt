@@ -75,3 +75,12 @@ leaves_out-wrote a b c text rest left n p q e =
     let joined : text ≡ (p.0 ++ take n rest) ++ left =
     p.2 ∙ ap (λ t. p.0 ++ t) (sym (take-append-drop n rest)) ∙ sym (append_assoc p.0 (take n rest) (drop n rest)) ∙ ap (λ t. (p.0 ++ take n rest) ++ t) (sym e) in
     (p.0 ++ take n rest, Appends-trans a b c p.0 (take n rest) p.1 q, joined)
+
+-- a front of a text is a front of any text that begins with it
+pub appends_front-within : (a b : Option (List ℕ)) (whole text more : List ℕ) → whole ≡ text ++ more → AppendsFront a b text → AppendsFront a b whole
+appends_front-within a b whole text more e p = rw e (appends_front-longer a b text more p)
+
+-- some of a text was appended, and then a front of the rest and what is added to it, in any text that begins with both
+pub appends_front-step : (a b c : Option (List ℕ)) (whole text more later rest : List ℕ) → whole ≡ (text ++ more) ++ later → LeavesOut a b text rest → AppendsFront b c (rest ++ more) → AppendsFront a c whole
+appends_front-step a b c whole text more later rest e p q =
+    appends_front-within a c whole (text ++ more) later e (appends_front-then a b c text more rest p q)

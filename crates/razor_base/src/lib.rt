@@ -3,6 +3,13 @@
 //! A [`Desk`] gives the bytes of named inputs, a [`Sink`] takes bytes. Both are traits, so that the
 //! layers above are proved over every desk and every sink; [`MemDesk`] and [`MemSink`] lie in memory
 //! and tell all their bytes, [`HostDesk`] and [`HostSink`] are the real files and streams.
+//!
+//! ```text
+//! let mut desk = HostDesk::new(&rt, rt.alloc());
+//! let mut bytes = Vec::new(rt.alloc());
+//! read_all(&mut desk, "rules.txt", 1_048_576, &mut bytes)?;
+//! write_all(&mut HostSink::out(&rt), &bytes)?;
+//! ```
 #![tactic(auto)]
 
 mod decimal;
