@@ -1,3 +1,7 @@
+pub mod Boxes
 pub mod Cuts
+pub mod Entries
+pub mod PartsSent
 pub mod Seen
 pub mod Whole
+pub mod Zipped

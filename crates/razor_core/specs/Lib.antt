@@ -6,6 +6,7 @@ pub mod Turns
 pub mod Expansion
 pub mod Messages
 pub mod Ending
+pub mod Parts
 pub mod Numbers
 pub mod Columns
 pub mod Prefixes
