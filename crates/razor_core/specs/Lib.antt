@@ -7,6 +7,8 @@ pub mod Expansion
 pub mod Messages
 pub mod Ending
 pub mod Parts
+pub mod Inputs
+pub mod Promise
 pub mod Numbers
 pub mod Columns
 pub mod Prefixes

@@ -8,6 +8,7 @@ ghost use Rattle.razor_core.specs.Messages.{reason_text, usage_text};
 ghost use Rattle.razor_core.specs.Ending.{ending_line};
 
 use crate::ending::Ending;
+use crate::input::MOST_BYTES;
 use crate::reason::Reason;
 use razor_base::{Failed, Pending, Sink};
 
@@ -96,7 +97,15 @@ pub fn say_ending<E: Sink>(err: &mut E, file: &str, ending: Ending)
                 Part::Text("\n"),
             ],
         ),
-        Ending::TooLong => say(err, &[file, Part::Text(": more than 16777216 bytes\n")]),
+        Ending::TooLong => say(
+            err,
+            &[
+                file,
+                Part::Text(": more than "),
+                Part::Number(MOST_BYTES),
+                Part::Text(" bytes\n"),
+            ],
+        ),
         Ending::ReadFault => say(err, &[file, Part::Text(": read fault\n")]),
         Ending::WriteFault => say(err, &[Part::Text("write fault\n")]),
         Ending::Memory => say(err, &[Part::Text("out of memory\n")]),
