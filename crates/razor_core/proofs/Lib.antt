@@ -1,5 +1,6 @@
 pub mod Boxes
 pub mod Cuts
+pub mod Endings
 pub mod Entries
 pub mod PartsSent
 pub mod Seen

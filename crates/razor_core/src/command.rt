@@ -1,6 +1,6 @@
 ghost use Rattle.std.specs.Prelude.{◌≡◌, List, ℕ};
 ghost use Rattle.std.specs.Option.{option_map};
-ghost use Rattle.razor_core.specs.Command.{command_of, expand_name, is_file_word};
+ghost use Rattle.razor_core.specs.Command.{Expand, command_of, expand_name, is_file_word};
 ghost use Rattle.razor_core.specs.Commands.{spelled};
 ghost use Rattle.std.specs.Str.{bytes_eq};
 
@@ -11,6 +11,17 @@ use crate::words::Words;
 pub enum Command<'a> {
     /// Writes the direct expansion of the list.
     Expand { list: &'a str },
+}
+
+impl<'a> Command<'a> {
+    /// The file word of the list that is expanded.
+    pub fn list(self) -> &'a str
+        ensures { spelled self.entry ≡ Expand result.now }
+    {
+        match self {
+            Command::Expand { list } => list,
+        }
+    }
 }
 
 /// Whether the word names a file: `-` alone, or a word that doesn't begin with `-`.
