@@ -15,6 +15,9 @@ mod table;
 mod word;
 mod write;
 
+#[cfg(test)]
+mod tests;
+
 pub use entry::Entry;
 pub use lookup::look;
 pub use table::Table;
