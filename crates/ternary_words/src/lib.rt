@@ -12,11 +12,10 @@ pub mod laws;
 mod lookup;
 mod masks;
 mod table;
-mod word;
-mod write;
-
 #[cfg(test)]
 mod tests;
+mod word;
+mod write;
 
 pub use entry::Entry;
 pub use lookup::look;
