@@ -12,6 +12,8 @@ pub mod laws;
 mod lookup;
 mod masks;
 mod table;
+#[cfg(test)]
+mod tests;
 mod word;
 mod write;
 

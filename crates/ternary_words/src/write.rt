@@ -1,9 +1,8 @@
-ghost use Rattle.std.specs.Prelude.{◌≡◌, ◌≤◌, ◌∷◌, [], ◌++◌, length, OnOk, OnErr};
+ghost use Rattle.std.specs.Prelude.{◌≤◌, ◌∷◌, [], ◌++◌, length, OnOk, OnErr};
 ghost use Rattle.std.specs.Fmt.{decimal};
 ghost use Rattle.std.specs.Io.KnownBytes.{Appends};
 ghost use Rattle.razor_base.specs.Faults.{Rose};
 ghost use Rattle.razor_base.specs.Output.{AppendsFront, LeavesOut};
-ghost use Rattle.ternary_words.specs.Limits.{IsSlotWidth};
 ghost use Rattle.ternary_words.specs.TableText.{entries_text, entry_line, first_line, table_text};
 ghost use Rattle.ternary_words.specs.Views.{entry_of, table_of};
 
@@ -26,6 +25,7 @@ pub fn write_table<K: Sink>(table: &Table, out: &mut K) -> Result<(), Failed>
     pending.flush(out)
 }
 
+/// Puts the first line: the slot's width, the number composed, and the number of entries.
 fn put_first_line<K: Sink>(table: &Table, pending: &mut Pending, out: &mut K) -> Result<(), Failed>
     ensures ok { OnOk result
         (LeavesOut (K.written out.old) (K.written out.new) (pending.old ++ first_line (table_of table.now)) pending.new) }
@@ -58,6 +58,7 @@ fn put_labelled<K: Sink>(
     pending.put_number(out, number)
 }
 
+/// Puts a line for each entry.
 fn put_entries<K: Sink>(table: &Table, pending: &mut Pending, out: &mut K) -> Result<(), Failed>
     ensures ok { OnOk result
         (LeavesOut (K.written out.old) (K.written out.new) (pending.old ++ entries_text (table_of table.now)) pending.new) }
@@ -72,6 +73,7 @@ fn put_entries<K: Sink>(table: &Table, pending: &mut Pending, out: &mut K) -> Re
     Ok(())
 }
 
+/// Puts the line of an entry: its word, as wide as the slot, and the name of its decision.
 fn put_entry<K: Sink>(
     entry: &Entry,
     slot: u16,
@@ -79,8 +81,8 @@ fn put_entry<K: Sink>(
     pending: &mut Pending,
     out: &mut K,
 ) -> Result<(), Failed>
-    requires slot { slot ≤ 288 }
-    requires wide { 104 ≤ slot }
+    requires narrowest { 104 ≤ slot }
+    requires widest { slot ≤ 288 }
     requires number { entry.now.decision ≤ length names.now }
     ensures ok { OnOk result
         (LeavesOut (K.written out.old) (K.written out.new) (pending.old ++ entry_line slot (entry_of names.now entry.now)) pending.new) }

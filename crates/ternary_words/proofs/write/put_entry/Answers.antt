@@ -22,14 +22,14 @@ pub returns-in_err-put-clause-err : goal.returns-in_err-put-clause-err
 returns-in_err-put-clause-err g c =
     let p = err_from_is_err_and c.from_residual.result c.from_residual.ensures.1 in
     let w = g.K.Sink.written in
-    let word = cut c.args.slot c.args.entry.now.word c.characters-characters.result c.requires.wide c.requires.slot c.characters-characters.ensures in
+    let word = cut c.args.slot c.args.entry.now.word c.characters-characters.result c.requires.narrowest c.requires.widest c.characters-characters.ensures in
     rw p.1 (front_of (w c.args.out.now) (w c.put.new.sink) _ _ _ (in_parts c.args.pending.now (word_text c.args.slot (word_of c.args.entry.now.word)) (text_of (name_at c.args.names.now c.args.entry.now.decision)))
     (subst (λ t. AppendsFront (w c.args.out.now) (w c.put.new.sink) (c.args.pending.now ++ t)) word c.in_err-put.ensures.err))
 
 pub returns-clause-ok : goal.returns-clause-ok
 returns-clause-ok g c =
     let w = g.K.Sink.written in
-    let word = cut c.args.slot c.args.entry.now.word c.characters-characters.result c.requires.wide c.requires.slot c.characters-characters.ensures in
+    let word = cut c.args.slot c.args.entry.now.word c.characters-characters.result c.requires.narrowest c.requires.widest c.characters-characters.ensures in
     let s = word_text c.args.slot (word_of c.args.entry.now.word) in
     let d = text_of (name_at c.args.names.now c.args.entry.now.decision) in
     let one = subst (λ t. LeavesOut (w c.args.out.now) (w c.put.new.sink) (c.args.pending.now ++ t) c.put.new.self) word c.in_ok-put.ensures.ok in
@@ -39,7 +39,7 @@ returns-clause-ok g c =
 pub returns-clause-err : goal.returns-clause-err
 returns-clause-err g c =
     let w = g.K.Sink.written in
-    let word = cut c.args.slot c.args.entry.now.word c.characters-characters.result c.requires.wide c.requires.slot c.characters-characters.ensures in
+    let word = cut c.args.slot c.args.entry.now.word c.characters-characters.result c.requires.narrowest c.requires.widest c.characters-characters.ensures in
     let s = word_text c.args.slot (word_of c.args.entry.now.word) in
     let d = text_of (name_at c.args.names.now c.args.entry.now.decision) in
     let one = subst (λ t. LeavesOut (w c.args.out.now) (w c.put.new.sink) (c.args.pending.now ++ t) c.put.new.self) word c.in_ok-put.ensures.ok in
