@@ -1,0 +1,11 @@
+pub mod Adjacent
+pub mod Edges
+pub mod Merged
+pub mod Canonical
+pub mod Same
+pub mod Growth
+pub mod Added
+pub mod Made
+pub mod Search
+pub mod Turns
+pub mod Values

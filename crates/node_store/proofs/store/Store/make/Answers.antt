@@ -1,0 +1,14 @@
+use Rattle.std.proofs.Common.{length, sym, subst}
+use Rattle.node_store.specs.Store.{IsInner}
+use Rattle.node_store.proofs.Made.{inner_merged, answers_ok}
+use Rattle.node_store.proofs.store.Store.make.Goals as goal
+
+pub add-requires : goal.add-requires
+add-requires c =
+    subst (λ es. IsInner c.args.self.now (length c.args.self.now) c.args.field es) (sym c.in_ok-edges.ensures)
+    (inner_merged c.args.self.now c.args.field c.args.edges.now c.requires.field c.requires.full c.requires.children)
+
+pub returns-clause-answers : goal.returns-clause-answers
+returns-clause-answers c =
+    answers_ok c.add.result c.args.self.now c.add.new.self c.args.field c.args.edges.now c.in_ok-edges.edges.items
+    c.requires.field c.requires.full c.requires.children c.in_ok-edges.ensures c.add.ensures.numbered c.add.ensures.grows

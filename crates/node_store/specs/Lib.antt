@@ -1,0 +1,4 @@
+pub mod Edges
+pub mod Diagram
+pub mod Store
+pub mod Nodes

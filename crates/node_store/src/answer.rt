@@ -1,0 +1,36 @@
+//! The walk from a node down to a leaf: one binary search a field.
+ghost use Rattle.std.specs.Prelude.{◌≡◌, ◌<◌, ◌≤◌, suc, length};
+ghost use Rattle.field_boxes.specs.Fields.{greatest_of};
+ghost use Rattle.node_store.specs.Diagram.{level_of, edges_of, answer};
+ghost use Rattle.node_store.specs.Edges.{child_of};
+
+use crate::edge::NodeId;
+use crate::store::Store;
+use field_boxes::Header;
+
+impl Store {
+    /// What the diagram under a node of level 0 answers for the header.
+    pub fn answer(&self, id: NodeId, header: &Header) -> u32
+        requires { level_of self.now id.0 ≡ 0 }
+        ensures { result ≡ answer self.now id.0 header.now.values }
+    {
+        let mut at = id;
+        for value in &header.values {
+            at = self.child(at, *value);
+        }
+        self.decision(at).unwrap_or(0)
+    }
+
+    /// The child to which the value leads.
+    fn child(&self, id: NodeId, value: u32) -> NodeId
+        requires number { id.0 < length self.now }
+        requires inner { level_of self.now id.0 < 5 }
+        requires value { value ≤ greatest_of (level_of self.now id.0) }
+        ensures child { result.0 ≡ child_of (edges_of self.now id.0) value }
+        ensures number { result.0 < length self.now }
+        ensures level { level_of self.now result.0 ≡ suc (level_of self.now id.0) }
+    {
+        let edges = self.edges(id);
+        edges[edges.partition_point(|edge| edge.hi < value)].to
+    }
+}

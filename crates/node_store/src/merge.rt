@@ -1,0 +1,32 @@
+//! Edges with equal neighbours merged.
+ghost use Rattle.std.specs.Prelude.{◌≡◌, ◌+◌, ◌<◌, ◌∷◌, length, drop, slice_index_or, if◌then◌else◌, IfOk};
+ghost use Rattle.node_store.specs.Edges.{merged};
+ghost use Rattle.node_store.specs.declared.edge.Edge.{Edge};
+
+use crate::edge::Edge;
+use crate::node::Edges;
+use razor_base::Memory;
+use smallvec::SmallVec;
+use std::alloc::Global;
+
+/// Whether the edge at the place stays: there is no next one, or it leads elsewhere.
+fn stays(edges: &[Edge], place: usize) -> bool
+    requires { place < length edges.now }
+    ensures { (d : Edge) → merged (drop place edges.now) ≡
+        (if result then slice_index_or edges.now place d ∷ merged (drop (place + 1) edges.now) else merged (drop (place + 1) edges.now)) }
+{
+    place + 1 == edges.len() || edges[place + 1].to != edges[place].to
+}
+
+/// The edges with equal neighbours merged.
+pub(crate) fn merge(alloc: Global, edges: &[Edge]) -> Result<Edges, Memory>
+    ensures { IfOk result (λ kept. kept.items ≡ merged edges.now) }
+{
+    let mut kept = SmallVec::new(alloc);
+    for (place, edge) in edges.iter().enumerate() {
+        if stays(edges, place) {
+            kept.push(*edge)?;
+        }
+    }
+    Ok(kept)
+}
