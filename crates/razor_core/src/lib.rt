@@ -28,3 +28,6 @@ pub use reading::read_list;
 pub use reason::Reason;
 pub use top::razor;
 pub use words::Words;
+
+#[cfg(test)]
+mod tests;
