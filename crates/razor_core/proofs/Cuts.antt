@@ -1,5 +1,5 @@
 -- A text cut at its first separator, and the lines of a text.
-use Rattle.std.proofs.Common.{◌≡◌, ◌≢◌, ◌∷◌, ℕ, zero, suc, ◌+◌, ◌<◌, ◌≤◌, List, Bool, true, false, cond, [], ap, refl, sym, ◌∙◌, arith, length, take, drop, add-one, Some, None, ltb, nat_lt}
+use Rattle.std.proofs.Common.{◌≡◌, ◌≢◌, ◌∷◌, ℕ, suc, ◌+◌, ◌<◌, ◌≤◌, List, Bool, true, false, cond, [], ap, refl, ◌∙◌, arith, length, take, drop, add-one, Some, None, nat_lt}
 use Rattle.std.specs.Prelude.{position, Option, option_map, not, nat_eq, MatchOption}
 use Rattle.std.specs.List.{position_or_len}
 use Rattle.std.proofs.lemmas.Bool.{ltb-true, ltb-false, lt-ltb, le-ltb}

@@ -1,6 +1,6 @@
 -- What an ending shows of the status and of the line.
-use Rattle.std.proofs.Common.{◌≡◌, ◌∷◌, ℕ, List, [], ◌<◌, refl, sym, ap, subst, ◌∙◌, arith, length, Some, None, inl, inr}
-use Rattle.std.specs.Prelude.{◌⊎◌, Option, Ok, Err, Result}
+use Rattle.std.proofs.Common.{◌≡◌, ◌∷◌, ℕ, List, [], refl, ap, arith, length, Some, inl, inr}
+use Rattle.std.specs.Prelude.{◌⊎◌, Option, Ok}
 use Rattle.std.specs.List.{Any}
 use Rattle.razor_base.specs.Faults.{Rose}
 use Rattle.field_boxes.specs.Classifier.{Rule}
@@ -9,10 +9,10 @@ use Rattle.razor_core.specs.declared.ending.Ending.TheVariants.{Done, BadLine as
 use Rattle.razor_core.specs.Command.{Command, Expand}
 use Rattle.razor_core.specs.Outside.{Outside, Tells}
 use Rattle.razor_core.specs.ThinList.{BadLine}
-use Rattle.razor_core.specs.Turns.{Stop, bad_line, too_long, most_bytes, turns_of}
+use Rattle.razor_core.specs.Turns.{bad_line, too_long, most_bytes, turns_of}
 use Rattle.razor_core.specs.Ending.{status_of, ending_line, IsDone, IsStopped, Ends}
 use Rattle.razor_core.specs.Messages.{summary_line, read_fault_line}
-use Rattle.razor_core.specs.Promise.{SomeReadFails, IsLineOf, IsLine}
+use Rattle.razor_core.specs.Promise.{SomeReadFails, IsLineOf}
 
 -- the only input
 only_input : (file : List ℕ) (P : List ℕ → Type 0) → P file → Any P (file ∷ [])

@@ -1,14 +1,13 @@
 -- The entries that stand for the rules so far, and one more.
-use Rattle.std.proofs.Common.{◌≡◌, ◌∷◌, ◌++◌, ℕ, zero, suc, ◌+◌, ◌-◌, ◌<◌, ◌≤◌, List, [], refl, sym, ap, subst, ◌∙◌, length, take, get_or, Some, arith}
-use Rattle.std.specs.Prelude.{map, All, slice_get, Option}
+use Rattle.std.proofs.Common.{◌≡◌, ◌∷◌, ◌++◌, ℕ, zero, suc, ◌+◌, ◌<◌, ◌≤◌, List, [], sym, ap, ◌∙◌, length, take, get_or, Some, arith}
+use Rattle.std.specs.Prelude.{map}
 use Rattle.std.specs.List.{AllZip}
 use Rattle.std.proofs.lemmas.List.{take_more, map-append}
 use Rattle.std.proofs.lemmas.Option.{slice_get-get_or}
 use Rattle.std.proofs.lemmas.List.Elements.{All-push}
 use Rattle.field_boxes.specs.Fields.{stated, IsHeader}
-use Rattle.field_boxes.specs.Classifier.{Rule, matches}
+use Rattle.field_boxes.specs.Classifier.{matches}
 use Rattle.field_boxes.specs.Names.{name_at, text_of}
-use Rattle.ternary_words.specs.declared.word.Word as code_word
 use Rattle.ternary_words.specs.declared.entry.Entry as code_entry
 use Rattle.ternary_words.specs.Limits.{AreNumbered}
 use Rattle.ternary_words.specs.Word.{agrees, header_bits}

@@ -1,7 +1,6 @@
 -- The parts of a line that were sent so far.
-use Rattle.std.proofs.Common.{◌≡◌, ◌∷◌, ◌++◌, ℕ, ◌+◌, ◌<◌, ◌≤◌, List, [], ap, refl, sym, subst, ◌∙◌, length, take, drop, get_or, append-nil, take-append-drop, Ok, Err}
+use Rattle.std.proofs.Common.{◌≡◌, ◌∷◌, ◌++◌, ℕ, ◌+◌, ◌<◌, ◌≤◌, List, [], ap, sym, subst, ◌∙◌, length, take, drop, get_or, append-nil, take-append-drop, Ok, Err}
 use Rattle.std.specs.Prelude.{Option, Result, OnErr}
-use Rattle.std.specs.List.{flat_map}
 use Rattle.std.proofs.lemmas.List.{take_more, take_all}
 use Rattle.std.proofs.lemmas.List.Concat.{flat_map-append}
 use Rattle.razor_base.specs.Output.{LeavesOut, AppendsFront}

@@ -1,6 +1,6 @@
 -- The rules that were read so far, under the names that were seen so far.
-use Rattle.std.proofs.Common.{ne_eqb, ◌≡◌, ◌≢◌, ◌∷◌, ◌++◌, ℕ, ◌+◌, ◌<◌, ◌≤◌, List, [], ap, refl, sym, subst, ◌∙◌, arith, length, Some}
-use Rattle.std.specs.Prelude.{map, All, Ok, Err, Result, Option, ok_or, nat_eq, false}
+use Rattle.std.proofs.Common.{ne_eqb, ◌≡◌, ◌≢◌, ◌∷◌, ◌++◌, ℕ, ◌≤◌, List, [], ap, refl, ◌∙◌, length, Some}
+use Rattle.std.specs.Prelude.{All, Err, Option, ok_or, nat_eq, false}
 use Rattle.std.specs.List.{AllByRecursion}
 use Rattle.std.proofs.lemmas.List.{map-append, length-map}
 use Rattle.std.proofs.lemmas.List.Elements.{recursion_from_All}

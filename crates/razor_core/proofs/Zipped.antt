@@ -1,5 +1,5 @@
 -- Entries that stand for rules, place by place, decide as the rules do.
-use Rattle.std.proofs.Common.{◌≡◌, ◌∷◌, ◌++◌, ℕ, List, [], Bool, true, false, cond, refl, sym, ap, ◌∙◌, Some, None}
+use Rattle.std.proofs.Common.{◌≡◌, ◌∷◌, ◌++◌, ℕ, List, [], Bool, true, false, cond, refl, ap, ◌∙◌, Some}
 use Rattle.std.specs.Prelude.{find, option_map, option_and_then, Option}
 use Rattle.std.specs.List.{AllZip}
 use Rattle.field_boxes.specs.Fields.{stated, IsHeader}

@@ -1,5 +1,4 @@
 -- The commands of the code, without where their words lie.
-use Rattle.std.specs.Prelude.{ℕ, List}
 use Rattle.razor_core.specs.declared.command.Command as code
 use Rattle.razor_core.specs.declared.command.Command.TheVariants as code_variants
 use Rattle.razor_core.specs.Command.{Command, Expand}

@@ -1,12 +1,12 @@
 -- How a command ends, and what stands then.
-use Rattle.std.specs.Prelude.{◌≡◌, ℕ, List, length, Result, Ok, Err}
+use Rattle.std.specs.Prelude.{◌≡◌, ℕ, List, length, Ok, Err}
 use Rattle.std.specs.Io.KnownBytes.{Appends, Keeps}
 use Rattle.razor_base.specs.Faults.{Rose}
 use Rattle.razor_base.specs.Output.{AppendsFront}
 use Rattle.field_boxes.specs.Classifier.{Rule}
 use Rattle.razor_core.specs.declared.ending.Ending.{Ending}
 use Rattle.razor_core.specs.declared.ending.Ending.TheVariants.{Done, BadLine as Bad, TooLong, ReadFault, WriteFault, Memory}
-use Rattle.razor_core.specs.Command.{Command, Expand}
+use Rattle.razor_core.specs.Command.{Command}
 use Rattle.razor_core.specs.Outside.{Outside, Tells, IsReadThrough}
 use Rattle.razor_core.specs.Turns.{Stop, bad_line, too_long, most_bytes, turns_of}
 use Rattle.razor_core.specs.Expansion.{Gives}

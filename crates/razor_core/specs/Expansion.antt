@@ -1,5 +1,5 @@
 -- The direct expansion of a thin list: one entry a rule.
-use Rattle.std.specs.Prelude.{◌≡◌, ℕ, List, length, Option, Some}
+use Rattle.std.specs.Prelude.{◌≡◌, ℕ, List, length, Some}
 use Rattle.std.specs.List.{AllZip}
 use Rattle.field_boxes.specs.Fields.{stated, IsHeader}
 use Rattle.field_boxes.specs.Classifier.{Rule, matches, source}

@@ -1,10 +1,8 @@
 -- The lines on standard error.
-use Rattle.std.specs.Prelude.{ℕ, List, [], ◌∷◌, ◌++◌, length, codes}
+use Rattle.std.specs.Prelude.{ℕ, List, [], ◌∷◌, ◌++◌, codes}
 use Rattle.std.specs.Fmt.{decimal}
-use Rattle.field_boxes.specs.Classifier.{Rule}
 use Rattle.razor_core.specs.declared.reason.Reason.{Reason}
 use Rattle.razor_core.specs.declared.reason.Reason.TheVariants.{TooManyRules, NotBuilt}
-use Rattle.razor_core.specs.ThinList.{BadLine}
 use Rattle.razor_core.specs.Turns.{Stop, bad_line, too_long}
 
 abbrev pub line_end : List ℕ

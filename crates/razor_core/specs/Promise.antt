@@ -1,9 +1,9 @@
 -- What the top call promises of each status.
 use Rattle.std.specs.Prelude.{◌≡◌, ℕ, ◌⊎◌, List, Option, Some, None, length, Result, Ok, Err}
-use Rattle.std.specs.List.{AllByRecursion, Any}
+use Rattle.std.specs.List.{Any}
 use Rattle.razor_base.specs.Faults.{Rose}
 use Rattle.field_boxes.specs.Classifier.{Rule}
-use Rattle.razor_core.specs.Command.{Command, command_of, inputs}
+use Rattle.razor_core.specs.Command.{Command, inputs}
 use Rattle.razor_core.specs.Outside.{Outside, Tells}
 use Rattle.razor_core.specs.Turns.{Stop, bad_line, too_long, turns_of}
 use Rattle.razor_core.specs.Messages.{usage_text, summary_line, stop_line, read_fault_line, write_fault_line, memory_line}

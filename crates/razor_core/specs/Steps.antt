@@ -1,5 +1,5 @@
 -- Steps that may give nothing, and cutting a text at a separator.
-use Rattle.std.specs.Prelude.{ℕ, ◌+◌, Bool, ◌==◌, List, Option, Some, None, option_and_then, option_map, position, take, drop, if◌then◌else◌}
+use Rattle.std.specs.Prelude.{ℕ, ◌+◌, ◌==◌, List, Option, option_and_then, option_map, position, take, drop}
 
 infixl 10 ◌>>=◌
 abbrev pub ◌>>=◌ : {A B : Type 0} → Option A → (A → Option B) → Option B

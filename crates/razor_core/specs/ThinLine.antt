@@ -1,6 +1,6 @@
 -- A thin rule line: six columns with one tab between them.
 use Rattle.std.specs.Prelude.{ℕ, List, [], ◌∷◌, Option, Some}
-use Rattle.field_boxes.specs.Classifier.{Interval, Rule}
+use Rattle.field_boxes.specs.Classifier.{Rule}
 use Rattle.razor_core.specs.Steps.{◌>>=◌, split_once}
 use Rattle.razor_core.specs.Columns.{prefix_set, source_set, port_set, protocol_set, decision_name}
 

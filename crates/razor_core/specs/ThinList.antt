@@ -1,5 +1,5 @@
 -- The text of a thin list: what its lines come to.
-use Rattle.std.specs.Prelude.{ℕ, ◌+◌, ◌==◌, Bool, List, [], ◌∷◌, Option, Some, None, Result, Ok, Err, ok_or, if◌then◌else◌}
+use Rattle.std.specs.Prelude.{ℕ, ◌+◌, ◌==◌, List, [], ◌∷◌, Result, Ok, Err, ok_or, if◌then◌else◌}
 use Rattle.field_boxes.specs.Classifier.{Rule}
 use Rattle.razor_core.specs.declared.reason.Reason.{Reason}
 use Rattle.razor_core.specs.declared.reason.Reason.TheVariants.{TooManyRules, NotBuilt}

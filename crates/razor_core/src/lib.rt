@@ -17,10 +17,10 @@ mod prefixes;
 mod protocol;
 mod reading;
 mod reason;
-mod top;
 mod run;
 mod separator;
 mod thin_line;
+mod top;
 mod words;
 
 pub use list::{ListError, NumberedRule, ThinList};

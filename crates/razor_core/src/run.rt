@@ -10,12 +10,7 @@ use std::alloc::Global;
 use ternary_words::write_table;
 
 /// Writes the direct expansion of the list.
-pub fn expand_list<D: Desk, K: Sink>(
-    alloc: Global,
-    file: &str,
-    desk: &mut D,
-    out: &mut K,
-) -> Ending
+pub fn expand_list<D: Desk, K: Sink>(alloc: Global, file: &str, desk: &mut D, out: &mut K) -> Ending
     ensures { Ends (Expand file.now) file.now
         (seen (D.remaining desk.old) (D.faults desk.old) (K.written out.old) (K.faults out.old))
         (seen (D.remaining desk.new) (D.faults desk.new) (K.written out.new) (K.faults out.new))

@@ -17,7 +17,8 @@ const ANY_TCP: &[u8] = b"@0.0.0.0/0\t0.0.0.0/0\t0 : 65535\t0 : 65535\t0x06/0xFF\
 const WEB: &[u8] = b"@10.0.0.0/8\t0.0.0.0/0\t0 : 65535\t80 : 80\t0x06/0xFF\tweb\n";
 
 /// The table of the rule above.
-const WEB_TABLE: &[u8] = b"table 1 slot 144 composed 1 entries 1\n00001010************************************************************************000000000101000000000110**************************************** web\n";
+const WEB_TABLE: &[u8] =
+    b"table 1 slot 144 composed 1 entries 1\n00001010************************************************************************000000000101000000000110**************************************** web\n";
 
 /// What a call is tried on: the list under `in`, and what fails.
 #[derive(Clone, Copy)]

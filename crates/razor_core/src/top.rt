@@ -85,8 +85,8 @@ pub fn razor<D: Desk, K: Sink, E: Sink>(
     // What was said.
     ensures message { (line : List ℕ)
         × IsLine (command_of words.now)
-            (seen (D.remaining desk.old) (D.faults desk.old) (K.written out.old) (K.faults out.old))
-            (seen (D.remaining desk.new) (D.faults desk.new) (K.written out.new) (K.faults out.new)) result line
+        (seen (D.remaining desk.old) (D.faults desk.old) (K.written out.old) (K.faults out.old))
+        (seen (D.remaining desk.new) (D.faults desk.new) (K.written out.new) (K.faults out.new)) result line
         × Says (E.written err.old) (E.written err.new) (E.faults err.old) (E.faults err.new) line }
 {
     let Some(spelled) = spelled_command(words) else {

@@ -28,7 +28,19 @@ fn meets_the_limit_of_rules(rt: HostRuntime) -> Result<(), Fail> {
         most: 4_096,
         ..calm(&list)
     };
-    check(&rt, too_many, 3, b"", b"in: line 65537: one rule too many\n")?;
+    check(
+        &rt,
+        too_many,
+        3,
+        b"",
+        b"in: line 65537: one rule too many\n",
+    )?;
     list.extend_from_slice(b"no rule\n")?;
-    check(&rt, calm(&list), 3, b"", b"in: line 65537: one rule too many\n")
+    check(
+        &rt,
+        calm(&list),
+        3,
+        b"",
+        b"in: line 65537: one rule too many\n",
+    )
 }

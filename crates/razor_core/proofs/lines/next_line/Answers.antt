@@ -1,8 +1,7 @@
-use Rattle.std.proofs.Common.{◌≡◌, ◌≢◌, ◌∷◌, [], ◌-◌, ℕ, List, length, take, drop, Some, None, subst, sym, arith, ap, ◌∙◌, eqb}
+use Rattle.std.proofs.Common.{◌≡◌, ◌≢◌, [], ◌-◌, ℕ, List, length, take, drop, subst, sym, arith, ap, ◌∙◌, eqb}
 use Rattle.std.proofs.Common.{false}
 use Rattle.std.proofs.lemmas.Grind.{common_steps}
 use Rattle.std.proofs.lemmas.Bool.{false≢true}
-use Rattle.razor_core.specs.ThinList.{lines_of}
 use Rattle.razor_core.proofs.Cuts.{CutsLine, cuts_line}
 use Rattle.razor_core.proofs.lines.next_line.Goals as goal
 

@@ -1,10 +1,10 @@
 use Rattle.std.proofs.Common.{◌≡◌, ℕ, List, Some, sym, ap, subst, ◌∙◌}
 use Rattle.std.specs.Prelude.{Option}
 use Rattle.razor_core.specs.Command.{Command, Expand, command_of}
-use Rattle.razor_core.specs.Outside.{Outside, Tells, seen}
+use Rattle.razor_core.specs.Outside.{Tells, seen}
 use Rattle.razor_core.specs.ThinList.{BadLine}
 use Rattle.razor_core.specs.Turns.{bad_line, too_long}
-use Rattle.razor_core.specs.Ending.{status_of, ending_line, IsDone, IsStopped}
+use Rattle.razor_core.specs.Ending.{ending_line, IsDone, IsStopped}
 use Rattle.razor_core.specs.Promise.{IsLine, SomeReadFails}
 use Rattle.razor_core.proofs.Endings.{done_by, bad_line_by, too_long_by, read_fails_by, line_by, same_command}
 use Rattle.razor_core.proofs.top.razor.Goals as goal
