@@ -1,0 +1,71 @@
+"""Time and peak memory of a command, the best of three runs. Used by the scripts beside this file."""
+import pathlib
+import re
+import shutil
+import subprocess
+import sys
+import tempfile
+import time
+
+ROOT = pathlib.Path(__file__).resolve().parent.parent
+RUNS = 3
+
+
+def fail(words):
+    sys.exit(f"{pathlib.Path(sys.argv[0]).name}: {words}")
+
+
+def time_tool():
+    """The path of GNU time, which tells a program's peak memory."""
+    path = shutil.which("time")
+    if path is None:
+        fail("GNU time is missing: apt-get install time")
+    return path
+
+
+def built(crate):
+    """The program of a crate, proved and built first where it isn't built yet."""
+    folder = ROOT / "crates" / crate
+    program = folder / "out" / crate
+    if not program.exists():
+        log = subprocess.run(
+            ["rt", "run"], cwd=folder, stdin=subprocess.DEVNULL, capture_output=True, text=True
+        )
+        if not program.exists():
+            fail(log.stderr)
+    return program
+
+
+def once(command):
+    """One run: its milliseconds, its peak memory in bytes, and what it wrote."""
+    with tempfile.NamedTemporaryFile("r") as report, tempfile.TemporaryFile() as out:
+        whole = [time_tool(), "-v", "-o", report.name, *map(str, command)]
+        start = time.perf_counter()
+        status = subprocess.run(whole, stdout=out, stderr=subprocess.PIPE)
+        milliseconds = (time.perf_counter() - start) * 1000
+        if status.returncode != 0:
+            fail(f"{command} ends with {status.returncode}: {status.stderr.decode()}")
+        peak = re.search(r"Maximum resident set size \(kbytes\): (\d+)", report.read())
+        out.seek(0)
+        return milliseconds, int(peak.group(1)) * 1024, out.read().decode()
+
+
+def best(command):
+    """The least time and the least peak memory of three runs, and what the command wrote."""
+    runs = [once(command) for _ in range(RUNS)]
+    texts = {text for _, _, text in runs}
+    if len(texts) != 1:
+        fail(f"{command} writes different texts")
+    return min(run[0] for run in runs), min(run[1] for run in runs), texts.pop()
+
+
+def table(head, rows):
+    """Prints a table as it stands in docs/BENCHMARKS.md."""
+    print("| " + " | ".join(head) + " |")
+    print("|" + "---|" * len(head))
+    for row in rows:
+        print("| " + " | ".join(row) + " |")
+
+
+def megabytes(count):
+    return f"{count / 1e6:.0f}"
