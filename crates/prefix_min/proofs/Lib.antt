@@ -1,0 +1,17 @@
+pub mod Root
+pub mod Values
+pub mod Lower
+pub mod Whole
+pub mod Listed
+pub mod Merging
+pub mod OwnRow
+pub mod Joined
+pub mod PieceWeights
+pub mod Powers
+pub mod Building
+pub mod Rows
+pub mod Shapes
+pub mod Written
+pub mod Ordered
+pub mod FieldRows
+pub mod Growing

@@ -1,0 +1,128 @@
+-- No right list below a prefix weighs less than the least cost of its part of the trie.
+use Rattle.std.proofs.Common.{◌≡◌, ◌∷◌, ℕ, List, [], ◌+◌, ◌^◌, ◌≤◌, Bool, true, false, refl, ap, arith, sym, ◌∙◌, inl, inr, eq-eqb, subst, length}
+use Rattle.std.specs.Prelude.{◌≢◌, ◌⊎◌, cond, Option, Some, None, unwrap_or, suc, zero, ◌==◌, slice_index}
+use Rattle.std.proofs.lemmas.Bool.Decides.{eqb_tells}
+use Rattle.field_boxes.proofs.Halves.{Row, front, half, IsRootless, front-half, weight-halves}
+use Rattle.prefix_min.specs.declared.costs.LabelCost.{LabelCost}
+use Rattle.prefix_min.specs.declared.costs.Costs.{Costs}
+use Rattle.prefix_min.specs.declared.trie.Node.{Node, Constant, Halves'}
+use Rattle.prefix_min.specs.Costs.{Lists, IsConstant, least_cost, without_row}
+use Rattle.prefix_min.specs.Trie.{costs_of, StandsFor}
+use Rattle.prefix_min.proofs.Values.{value, value-low, value-high}
+use Rattle.prefix_min.proofs.Root.{weigh, before, root, before-rootless, before-none, front-root, weight-root, weight-before, weight-front}
+
+-- the weight of a label
+abbrev pub weight_of : List ℕ → ℕ → ℕ
+weight_of weights d = slice_index weights d
+
+-- right for f on the part of n bits from low on, where d answers for the values that no row holds
+abbrev pub IsRightWith : ℕ → ℕ → (ℕ → ℕ) → ℕ → List (Row ℕ) → Type 0
+IsRightWith n low f d rows = (b : List Bool) → length b ≡ n → unwrap_or (front rows b) d ≡ f (value n low b)
+
+-- a right list falls into right lists of the halves
+right_low : (n low : ℕ) (f : ℕ → ℕ) (d : ℕ) (rows : List (Row ℕ)) → IsRootless rows → IsRightWith (suc n) low f d rows → IsRightWith n low f d (half false rows)
+right_low n low f d rows rootless h b at = ap (λ o. unwrap_or o d) (sym (front-half false b rows rootless)) ∙ h (false ∷ b) (ap suc at)
+
+right_high : (n low : ℕ) (f : ℕ → ℕ) (d : ℕ) (rows : List (Row ℕ)) → IsRootless rows → IsRightWith (suc n) low f d rows → IsRightWith n (low + 2 ^ n) f d (half true rows)
+right_high n low f d rows rootless h b at = ap (λ o. unwrap_or o d) (sym (front-half true b rows rootless)) ∙ h (true ∷ b) (ap suc at)
+
+pub same_or_not : (e x : ℕ) → (e ≡ x) ⊎ (e ≢ x)
+same_or_not e x = elim (eqb_tells e x) [ inl t ↦ inl t.1 | inr t ↦ inr t.1 ]
+
+decide_step : (x : LabelCost) (xs : List LabelCost) (d : ℕ) → Lists xs d ⊎ (Lists xs d → ⊥) → ((x.label ≡ d) ⊎ (x.label ≢ d)) → Lists (x ∷ xs) d ⊎ (Lists (x ∷ xs) d → ⊥)
+decide_step x xs d (inl k) s = inl (inr k)
+decide_step x xs d (inr k) (inl s) = inl (inl s)
+decide_step x xs d (inr k) (inr s) = inr (λ a. elim a [ inl t ↦ s t | inr t ↦ k t ])
+
+pub decide : (xs : List LabelCost) (d : ℕ) → Lists xs d ⊎ (Lists xs d → ⊥)
+decide [] d = inr (λ h. h)
+decide (x ∷ xs) d = decide_step x xs d (decide xs d) (same_or_not x.label d)
+
+-- the label of each value of the part is listed
+pub value-listed : (weights : List ℕ) (f : ℕ → ℕ) (n low : ℕ) (part : Node) → StandsFor weights f n low part →
+    (b : List Bool) → length b ≡ n → Lists (costs_of part).split.now (f (value n low b))
+value-listed weights f n low (Constant c) h b at =
+    subst (λ x. Lists c.split.now x) (sym (h.1 (value n low b) (value-low n low b) (value-high n low b))) h.0.listed
+value-listed weights f zero low (Halves' c p lower q upper) h b at = absurd h
+value-listed weights f (suc n) low (Halves' c p lower q upper) h [] at = absurd (omega (arith, at))
+value-listed weights f (suc n) low (Halves' c p lower q upper) h (false ∷ b) at =
+    h.0.lists_low (f (value n low b)) (value-listed weights f n low lower h.1 b (omega (arith, at)))
+value-listed weights f (suc n) low (Halves' c p lower q upper) h (true ∷ b) at =
+    h.0.lists_high (f (value n (low + 2 ^ n) b)) (value-listed weights f n (low + 2 ^ n) upper h.2 b (omega (arith, at)))
+
+-- the bits of the least value of a part
+abbrev zeros : ℕ → List Bool
+zeros zero = []
+zeros (suc n) = false ∷ zeros n
+
+length-zeros : (n : ℕ) → length (zeros n) ≡ n
+length-zeros zero = refl
+length-zeros (suc n) = ap suc (length-zeros n)
+
+same_label : (weights : List ℕ) (c : Costs) (d : ℕ) → IsConstant weights c → d ≡ c.label → least_cost c d ≤ 0
+same_label weights c d k e =
+    let same : c.label == d ≡ true = eq-eqb c.label d (sym e) in
+    let free : without_row c d ≡ 0 = k.without d ∙ ap (λ t. cond t 0 (slice_index weights c.label)) same in
+    omega arith
+
+constant_step : (weights : List ℕ) (c : Costs) (d : ℕ) (rows : List (Row ℕ)) (b : List Bool) → IsConstant weights c →
+    (o : Option ℕ) → front rows b ≡ o → unwrap_or o d ≡ c.label → least_cost c d ≤ weigh (weight_of weights) rows
+constant_step weights c d rows b k None h e = omega (arith, same_label weights c d k e)
+constant_step weights c d rows b k (Some x) h e =
+    let held = subst (λ y. weight_of weights y ≤ weigh (weight_of weights) rows) e (weight-front (weight_of weights) rows b x h) in
+    omega (arith, k.with_row, held)
+
+-- the halves cost no more than a right list without a row at the part
+abbrev HalvesBound : List ℕ → (ℕ → ℕ) → ℕ → ℕ → Costs → List (Row ℕ) → Type 0
+HalvesBound weights f n low c rows = (d : ℕ) → IsRightWith (suc n) low f d rows → without_row c d ≤ weigh (weight_of weights) rows
+
+held_step : (o : Option ℕ) (d e x : ℕ) → unwrap_or o e ≡ x → x ≢ e → unwrap_or o d ≡ x
+held_step None d e x h k = absurd (k (sym h))
+held_step (Some y) d e x h k = h
+
+under_root : (n low : ℕ) (f : ℕ → ℕ) (d e : ℕ) (rows : List (Row ℕ)) → root rows ≡ Some e → IsRightWith n low f d rows → IsRightWith n low f e (before rows)
+under_root n low f d e rows h right b at = ap (λ o. unwrap_or o d) (sym (front-root rows b e h)) ∙ right b at
+
+module _ (weights : List ℕ) (f : ℕ → ℕ) (n low : ℕ) (c : Costs)
+    (cheapest : (d : ℕ) → Lists c.split.now d → c.row ≤ slice_index weights d + without_row c d)
+    (listed : (b : List Bool) → length b ≡ suc n → Lists c.split.now (f (value (suc n) low b)))
+    (bound : (rows : List (Row ℕ)) → IsRootless rows → HalvesBound weights f n low c rows) where
+  root_step : (d e : ℕ) (rows : List (Row ℕ)) → root rows ≡ Some e → IsRightWith (suc n) low f d rows →
+      Lists c.split.now e ⊎ (Lists c.split.now e → ⊥) → least_cost c d ≤ weigh (weight_of weights) rows
+  root_step d e rows h right (inl k) = omega (
+    arith,
+    bound (before rows) (before-rootless rows) e (under_root (suc n) low f d e rows h right),
+    weight-root (weight_of weights) rows e h,
+    cheapest e k,
+  )
+  root_step d e rows h right (inr k) = omega (
+    arith,
+    weight-before (weight_of weights) rows,
+    bound (before rows) (before-rootless rows) d (λ b at. held_step (front (before rows) b) d e (f (value (suc n) low b))
+        (under_root (suc n) low f d e rows h right b at) (λ s. k (subst (λ x. Lists c.split.now x) s (listed b at)))),
+  )
+
+  split_step : (d : ℕ) (rows : List (Row ℕ)) (o : Option ℕ) → root rows ≡ o → IsRightWith (suc n) low f d rows → least_cost c d ≤ weigh (weight_of weights) rows
+  split_step d rows None h right =
+      let rootless = subst IsRootless (before-none rows h) (before-rootless rows) in
+      omega (arith, bound rows rootless d right)
+  split_step d rows (Some e) h right = root_step d e rows h right (decide c.split.now e)
+
+pub lower : (weights : List ℕ) (f : ℕ → ℕ) (n low : ℕ) (part : Node) → StandsFor weights f n low part →
+    (d : ℕ) (rows : List (Row ℕ)) → IsRightWith n low f d rows → least_cost (costs_of part) d ≤ weigh (weight_of weights) rows
+lower weights f n low (Constant c) h d rows right =
+    let b = zeros n in
+    constant_step weights c d rows b h.0 (front rows b) refl
+    (right b (length-zeros n) ∙ h.1 (value n low b) (value-low n low b) (value-high n low b))
+lower weights f zero low (Halves' c p lo q hi) h d rows right = absurd h
+lower weights f (suc n) low (Halves' c p lo q hi) h d rows right =
+    split_step weights f n low c h.0.cheapest
+    (λ b at. value-listed weights f (suc n) low (Halves' c p lo q hi) h b at)
+    (λ rs rootless e r. omega (
+      arith,
+      h.0.without e,
+      weight-halves (weight_of weights) rs,
+      lower weights f n low lo h.1 e (half false rs) (right_low n low f e rs rootless r),
+      lower weights f n (low + 2 ^ n) hi h.2 e (half true rs) (right_high n low f e rs rootless r),
+    ))
+    d rows (root rows) refl right

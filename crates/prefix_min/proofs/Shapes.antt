@@ -1,0 +1,74 @@
+-- Parts of the field and their halves.
+use Rattle.std.proofs.Common.{◌≡◌, ℕ, zero, suc, ◌+◌, ◌-◌, ◌*◌, ◌/◌, ◌%◌, ◌^◌, ◌<◌, ◌≤◌, List, arith, ap, sym, ◌∙◌, subst, Bor}
+use Rattle.std.proofs.lemmas.Nat.{pow_pos, shr_split, mod_low}
+use Rattle.std.proofs.Math.Numerals.{one-add}
+use Rattle.std.proofs.Math.Pow.{mod-mod-pow}
+use Rattle.prefix_min.specs.declared.trie.Node.{Node, Constant, Halves'}
+use Rattle.prefix_min.specs.declared.costs.Costs.{Costs}
+use Rattle.prefix_min.specs.Costs.{IsSplit}
+use Rattle.prefix_min.specs.Trie.{StandsFor, costs_of}
+use Rattle.prefix_min.specs.Rows.{IsPart, FitsBits}
+use Rattle.prefix_min.proofs.Values.{double}
+
+zero_mod : (n : ℕ) → 0 % 2 ^ n ≡ 0
+zero_mod n = let e : 0 ≡ 0 * 2 ^ n + 0 = omega arith in ap (λ x. x % 2 ^ n) e ∙ mod_low 0 n 0 (pow_pos n)
+
+aligned_less : (n low : ℕ) → low % 2 ^ suc n ≡ 0 → low % 2 ^ n ≡ 0
+aligned_less n low h =
+    sym (ap (λ m. low % 2 ^ m % 2 ^ n) (sym (one-add n)) ∙ mod-mod-pow low 1 n) ∙ ap (λ x. x % 2 ^ n) h ∙ zero_mod n
+
+aligned_next : (n low : ℕ) → low % 2 ^ n ≡ 0 → (low + 2 ^ n) % 2 ^ n ≡ 0
+aligned_next n low h =
+    let q = low / 2 ^ n in
+    let next : (q + 1) * 2 ^ n ≡ q * 2 ^ n + 2 ^ n = grind arith in
+    let e : low + 2 ^ n ≡ (q + 1) * 2 ^ n + 0 = omega (arith, shr_split low n, h, next) in
+    ap (λ x. x % 2 ^ n) e ∙ mod_low (q + 1) n 0 (pow_pos n)
+
+low_half : (width n low : ℕ) → IsPart width (suc n) low → IsPart width n low
+low_half width n low p = record {
+  wide = p.wide;
+  len = omega (arith, p.len);
+  within = omega (arith, p.within, double n);
+  aligned = aligned_less n low p.aligned;
+}
+
+high_half : (width n low : ℕ) → IsPart width (suc n) low → IsPart width n (low + 2 ^ n)
+high_half width n low p = record {
+  wide = p.wide;
+  len = omega (arith, p.len);
+  within = omega (arith, p.within, double n);
+  aligned = aligned_next n low (aligned_less n low p.aligned);
+}
+
+less_one : (n : ℕ) → suc n - 1 ≡ n
+less_one n = omega arith
+
+pub low-part : (width bits low : ℕ) → 0 < bits → IsPart width bits low → IsPart width (bits - 1) low
+low-part width zero low h p = absurd (omega (arith, h))
+low-part width (suc n) low h p = subst (λ k. IsPart width k low) (sym (less_one n)) (low_half width n low p)
+
+pub high-part : (width bits low : ℕ) → 0 < bits → IsPart width bits low → IsPart width (bits - 1) (low + 2 ^ (bits - 1))
+high-part width zero low h p = absurd (omega (arith, h))
+high-part width (suc n) low h p = subst (λ k. IsPart width k (low + 2 ^ k)) (sym (less_one n)) (high_half width n low p)
+
+-- what a split part stands for, and how deep its halves are
+pub stands-halves : (weights : List ℕ) (f : ℕ → ℕ) (bits low : ℕ) (c : Costs) (p q : Bor (Unit {0})) (lower upper : Node) → 0 < bits → StandsFor weights f bits low (Halves' c p lower q upper) →
+    IsSplit weights (costs_of lower) (costs_of upper) c × StandsFor weights f (bits - 1) low lower × StandsFor weights f (bits - 1) (low + 2 ^ (bits - 1)) upper
+stands-halves weights f zero low c p q lower upper h s = absurd (omega (arith, h))
+stands-halves weights f (suc n) low c p q lower upper h s =
+    (s.0, subst (λ k. StandsFor weights f k low lower) (sym (less_one n)) s.1, subst (λ k. StandsFor weights f k (low + 2 ^ k) upper) (sym (less_one n)) s.2)
+
+pub fits-halves : (bits : ℕ) (c : Costs) (p q : Bor (Unit {0})) (lower upper : Node) → FitsBits bits (Halves' c p lower q upper) → (0 < bits) × FitsBits (bits - 1) lower × FitsBits (bits - 1) upper
+fits-halves zero c p q lower upper h = absurd h
+fits-halves (suc n) c p q lower upper h =
+    (omega arith, subst (λ k. FitsBits k lower) (sym (less_one n)) h.0, subst (λ k. FitsBits k upper) (sym (less_one n)) h.1)
+
+pub stands-fits : (weights : List ℕ) (f : ℕ → ℕ) (bits low : ℕ) (node : Node) → StandsFor weights f bits low node → FitsBits bits node
+stands-fits weights f bits low (Constant c) s = tt
+stands-fits weights f zero low (Halves' c p lower q upper) s = absurd s
+stands-fits weights f (suc n) low (Halves' c p lower q upper) s =
+    (stands-fits weights f n low lower s.1, stands-fits weights f n (low + 2 ^ n) upper s.2)
+
+-- the whole field is a part of itself
+pub field-part : (width : ℕ) → width ≤ 32 → IsPart width width 0
+field-part width le = record { wide = le; len = omega arith; within = omega arith; aligned = zero_mod width }

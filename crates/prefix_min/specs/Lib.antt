@@ -1,0 +1,7 @@
+pub mod Pieces
+pub mod NextPiece
+pub mod PrefixList
+pub mod Order
+pub mod Costs
+pub mod Trie
+pub mod Rows

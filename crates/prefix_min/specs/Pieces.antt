@@ -1,0 +1,23 @@
+-- The function that pieces stand for: neighbouring runs of values, each with a label.
+use Rattle.std.specs.Prelude.{ℕ, ◌+◌, ◌-◌, ◌*◌, ◌<◌, ◌≤◌, List, [], ◌∷◌, cond, nat_le, slice_index}
+use Rattle.prefix_min.specs.declared.piece.Piece.{Piece}
+
+-- the pieces rise from start on, and each label is a place among so many
+abbrev pub Follow : ℕ → ℕ → List Piece → Type 0
+Follow places start [] = Unit {0}
+Follow places start (p ∷ pieces) = (start ≤ p.hi) × (p.label < places) × Follow places (p.hi + 1) pieces
+
+-- the first value above all pieces
+abbrev pub reach : ℕ → List Piece → ℕ
+reach start [] = start
+reach start (p ∷ pieces) = reach (p.hi + 1) pieces
+
+-- the label of the first piece that ends at the value or above it
+abbrev pub label_at : List Piece → ℕ → ℕ
+label_at [] v = 0
+label_at (p ∷ pieces) v = cond (nat_le v p.hi) p.label (label_at pieces v)
+
+-- the weights of the labels of all values from start on, added up
+abbrev pub weight_from : List ℕ → ℕ → List Piece → ℕ
+weight_from weights start [] = 0
+weight_from weights start (p ∷ pieces) = (p.hi + 1 - start) * slice_index weights p.label + weight_from weights (p.hi + 1) pieces

@@ -1,0 +1,66 @@
+ghost use Rattle.std.specs.Prelude.{◌≡◌, ◌≤◌, ◌<◌, ◌^◌, ℕ, List, IfOk, length};
+ghost use Rattle.std.specs.List.{All};
+ghost use Rattle.prefix_min.specs.Pieces.{Follow, label_at, reach, weight_from};
+ghost use Rattle.prefix_min.specs.PrefixList.{IsRight, weight};
+ghost use Rattle.prefix_min.specs.Order.{InOrder};
+ghost use Rattle.prefix_min.specs.declared.row.PrefixRow.{PrefixRow};
+
+use crate::order::sort;
+use crate::piece::Piece;
+use crate::row::PrefixRow;
+use crate::trie::Field;
+use crate::walk::field_rows;
+use bumpalo::Bump;
+use razor_base::Memory;
+use std::alloc::Global;
+
+/// A right list that weighs least, and its weight.
+#[derive(Drop, Debug)]
+pub struct Cheapest {
+    pub rows: Vec<PrefixRow>,
+    pub cost: u128,
+}
+
+/// The cheapest prefix list of the pieces' function over the values of `width` bits.
+///
+/// The weight of label `k` is the `k`-th of `weights`; a label that isn't there weighs nothing. Of several
+/// cheapest lists this is chosen, from the field down: no row is written where it saves nothing, and a row
+/// has the least label that makes it cheapest. The field itself always has a row.
+///
+/// Time and room are in the order of the pieces times the width, however many labels there are. The trie on
+/// which the rows are chosen lies in one arena, which is given up at the end.
+pub fn minimise(
+    alloc: Global,
+    pieces: &[Piece],
+    weights: &[u128],
+    width: u8,
+) -> Result<Cheapest, Memory>
+    requires wide { width ≤ 32 }
+
+    // The pieces follow each other up to the greatest value, and each label has a weight.
+    requires follow { Follow (length weights.now) 0 pieces.now }
+    requires whole { reach 0 pieces.now ≡ 2 ^ width }
+
+    // The weights of the labels of all values stay within 2^104 together.
+    requires light { weight_from weights.now 0 pieces.now ≤ 2 ^ 104 }
+
+    ensures right { IfOk result (λ c. IsRight width (label_at pieces.now) c.rows.items) }
+    ensures labels { IfOk result (λ c. All (λ r. r.label < length weights.now) c.rows.items) }
+    ensures weighs { IfOk result (λ c. weight weights.now c.rows.items ≡ c.cost) }
+
+    // No right list weighs less, whatever its order, its repeats and its rows that are never first.
+    ensures least { IfOk result (λ c. (rows : List PrefixRow) → IsRight width (label_at pieces.now) rows → c.cost ≤ weight weights.now rows) }
+    ensures order { IfOk result (λ c. InOrder c.rows.items) }
+{
+    let arena = Bump::new(alloc);
+    let field = Field {
+        arena: &arena,
+        pieces,
+        weights,
+    };
+    let root = field.part(0, width, 0)?.node;
+    let cost = root.costs().row;
+    let mut rows = field_rows(alloc, root, width)?;
+    sort(&mut rows)?;
+    Ok(Cheapest { rows, cost })
+}

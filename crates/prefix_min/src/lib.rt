@@ -1,0 +1,24 @@
+//! The cheapest prefix list of one field.
+//!
+//! A field's values fall into pieces, each with a label, and each label has a weight. [`minimise`] gives
+//! a first-match prefix list that answers every value with its label, and no right list weighs less. It
+//! is the weighted one-field problem of the Razor papers (Meiners, Liu, Torng 2007 and 2010).
+#![tactic(auto)]
+
+mod cheapest;
+mod costs;
+pub mod laws;
+mod merge;
+mod order;
+mod parts;
+mod piece;
+mod row;
+mod trie;
+mod walk;
+
+pub use cheapest::{Cheapest, minimise};
+pub use piece::Piece;
+pub use row::PrefixRow;
+
+#[cfg(test)]
+mod tests;
