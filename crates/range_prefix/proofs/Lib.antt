@@ -1,0 +1,8 @@
+pub mod Powers
+pub mod Blocks
+pub mod Aligned
+pub mod Chains
+pub mod Shortest
+pub mod Halving
+pub mod Intervals
+pub mod Few

@@ -1,0 +1,4 @@
+pub mod Cover
+pub mod Shortest
+pub mod Halves
+pub mod Share
