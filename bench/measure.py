@@ -23,17 +23,14 @@ def time_tool():
     return path
 
 
-def built(crate):
-    """The program of a crate, proved and built first where it isn't built yet."""
+def built(crate, *words):
+    """The program of a crate, proved, built and tried on the words, as the files of the crate stand."""
     folder = ROOT / "crates" / crate
-    program = folder / "out" / crate
-    if not program.exists():
-        log = subprocess.run(
-            ["rt", "run"], cwd=folder, stdin=subprocess.DEVNULL, capture_output=True, text=True
-        )
-        if not program.exists():
-            fail(log.stderr)
-    return program
+    command = ["rt", "run", "--", *words]
+    log = subprocess.run(command, cwd=folder, stdin=subprocess.DEVNULL, capture_output=True, text=True)
+    if log.returncode != 0:
+        fail(f"{crate} is not built: {log.stdout}{log.stderr}")
+    return folder / "out" / crate
 
 
 def once(command):

@@ -12,6 +12,8 @@ mod minimise;
 mod nodes;
 mod pieces;
 mod plan;
+#[cfg(test)]
+mod tests;
 mod work;
 
 use work::Work;

@@ -18,7 +18,7 @@ pub fn run(rt: &(impl Print + AllocGlobal), count: u32) -> Result<()> {
 }
 
 /// The cheapest list of so many pieces.
-fn cheapest(alloc: Global, count: u32) -> Result<Cheapest> {
+pub fn cheapest(alloc: Global, count: u32) -> Result<Cheapest> {
     let weights = weights(alloc, count)?;
     let pieces = pieces(alloc, &weights)?;
     minimise(alloc, &pieces, &weights, WIDTH).map_err(|_refused| anyhow!("out of memory"))

@@ -16,16 +16,15 @@ const LEAF_LEVEL: u8 = 5;
 pub fn run(rt: &(impl Print + AllocGlobal), count: u32) -> Result<()> {
     let plan = Plan::of(count);
     let mut store = Store::new(rt.alloc());
-    let made = pass(&mut store, plan)?;
-    let again = pass(&mut store, plan)?;
-    ensure!(made == again, "a node has two numbers");
+    pass(&mut store, plan)?;
+    let checksum = pass(&mut store, plan)?;
     let nodes = store.count();
-    println!(rt; "nodes {nodes} checksum {made}")?;
+    println!(rt; "nodes {nodes} checksum {checksum}")?;
     Ok(())
 }
 
 /// Asks for each node in turn, and gives the checksum of the numbers.
-fn pass(store: &mut Store, plan: Plan) -> Result<u64> {
+pub fn pass(store: &mut Store, plan: Plan) -> Result<u64> {
     let mut checksum = 0u64;
     for place in 0..plan.nodes {
         let number = node(store, plan, place)?;

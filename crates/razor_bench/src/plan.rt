@@ -1,5 +1,5 @@
 //! Which nodes are made.
-ghost use Rattle.std.specs.Prelude.{◌-◌, ◌<◌, ◌^◌};
+ghost use Rattle.std.specs.Prelude.{◌≡◌, ◌+◌, ◌-◌, ◌*◌, ◌/◌, ◌<◌, ◌≤◌};
 
 /// The protocols at which the second interval of a node may stand alone.
 const PLACES: u32 = 254;
@@ -19,8 +19,15 @@ pub struct Protocols {
 }
 
 impl Plan {
-    /// Of so many nodes, as few leaves as keep the protocol nodes apart.
-    pub fn of(nodes: u32) -> Plan {
+    /// So many nodes, of which few are leaves.
+    pub fn of(nodes: u32) -> Plan
+        ensures nodes { result.nodes ≡ nodes }
+        ensures few { result.leaves ≤ nodes / 254 + 2 }
+        ensures within { result.leaves ≤ nodes }
+
+        // Each protocol node finds the two leaves below it.
+        ensures enough { result.leaves < nodes → nodes < 254 * (result.leaves - 1) }
+    {
         let leaves = nodes.min(nodes / PLACES + 2);
         Plan { leaves, nodes }
     }
@@ -29,9 +36,9 @@ impl Plan {
 impl Protocols {
     /// The protocol node at the place among all of them; each place has its own.
     pub fn at(place: u32) -> Protocols
+        ensures own { 254 * result.outer + result.middle ≡ place + 1 }
         ensures above { 0 < result.middle }
         ensures below { result.middle < 255 }
-        ensures outer { result.outer < 2 ^ 32 - 1 }
     {
         Protocols {
             outer: place / PLACES,
