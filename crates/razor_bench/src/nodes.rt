@@ -1,5 +1,5 @@
 //! Distinct diagram nodes, made once and asked for again.
-ghost use Rattle.std.specs.Prelude.{◌≡◌, ◌-◌, ◌<◌, ◌^◌, length, IfOk};
+ghost use Rattle.std.specs.Prelude.{◌≡◌, ◌-◌, ◌<◌, ◌≤◌, ◌^◌, length, IfOk, OnOk};
 ghost use Rattle.node_store.specs.Diagram.{level_of};
 
 use crate::plan::{Plan, Protocols};
@@ -24,7 +24,9 @@ pub fn run(rt: &(impl Print + AllocGlobal), count: u32) -> Result<()> {
 }
 
 /// Asks for each node in turn, and gives the checksum of the numbers.
-pub fn pass(store: &mut Store, plan: Plan) -> Result<u64> {
+pub fn pass(store: &mut Store, plan: Plan) -> Result<u64>
+    ensures { OnOk result (plan.nodes ≤ length store.new) }
+{
     let mut checksum = 0u64;
     for place in 0..plan.nodes {
         let number = node(store, plan, place)?;
@@ -38,7 +40,9 @@ pub fn pass(store: &mut Store, plan: Plan) -> Result<u64> {
 }
 
 /// The node at the place: the leaves come first.
-fn node(store: &mut Store, plan: Plan, place: u32) -> Result<NodeId> {
+fn node(store: &mut Store, plan: Plan, place: u32) -> Result<NodeId>
+    ensures { IfOk result (λ id. id.0 < length store.new) }
+{
     if place < plan.leaves {
         return store
             .leaf(place)
@@ -52,6 +56,8 @@ fn protocol_node(store: &mut Store, protocols: Protocols) -> Result<NodeId>
     requires above { 0 < protocols.middle }
     requires below { protocols.middle < 255 }
     requires outer { protocols.outer < 2 ^ 32 - 1 }
+    ensures number { IfOk result (λ id. id.0 < length store.new) }
+    ensures level { IfOk result (λ id. level_of store.new id.0 ≡ 4) }
 {
     let outer = leaf(store, protocols.outer)?;
     let inner = leaf(store, protocols.outer + 1)?;
@@ -77,7 +83,9 @@ fn protocol_node(store: &mut Store, protocols: Protocols) -> Result<NodeId>
 
 /// The number, tested to be that of a leaf.
 fn leaf(store: &Store, number: u32) -> Result<NodeId>
-    ensures { IfOk result (λ id. (id.0 < length store.now) × (level_of store.now id.0 ≡ 5)) }
+    ensures number { IfOk result (λ id. id.0 ≡ number) }
+    ensures found { IfOk result (λ id. id.0 < length store.now) }
+    ensures level { IfOk result (λ id. level_of store.now id.0 ≡ 5) }
 {
     let id = NodeId(number as usize);
     ensure!(id.0 < store.count(), "no node {number}");

@@ -1,5 +1,5 @@
 //! A field cut into pieces of nearly equal length.
-ghost use Rattle.std.specs.Prelude.{◌≡◌, ◌≤◌, ◌<◌, ◌^◌, length, IfOk, OnOk};
+ghost use Rattle.std.specs.Prelude.{◌≡◌, ◌≤◌, ◌<◌, ◌^◌, [], ◌∷◌, ◌++◌, length, map, IfOk, OnOk};
 ghost use Rattle.razor_bench.specs.Cut.{IsCut};
 
 use anyhow::{Result, ensure};
@@ -42,7 +42,8 @@ pub fn pieces(alloc: Global, weights: &[u128]) -> Result<Vec<Piece>>
 /// Adds the piece of the label, from `start` to just below `end`.
 fn extend(pieces: &mut Vec<Piece>, weights: &[u128], label: u32, start: u64, end: u64) -> Result<()>
     requires { IsCut weights.now start pieces.old.items }
-    ensures { OnOk result (IsCut weights.now end pieces.new.items) }
+    ensures cut { OnOk result (IsCut weights.now end pieces.new.items) }
+    ensures label { OnOk result (map (λ p. p.label) pieces.new.items ≡ map (λ p. p.label) pieces.old.items ++ label ∷ []) }
 {
     ensure!(start < end, "an empty piece at {start}");
     ensure!(end <= VALUES, "a piece that ends at {end}");
