@@ -10,7 +10,7 @@ use Rattle.field_boxes.specs.Prefix.{FitsWidth, prefix_holds}
 use Rattle.field_boxes.proofs.Prefixes.{interval-prefix}
 use Rattle.prefix_min.specs.declared.row.PrefixRow.{PrefixRow}
 use Rattle.prefix_min.specs.PrefixList.{front}
-use Rattle.prefix_min.specs.Rows.{IsPart, IsInside, Nests, AreNested, ArePartRows, AreHalfRows, row_of}
+use Rattle.prefix_min.specs.Rows.{IsPart, IsInside, Nests, AreNested, ArePartRows, row_of}
 use Rattle.prefix_min.proofs.Values.{double}
 
 both : (a b : Bool) → (a && b) ≡ true → (a ≡ true) × (b ≡ true)
@@ -113,6 +113,11 @@ halves_answer width n low v d xs ys x p q f g = elim (cases_lt v (low + 2 ^ n)) 
   | inl lt ↦ front-append width xs ys v d ∙ ap (λ o. unwrap_or (front width xs v) (unwrap_or o d)) (front-outside width n (low + 2 ^ n) v ys q (inl lt)) ∙ f lt
   | inr ge ↦ front-append width xs ys v d ∙ ap (λ o. unwrap_or o (unwrap_or (front width ys v) d)) (front-outside width n low v xs p (inr ge)) ∙ g ge
 ]
+
+-- rows of the halves of a part, none of the part itself
+pub record AreHalfRows (weights : List ℕ) (f : ℕ → ℕ) (width bits low d cost : ℕ) (rows : List PrefixRow) : Type 0 where
+  pub part : ArePartRows weights f width bits low d cost rows
+  pub longer : AllByRecursion (λ r. width < bits + r.prefix.len) rows
 
 -- the rows of two halves are rows of the part
 pub half-rows : (weights : List ℕ) (f : ℕ → ℕ) (width n low d a b : ℕ) (xs ys : List PrefixRow) →

@@ -8,8 +8,8 @@ use Rattle.prefix_min.specs.declared.costs.Costs.{Costs}
 use Rattle.prefix_min.specs.declared.trie.Node.{Node, Constant, Halves'}
 use Rattle.prefix_min.specs.Costs.{IsConstant, IsSplit, least_cost, without_row}
 use Rattle.prefix_min.specs.Trie.{StandsFor, costs_of}
-use Rattle.prefix_min.specs.Rows.{IsPart, ArePartRows, AreHalfRows, AreFieldRows, Appends, row_of}
-use Rattle.prefix_min.proofs.Rows.{no-rows, half-rows, with-own-row}
+use Rattle.prefix_min.specs.Rows.{IsPart, ArePartRows, AreFieldRows, Appends, row_of}
+use Rattle.prefix_min.proofs.Rows.{AreHalfRows, no-rows, half-rows, with-own-row}
 use Rattle.prefix_min.proofs.Whole.{ne_eqb}
 
 cost_is : (weights : List ℕ) (f : ℕ → ℕ) (width bits low d a b : ℕ) (rows : List PrefixRow) → a ≡ b → ArePartRows weights f width bits low d a rows → ArePartRows weights f width bits low d b rows

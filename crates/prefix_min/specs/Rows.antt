@@ -5,6 +5,8 @@ use Rattle.field_boxes.specs.Prefix.{FitsWidth, prefix_holds}
 use Rattle.prefix_min.specs.declared.row.PrefixRow.{PrefixRow}
 use Rattle.prefix_min.specs.declared.trie.Node.{Node, Constant, Halves'}
 use Rattle.prefix_min.specs.PrefixList.{front, weight}
+use Rattle.prefix_min.specs.Costs.{least_cost}
+use Rattle.prefix_min.specs.Trie.{StandsFor, costs_of}
 
 -- a part of so many bits from low on is the values of a prefix
 pub record IsPart (width bits low : ℕ) : Type 0 where
@@ -47,11 +49,6 @@ pub record ArePartRows (weights : List ℕ) (f : ℕ → ℕ) (width bits low d 
   pub weighs : weight weights rows ≡ cost
   pub answers : (v : ℕ) → low ≤ v → v < low + 2 ^ bits → unwrap_or (front width rows v) d ≡ f v
 
--- rows of the halves of a part, none of the part itself
-pub record AreHalfRows (weights : List ℕ) (f : ℕ → ℕ) (width bits low d cost : ℕ) (rows : List PrefixRow) : Type 0 where
-  pub part : ArePartRows weights f width bits low d cost rows
-  pub longer : AllByRecursion (λ r. width < bits + r.prefix.len) rows
-
 -- rows of the field, with one of the field itself
 pub record AreFieldRows (weights : List ℕ) (f : ℕ → ℕ) (width cost : ℕ) (rows : List PrefixRow) : Type 0 where
   pub part : (d : ℕ) → ArePartRows weights f width width 0 d cost rows
@@ -61,3 +58,13 @@ pub record AreFieldRows (weights : List ℕ) (f : ℕ → ℕ) (width cost : ℕ
 -- the new rows are the old ones and some of which P holds
 abbrev pub Appends : List PrefixRow → List PrefixRow → (List PrefixRow → Type 0) → Type 0
 Appends old new P = (rows : List PrefixRow) × (new ≡ old ++ rows) × P rows
+
+-- writing a part, where d is inherited, adds rows of the part at its least cost
+abbrev pub WritesPart : ℕ → ℕ → ℕ → ℕ → Node → List PrefixRow → List PrefixRow → Type 0
+WritesPart width bits low d node old new =
+    (weights : List ℕ) (f : ℕ → ℕ) → StandsFor weights f bits low node → Appends old new (ArePartRows weights f width bits low d (least_cost (costs_of node) d))
+
+-- the rows of the field, at its least cost with a row of its own
+abbrev pub WritesField : ℕ → Node → List PrefixRow → Type 0
+WritesField width root rows =
+    (weights : List ℕ) (f : ℕ → ℕ) → StandsFor weights f width 0 root → AreFieldRows weights f width (costs_of root).row rows

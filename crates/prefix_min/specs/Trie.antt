@@ -23,6 +23,15 @@ StandsFor weights f zero low (Halves' c p lower q upper) = ⊥
 StandsFor weights f (suc n) low (Halves' c p lower q upper) =
     IsSplit weights (costs_of lower) (costs_of upper) c × StandsFor weights f n low lower × StandsFor weights f n (low + 2 ^ n) upper
 
+-- the part stands for every function that gives its values the label
+abbrev pub StandsForLabel : List ℕ → ℕ → Node → Type 0
+StandsForLabel weights label node = (f : ℕ → ℕ) (bits low : ℕ) → GivesAll f bits low label → StandsFor weights f bits low node
+
+-- the part stands for what its halves stand for together
+abbrev pub Joins : List ℕ → Node → Node → Node → Type 0
+Joins weights lower upper node =
+    (f : ℕ → ℕ) (bits low : ℕ) → StandsFor weights f bits low lower → StandsFor weights f bits (low + 2 ^ bits) upper → StandsFor weights f (bits + 1) low node
+
 -- the part of so many bits from low on is built: its trie, its labels, the next piece, and its costs are
 -- at most the weights of its values
 pub record IsBuilt (weights : List ℕ) (pieces : List Piece) (bits low : ℕ) (part : Part) : Type 0 where

@@ -1,3 +1,4 @@
+//! The costs of a part from those of its halves, label by label, in one pass over both lists.
 ghost use Rattle.std.specs.Prelude.{◌≡◌, ℕ, ◌+◌, ◌<◌, ◌^◌, ◌⊎◌, [], IfOk, MatchOption};
 ghost use Rattle.prefix_min.specs.Costs.{IsHead, IsMerge, RisesFrom, after, least_in, rest_of};
 

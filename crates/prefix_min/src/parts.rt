@@ -1,3 +1,4 @@
+//! Numbers of a part of the field.
 ghost use Rattle.std.specs.Prelude.{◌≡◌, ◌≤◌, ◌<◌, ◌+◌, ◌-◌, ◌^◌};
 
 /// The greatest value of the part of `bits` bits from `low` on.

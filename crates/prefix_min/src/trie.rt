@@ -1,9 +1,16 @@
+//! The trie of the pieces, and what each part of the field costs.
+//!
+//! A part is the values below one prefix, and inherits the label of the row around it. Without a row of its
+//! own both halves inherit that label, so it costs what they cost together; with a row they inherit the
+//! row's label. A label that no value of the part has helps as little as any other such label: a part keeps
+//! one number for all of those and one for each label below it, so all numbers together are in the order of
+//! the pieces times the width.
 ghost use Rattle.std.specs.Prelude.{◌≡◌, ◌≤◌, ◌<◌, ◌+◌, ◌^◌, ℕ, length, slice_index, IfOk};
 ghost use Rattle.std.specs.List.{All};
 ghost use Rattle.prefix_min.specs.Pieces.{reach};
 ghost use Rattle.prefix_min.specs.NextPiece.{AreFit, IsNext};
 ghost use Rattle.prefix_min.specs.Costs.{AreLabels, IsCheapest, IsConstant, IsSplit, least_cost, with_row};
-ghost use Rattle.prefix_min.specs.Trie.{GivesAll, IsBuilt, StandsFor, costs_of};
+ghost use Rattle.prefix_min.specs.Trie.{IsBuilt, Joins, StandsForLabel, costs_of};
 
 use crate::costs::{Costs, LabelCost};
 use crate::merge::{Rest, merge};
@@ -79,7 +86,7 @@ impl<'a> Field<'a, '_> {
     /// A part where all values have the label.
     fn constant(&self, label: u32) -> Result<&'a Node<'a>, Memory>
         requires { label < length self.now.weights.now }
-        ensures stands { IfOk result (λ n. (f : ℕ → ℕ) (bits low : ℕ) → GivesAll f bits low label → StandsFor self.now.weights.now f bits low n.now) }
+        ensures stands { IfOk result (λ n. StandsForLabel self.now.weights.now label n.now) }
         ensures labels { IfOk result (λ n. slice_index self.now.weights.now label ≤ 2 ^ 104 → AreLabels self.now.weights.now (costs_of n.now)) }
         ensures row { IfOk result (λ n. (costs_of n.now).row ≡ slice_index self.now.weights.now label) }
     {
@@ -101,8 +108,7 @@ impl<'a> Field<'a, '_> {
         requires low_labels { AreLabels self.now.weights.now (costs_of low.now) }
         requires high_labels { AreLabels self.now.weights.now (costs_of high.now) }
         requires light { (d : ℕ) → least_cost (costs_of low.now) d + least_cost (costs_of high.now) d ≤ 2 ^ 104 }
-        ensures stands { IfOk result (λ n. (f : ℕ → ℕ) (bits start : ℕ) → StandsFor self.now.weights.now f bits start low.now →
-            StandsFor self.now.weights.now f bits (start + 2 ^ bits) high.now → StandsFor self.now.weights.now f (bits + 1) start n.now) }
+        ensures stands { IfOk result (λ n. Joins self.now.weights.now low.now high.now n.now) }
         ensures labels { IfOk result (λ n. AreLabels self.now.weights.now (costs_of n.now)) }
         ensures costs { IfOk result (λ n. (d : ℕ) → least_cost (costs_of n.now) d ≤ least_cost (costs_of low.now) d + least_cost (costs_of high.now) d) }
     {

@@ -1,7 +1,7 @@
-ghost use Rattle.std.specs.Prelude.{◌≡◌, ◌≤◌, ◌<◌, ◌+◌, ◌-◌, ◌^◌, ◌++◌, ◌∷◌, [], ℕ, List, IfOk, OnOk, MatchOption, slice_index};
-ghost use Rattle.prefix_min.specs.Costs.{least_cost, without_row};
-ghost use Rattle.prefix_min.specs.Trie.{StandsFor, costs_of};
-ghost use Rattle.prefix_min.specs.Rows.{AreFieldRows, AreHalfRows, ArePartRows, Appends, FitsBits, IsPart, row_of};
+//! The rows of the cheapest list, chosen from the field down.
+ghost use Rattle.std.specs.Prelude.{◌≡◌, ◌≤◌, ◌<◌, ◌-◌, ◌++◌, ◌∷◌, [], IfOk, OnOk, MatchOption};
+ghost use Rattle.prefix_min.specs.Costs.{without_row};
+ghost use Rattle.prefix_min.specs.Rows.{FitsBits, IsPart, WritesField, WritesPart, row_of};
 
 use crate::costs::Costs;
 use crate::parts::middle;
@@ -22,8 +22,7 @@ struct Writer {
 pub fn field_rows(alloc: Global, root: &Node, width: u8) -> Result<Vec<PrefixRow>, Memory>
     requires wide { width ≤ 32 }
     requires shape { FitsBits width root.now }
-    ensures { IfOk result (λ rows. (weights : List ℕ) (f : ℕ → ℕ) → StandsFor weights f width 0 root.now →
-        AreFieldRows weights f width (costs_of root.now).row rows.items) }
+    ensures { IfOk result (λ rows. WritesField width root.now rows.items) }
 {
     let mut writer = Writer {
         width,
@@ -32,7 +31,9 @@ pub fn field_rows(alloc: Global, root: &Node, width: u8) -> Result<Vec<PrefixRow
     match root {
         Node::Constant(costs) => writer.row(width, 0, costs.label)?,
         Node::Halves(costs, lower, upper) => {
-            writer.halves(lower, upper, width, 0, costs.label)?;
+            let middle = middle(width, 0);
+            writer.part(lower, width - 1, 0, costs.label)?;
+            writer.part(upper, width - 1, middle, costs.label)?;
             writer.row(width, 0, costs.label)?;
         }
     }
@@ -67,13 +68,11 @@ impl Writer {
     }
 
     /// Writes the rows of a part where a label is inherited.
-    #[cycle(rows)]
     fn part(&mut self, node: &Node, bits: u8, low: u32, inherited: u32) -> Result<(), Memory>
         requires place { IsPart self.old.width bits low }
         requires shape { FitsBits bits node.now }
         ensures width { self.new.width ≡ self.old.width }
-        ensures rows { OnOk result ((weights : List ℕ) (f : ℕ → ℕ) → StandsFor weights f bits low node.now →
-            Appends self.old.rows.items self.new.rows.items (ArePartRows weights f self.old.width bits low inherited (least_cost (costs_of node.now) inherited))) }
+        ensures rows { OnOk result (WritesPart self.old.width bits low inherited node.now self.old.rows.items self.new.rows.items) }
     {
         match node {
             Node::Constant(costs) => {
@@ -83,38 +82,17 @@ impl Writer {
                     self.row(bits, low, costs.label)
                 }
             }
-            Node::Halves(costs, lower, upper) => match own_label(costs, inherited) {
-                None => self.halves(lower, upper, bits, low, inherited),
-                Some(label) => {
-                    self.halves(lower, upper, bits, low, label)?;
-                    self.row(bits, low, label)
+            Node::Halves(costs, lower, upper) => {
+                let own = own_label(costs, inherited);
+                let label = own.unwrap_or(inherited);
+                let middle = middle(bits, low);
+                self.part(lower, bits - 1, low, label)?;
+                self.part(upper, bits - 1, middle, label)?;
+                match own {
+                    None => Ok(()),
+                    Some(label) => self.row(bits, low, label),
                 }
-            },
+            }
         }
-    }
-
-    /// Writes the rows of the halves of a part.
-    #[cycle(rows)]
-    fn halves(
-        &mut self,
-        lower: &Node,
-        upper: &Node,
-        bits: u8,
-        low: u32,
-        inherited: u32,
-    ) -> Result<(), Memory>
-        requires place { IsPart self.old.width bits low }
-        requires some { 0 < bits }
-        requires lower_shape { FitsBits (bits - 1) lower.now }
-        requires upper_shape { FitsBits (bits - 1) upper.now }
-        ensures width { self.new.width ≡ self.old.width }
-        ensures rows { OnOk result ((weights : List ℕ) (f : ℕ → ℕ) → StandsFor weights f (bits - 1) low lower.now → StandsFor weights f (bits - 1) (low + 2 ^ (bits - 1)) upper.now →
-            Appends self.old.rows.items self.new.rows.items
-            (AreHalfRows weights f self.old.width bits low inherited (least_cost (costs_of lower.now) inherited + least_cost (costs_of upper.now) inherited))) }
-    {
-        let half = bits - 1;
-        let middle = middle(bits, low);
-        self.part(lower, half, low, inherited)?;
-        self.part(upper, half, middle, inherited)
     }
 }

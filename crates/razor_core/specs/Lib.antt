@@ -9,6 +9,7 @@ pub mod Ending
 pub mod Parts
 pub mod Inputs
 pub mod Promise
+pub mod Rows
 pub mod Numbers
 pub mod Columns
 pub mod Prefixes

@@ -17,6 +17,7 @@ mod prefixes;
 mod protocol;
 mod reading;
 mod reason;
+pub mod rows;
 mod run;
 mod separator;
 mod thin_line;
