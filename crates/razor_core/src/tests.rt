@@ -1,5 +1,6 @@
 mod faults;
 mod limits;
+mod values;
 
 use crate::{Words, razor};
 use razor_base::{MemDesk, MemSink};
