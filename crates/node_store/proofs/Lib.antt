@@ -9,3 +9,4 @@ pub mod Made
 pub mod Search
 pub mod Turns
 pub mod Values
+pub mod Splitting

@@ -1,4 +1,6 @@
 pub mod Edges
 pub mod Diagram
+pub mod Split
+pub mod Parts
 pub mod Store
 pub mod Nodes

@@ -24,9 +24,11 @@ mod edge;
 pub mod laws;
 mod merge;
 mod node;
+mod split;
 mod store;
 #[cfg(test)]
 mod tests;
 
 pub use edge::{Edge, NodeId};
+pub use split::{Part, Parts};
 pub use store::Store;

@@ -133,7 +133,7 @@ impl Store {
         ensures grows { Grows self.old self.new }
         ensures err { OnErr result (self.new ≡ self.old) }
     {
-        let edges = merge(*self.nodes.allocator(), edges)?;
+        let edges = merge(self.allocator(), edges)?;
         self.add(Node::Inner { field, edges })
     }
 
@@ -147,6 +147,11 @@ impl Store {
     {
         let (number, _added) = self.nodes.insert_full(node)?;
         Ok(NodeId(number))
+    }
+
+    /// Where the store takes its memory from.
+    pub(crate) fn allocator(&self) -> Global {
+        *self.nodes.allocator()
     }
 
     /// Two nodes of one level that answer alike on all remaining values have one number.

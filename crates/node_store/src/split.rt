@@ -1,0 +1,83 @@
+//! The common split of the edges of two nodes.
+ghost use Rattle.std.specs.Prelude.{◌≡◌, ◌<◌, ◌⊎◌, ℕ, suc, List, [], map, IfOk, MatchOption};
+ghost use Rattle.field_boxes.specs.Fields.{greatest_of};
+ghost use Rattle.node_store.specs.Diagram.{Node, level_of, edges_of};
+ghost use Rattle.node_store.specs.Edges.{AreFull, LeadApart};
+ghost use Rattle.node_store.specs.Parts.{IsFirst, past};
+ghost use Rattle.node_store.specs.Store.{LeadTo};
+ghost use Rattle.node_store.specs.Split.{IsSplit, to_left, to_right};
+
+use crate::edge::{Edge, NodeId};
+use crate::store::Store;
+use razor_base::Memory;
+use smallvec::SmallVec;
+use std::alloc::Global;
+
+/// Some values of a field, from past the part before it up to `hi`, and where they lead from a left
+/// and from a right node.
+#[derive(Clone, Copy, Debug, Default, PartialEq, Eq)]
+pub struct Part {
+    pub hi: u32,
+    pub left: NodeId,
+    pub right: NodeId,
+}
+
+/// The parts of a field: most fields fall into few, which need no allocation.
+pub type Parts = SmallVec<Part, 6>;
+
+impl Store {
+    /// The fewest parts of their field on which each of two inner nodes of one level leads to one
+    /// child, in rising order.
+    ///
+    /// One pass over both nodes' edges, which takes memory only where there are more than six parts.
+    pub fn split(&self, left: NodeId, right: NodeId) -> Result<Parts, Memory>
+        requires inner { level_of self.now left.0 < 5 }
+        requires level { level_of self.now right.0 ≡ level_of self.now left.0 }
+        ensures split { IfOk result (λ parts.
+            IsSplit (greatest_of (level_of self.now left.0)) (edges_of self.now left.0) (edges_of self.now right.0) parts.items) }
+        ensures left { IfOk result (λ parts. LeadTo self.now (suc (level_of self.now left.0)) (map to_left parts.items)) }
+        ensures right { IfOk result (λ parts. LeadTo self.now (suc (level_of self.now left.0)) (map to_right parts.items)) }
+    {
+        parts_of(self.allocator(), self.edges(left), self.edges(right))
+    }
+}
+
+/// The parts, by one pass over both lists of edges.
+fn parts_of(alloc: Global, left: &[Edge], right: &[Edge]) -> Result<Parts, Memory>
+    ensures split { (greatest : ℕ) → AreFull greatest left.now → AreFull greatest right.now → LeadApart left.now → LeadApart right.now →
+        IfOk result (λ parts. IsSplit greatest left.now right.now parts.items) }
+    ensures left { (nodes : List Node) (level : ℕ) → LeadTo nodes level left.now → IfOk result (λ parts. LeadTo nodes level (map to_left parts.items)) }
+    ensures right { (nodes : List Node) (level : ℕ) → LeadTo nodes level right.now → IfOk result (λ parts. LeadTo nodes level (map to_right parts.items)) }
+{
+    let mut parts = SmallVec::new(alloc);
+    let mut left = left;
+    let mut right = right;
+    while let Some(part) = first(left, right) {
+        left = past(left, part.hi);
+        right = past(right, part.hi);
+        parts.push(part)?;
+    }
+    Ok(parts)
+}
+
+/// The first part of the edges that are left; none where none are left.
+fn first(left: &[Edge], right: &[Edge]) -> Option<Part>
+    ensures { MatchOption result ((left.now ≡ []) ⊎ (right.now ≡ [])) (λ part. IsFirst left.now right.now part) }
+{
+    let (left, right) = (left.first()?, right.first()?);
+    Some(Part {
+        hi: left.hi.min(right.hi),
+        left: left.to,
+        right: right.to,
+    })
+}
+
+/// The edges past a value: the first one is among them unless it ends there.
+fn past(edges: &[Edge], hi: u32) -> &[Edge]
+    ensures { result.now ≡ past hi edges.now }
+{
+    match edges {
+        [edge, rest @ ..] if edge.hi == hi => rest,
+        _ => edges,
+    }
+}
