@@ -15,6 +15,9 @@
 //! let protocols = store.make(4, &[below, six, beyond])?;
 //! ```
 //!
+//! Whoever walks two diagrams at once takes the parts of a field on which each of two nodes leads to one
+//! child: [`Store::split`].
+//!
 //! `specs/Diagram.antt` says what a node answers, `specs/Store.antt` what holds of every store and what
 //! no call changes. [`laws`] has what callers need of a store that grows, and of edges made in turn.
 #![tactic(auto)]
