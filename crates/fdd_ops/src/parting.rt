@@ -1,8 +1,8 @@
 //! The first value at which two nodes of one field lead apart.
 //!
-//! The edges of a node rise and its neighbours lead apart, so both lists are equal up to some place and
-//! lead alike as far as the edges before it reach. There they differ: either they lead apart at once, or
-//! they lead to one child, and then one of them leaves it earlier than the other.
+//! The edges of a node rise, and neighbouring edges lead apart. So two lists of edges lead alike just as
+//! far as their equal fronts reach. The first edges that are not equal lead apart at once, or to one
+//! child: then the one that ends sooner is followed by an edge that leads elsewhere.
 ghost use Rattle.std.specs.Prelude.{◌≡◌, ◌≢◌, ◌<◌};
 ghost use Rattle.node_store.specs.Diagram.{level_of};
 ghost use Rattle.fdd_ops.specs.Parting.{IsParting};
@@ -33,23 +33,23 @@ pub(crate) fn first_parting(store: &Store, a: NodeId, b: NodeId) -> Parting
         left = &left[1..];
         right = &right[1..];
     }
-    let (l, r) = (left[0], right[0]);
-    if l.to != r.to {
+    let (left_edge, right_edge) = (left[0], right[0]);
+    if left_edge.to != right_edge.to {
         Parting {
             value: start,
-            left: l.to,
-            right: r.to,
+            left: left_edge.to,
+            right: right_edge.to,
         }
-    } else if l.hi < r.hi {
+    } else if left_edge.hi < right_edge.hi {
         Parting {
-            value: l.hi + 1,
+            value: left_edge.hi + 1,
             left: left[1].to,
-            right: r.to,
+            right: right_edge.to,
         }
     } else {
         Parting {
-            value: r.hi + 1,
-            left: l.to,
+            value: right_edge.hi + 1,
+            left: left_edge.to,
             right: right[1].to,
         }
     }

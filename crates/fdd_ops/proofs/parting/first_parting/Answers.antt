@@ -29,21 +29,21 @@ loop-start-preserved c =
 
 pub overflow_add-result : goal.overflow_add-result
 overflow_add-result c =
-    omega (arith, c.if-l-r.true, most _ _ c.loop-start.right.now none c.loop-start.invariant.right_edges, few _ c.requires.inner)
+    omega (arith, c.if-left_edge-right_edge.true, most _ _ c.loop-start.right.now none c.loop-start.invariant.right_edges, few _ c.requires.inner)
 
 pub bounds-left-1 : goal.bounds-left-1
 bounds-left-1 c =
     goes_on (greatest_of (level_of c.args.store.now c.args.a.0)) _ c.loop-start.left.now none c.loop-start.invariant.left_edges
-    (omega (arith, c.if-l-r.true, most _ _ c.loop-start.right.now none c.loop-start.invariant.right_edges))
+    (omega (arith, c.if-left_edge-right_edge.true, most _ _ c.loop-start.right.now none c.loop-start.invariant.right_edges))
 
-pub overflow_add-result-else-l-r : goal.overflow_add-result-else-l-r
-overflow_add-result-else-l-r c =
-    let less = less_of _ _ _ _ c.loop-start-test.ensures (same_to _ _ c.if-ne.ensures) c.if-l-r.false in
+pub overflow_add-result-else-left_edge-right_edge : goal.overflow_add-result-else-left_edge-right_edge
+overflow_add-result-else-left_edge-right_edge c =
+    let less = less_of _ _ _ _ c.loop-start-test.ensures (same_to _ _ c.if-ne.ensures) c.if-left_edge-right_edge.false in
     omega (arith, less, most _ _ c.loop-start.left.now none c.loop-start.invariant.left_edges, few _ c.requires.inner)
 
 pub bounds-right-1 : goal.bounds-right-1
 bounds-right-1 c =
-    let less = less_of _ _ _ _ c.loop-start-test.ensures (same_to _ _ c.if-ne.ensures) c.if-l-r.false in
+    let less = less_of _ _ _ _ c.loop-start-test.ensures (same_to _ _ c.if-ne.ensures) c.if-left_edge-right_edge.false in
     goes_on (greatest_of (level_of c.args.store.now c.args.a.0)) _ c.loop-start.right.now none c.loop-start.invariant.right_edges
     (omega (arith, less, most _ _ c.loop-start.left.now none c.loop-start.invariant.left_edges))
 
@@ -52,14 +52,14 @@ returns-then-ne c =
     parting _ _ _ _ c.same_answers.ensures.store c.requires.inner c.requires.level
     (at_once _ _ _ _ c.loop-start.left.now c.loop-start.right.now none c.loop-start.invariant (other_to _ _ c.if-ne.ensures))
 
-pub returns-then-l-r : goal.returns-then-l-r
-returns-then-l-r c =
+pub returns-then-left_edge-right_edge : goal.returns-then-left_edge-right_edge
+returns-then-left_edge-right_edge c =
     parting _ _ _ _ c.same_answers.ensures.store c.requires.inner c.requires.level
-    (sooner _ _ _ _ c.loop-start.left.now c.loop-start.right.now none c.loop-start.invariant (same_to _ _ c.if-ne.ensures) c.if-l-r.true)
+    (sooner _ _ _ _ c.loop-start.left.now c.loop-start.right.now none c.loop-start.invariant (same_to _ _ c.if-ne.ensures) c.if-left_edge-right_edge.true)
 
-pub returns-else-l-r : goal.returns-else-l-r
-returns-else-l-r c =
+pub returns-else-left_edge-right_edge : goal.returns-else-left_edge-right_edge
+returns-else-left_edge-right_edge c =
     let same = same_to _ _ c.if-ne.ensures in
     parting _ _ _ _ c.same_answers.ensures.store c.requires.inner c.requires.level
     (later _ _ _ _ c.loop-start.left.now c.loop-start.right.now none c.loop-start.invariant same
-    (less_of _ _ _ _ c.loop-start-test.ensures same c.if-l-r.false))
+    (less_of _ _ _ _ c.loop-start-test.ensures same c.if-left_edge-right_edge.false))
