@@ -1,0 +1,51 @@
+//! The least header on which two diagrams differ.
+ghost use Rattle.std.specs.Prelude.{◌≡◌, ◌≢◌, ◌↔◌, ℕ, List, IfSome, IsNone};
+ghost use Rattle.field_boxes.specs.Fields.{IsHeader};
+ghost use Rattle.node_store.specs.Diagram.{level_of, answer};
+ghost use Rattle.fdd_ops.specs.Difference.{IsLeastDifference};
+
+use crate::parting::first_parting;
+use field_boxes::Header;
+use node_store::{NodeId, Store};
+
+/// The least header that two diagrams decide differently, none where they decide all headers alike.
+///
+/// Headers are ordered by the stated order of the fields, the source address first. The call takes no
+/// memory, and no more time than one pass over the edges of five pairs of nodes: two numbers of one
+/// level are two functions, so the first value that leads to different numbers begins a difference,
+/// and no step is ever taken back.
+pub fn least_difference(store: &Store, a: NodeId, b: NodeId) -> Option<Header>
+    requires left { level_of store.now a.0 ≡ 0 }
+    requires right { level_of store.now b.0 ≡ 0 }
+    ensures least { IfSome result (λ header. IsLeastDifference store.now a.0 b.0 header.values) }
+    ensures none { IsNone result ↔ ((values : List ℕ) → IsHeader values → answer store.now a.0 values ≡ answer store.now b.0 values) }
+{
+    if a == b {
+        return None;
+    }
+    Some(first_header(store, a, b))
+}
+
+/// The least header that two different diagrams decide differently.
+fn first_header(store: &Store, a: NodeId, b: NodeId) -> Header
+    requires left { level_of store.now a.0 ≡ 0 }
+    requires right { level_of store.now b.0 ≡ 0 }
+    requires differ { a.0 ≢ b.0 }
+    ensures { IsLeastDifference store.now a.0 b.0 result.values }
+{
+    store.same_answers();
+    let source = first_parting(store, a, b);
+    let destination = first_parting(store, source.left, source.right);
+    let source_port = first_parting(store, destination.left, destination.right);
+    let destination_port = first_parting(store, source_port.left, source_port.right);
+    let protocol = first_parting(store, destination_port.left, destination_port.right);
+    Header {
+        values: [
+            source.value,
+            destination.value,
+            source_port.value,
+            destination_port.value,
+            protocol.value,
+        ],
+    }
+}
