@@ -1,0 +1,10 @@
+pub mod Values
+pub mod Joined
+pub mod Shown
+pub mod LaidParts
+pub mod LaidNodes
+pub mod Kept
+pub mod BoxAnswers
+pub mod Spans
+pub mod Zeros
+pub mod Stays

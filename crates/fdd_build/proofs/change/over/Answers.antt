@@ -1,0 +1,22 @@
+use Rattle.std.proofs.Common.{◌∙◌, ap, arith}
+use Rattle.std.specs.Prelude.{cond}
+use Rattle.node_store.specs.Diagram.{answer}
+use Rattle.node_store.proofs.Made.{within}
+use Rattle.fdd_build.specs.declared.overlay.Overlay.TheVariants.{Decision}
+use Rattle.fdd_build.specs.Overlay.{shown}
+use Rattle.fdd_build.specs.Rules.{box_holds}
+use Rattle.fdd_build.proofs.Shown.{box_over}
+use Rattle.fdd_build.proofs.Stays as stays
+use Rattle.fdd_build.proofs.change.over.Goals as goal
+
+pub returns-clause-answers : goal.returns-clause-answers
+returns-clause-answers c = λ header h.
+    let old = c.args.store.now in
+    let mid = c.boxed.new.store in
+    let below = c.args.below.0 in
+    let grown = stays.then old c.of.new.store mid c.in_ok-nothing.ensures.grows c.in_ok-inside.ensures.grows in
+    let overlay = Decision c.args.decision in
+    c.in_ok-id.ensures.answers header h
+    ∙ ap (λ n. shown overlay n (answer mid below header)) (c.in_ok-inside.ensures.answers header h)
+    ∙ ap (λ n. shown overlay (cond (box_holds c.args.spans.now header) 1 0) n) (grown.answers below header (within old below (omega (arith, c.requires.below))))
+    ∙ box_over c.args.decision (answer old below header) (box_holds c.args.spans.now header)

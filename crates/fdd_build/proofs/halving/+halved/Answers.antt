@@ -1,0 +1,54 @@
+use Rattle.std.proofs.Common.{◌≡◌, ◌∙◌, ◌/◌, ap, sym, subst, arith, length, take, drop}
+use Rattle.std.specs.Prelude.{cond}
+use Rattle.std.specs.List.{list_any}
+use Rattle.std.proofs.lemmas.List.{take-append-drop}
+use Rattle.node_store.specs.declared.edge.NodeId.{NodeId}
+use Rattle.node_store.specs.Diagram.{answer}
+use Rattle.node_store.proofs.Made.{within}
+use Rattle.fdd_build.specs.declared.overlay.Overlay.TheVariants.{Answer}
+use Rattle.fdd_build.specs.Overlay.{shown}
+use Rattle.fdd_build.specs.Rules.{decided, hides}
+use Rattle.fdd_build.proofs.Joined.{joined, decides_none}
+use Rattle.fdd_build.proofs.Stays as stays
+use Rattle.fdd_build.proofs.halving.+halved.Goals as goal
+
+pub lay-requires-clause-nothing : goal.lay-requires-clause-nothing
+lay-requires-clause-nothing t c =
+    let grown = stays.then c.args.store.now c.halved.new.store c.hidden.new.store c.in_ok-upper-in_default.ensures.grows
+    (stays.then c.halved.new.store c.halved-in_default.new.store c.hidden.new.store c.in_ok-lower-in_default.ensures.grows c.in_ok-lower-in_default-2.ensures.grows) in
+    stays.all_nothing c.args.store.now c.hidden.new.store c.args.walk.now.nothing grown c.requires.nothing
+
+pub lay-requires-clause-upper : goal.lay-requires-clause-upper
+lay-requires-clause-upper t c =
+    let first = c.halved.new.store in
+    let upper = c.in_ok-upper-in_default in
+    let later = stays.then first c.halved-in_default.new.store c.hidden.new.store c.in_ok-lower-in_default.ensures.grows c.in_ok-lower-in_default-2.ensures.grows in
+    stays.level first c.hidden.new.store upper.upper.0 later (within first upper.upper.0 (omega (arith, upper.ensures.level))) ∙ upper.ensures.level
+
+pub returns-in-empty-clause-answers : goal.returns-in-empty-clause-answers
+returns-in-empty-clause-answers t c = λ header h.
+    subst (λ (n : NodeId). answer c.args.store.now n.0 header ≡ 0) (sym (c.at.ensures c.at.result)) ((c.requires.nothing 0 c.at.result (omega arith) (omega arith)).zero header h)
+    ∙ sym (decides_none header c.args.rules.now (omega (arith, c.in-empty.len_below)))
+
+pub returns-in_ok-id-in_default-clause-answers : goal.returns-in_ok-id-in_default-clause-answers
+returns-in_ok-id-in_default-clause-answers t c = λ header h.
+    let first = c.halved.new.store in
+    let second = c.halved-in_default.new.store in
+    let third = c.hidden.new.store in
+    let upper = c.in_ok-upper-in_default in
+    let lower = c.in_ok-lower-in_default in
+    let shown_lower = c.in_ok-lower-in_default-2 in
+    let rules = c.args.rules.now in
+    let front = take (length rules / 2) rules in
+    let back = drop (length rules / 2) rules in
+    let later = stays.then first second third lower.ensures.grows shown_lower.ensures.grows in
+    c.in_ok-id-in_default.ensures.answers header h
+    ∙ ap (λ o. shown o (answer third upper.upper.0 header) (answer third shown_lower.lower.0 header)) c.requires.overlay
+    ∙ ap (λ n. shown Answer n (answer third shown_lower.lower.0 header))
+    (later.answers upper.upper.0 header (within first upper.upper.0 (omega (arith, upper.ensures.level))) ∙ upper.ensures.answers header h ∙ ap (λ rs. decided rs header) c.split_at.ensures.front)
+    ∙ ap (λ n. shown Answer (decided front header) n)
+    (shown_lower.ensures.answers header h
+    ∙ ap (λ rs. cond (list_any (λ r. hides r header) rs) 0 (answer second lower.lower.0 header)) c.split_at.ensures.front
+    ∙ ap (λ n. cond (list_any (λ r. hides r header) front) 0 n) (lower.ensures.answers header h ∙ ap (λ rs. decided rs header) c.split_at.ensures.back))
+    ∙ sym (joined header front back)
+    ∙ ap (λ rs. decided rs header) (take-append-drop (length rules / 2) rules)

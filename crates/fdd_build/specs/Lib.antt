@@ -1,0 +1,5 @@
+pub mod Rules
+pub mod Overlay
+pub mod Nothing
+pub mod Laid
+pub mod Memo

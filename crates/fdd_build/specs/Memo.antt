@@ -1,0 +1,17 @@
+-- What a walk keeps of the pairs that it has been through.
+use Rattle.std.specs.Prelude.{◌≡◌, Bool, ◌&&◌, nat_eq, List, Some}
+use Rattle.std.specs.HashMap.{get}
+use Rattle.node_store.specs.declared.edge.NodeId.{NodeId}
+use Rattle.node_store.specs.Diagram.{Node}
+use Rattle.fdd_build.specs.declared.overlay.Overlay.{Overlay}
+use Rattle.fdd_build.specs.declared.pair.Pair.{Pair}
+use Rattle.fdd_build.specs.declared.memo.Memo.{Memo}
+use Rattle.fdd_build.specs.Laid.{IsLaid}
+
+-- the pairs are of the same nodes
+abbrev pub same_pair : Pair → Pair → Bool
+same_pair p q = nat_eq p.upper.0 q.upper.0 && nat_eq p.lower.0 q.lower.0
+
+-- each pair is kept with a node that the pair comes to
+abbrev pub IsMemo : Overlay → List Node → Memo → Type 0
+IsMemo overlay nodes memo = (pair : Pair) (laid : NodeId) → get same_pair memo.laid pair ≡ Some laid → IsLaid overlay nodes pair laid

@@ -1,0 +1,37 @@
+//! Decision diagrams of rule lists, and diagrams changed in one box.
+//!
+//! [`build`] gives a node that answers every header with the decision of the first rule that matches, as
+//! the firewall decision diagrams of Gouda and Liu do; [`under`] and [`over`] give one that answers as a
+//! diagram does, but for one box. All three lay one diagram over another: where the upper one answers 0,
+//! the lower one shows.
+//!
+//! Laying is one walk over pairs of nodes of one level. A pair of which one node answers 0 everywhere is
+//! known at sight. Any other pair is worked out once and kept: two leaves by their decisions, two inner
+//! nodes part by part of their field. So the cost of a walk goes by the pairs of nodes that meet, and not
+//! by the paths, of which there may be far more. `build` halves the list and lays the first half over the
+//! second, since each laying touches all that the two halves share, however small one of them is.
+//!
+//! ```text
+//! let listed = build(alloc, &mut store, &rules)?;
+//! let opened = under(alloc, &mut store, listed, &spans, 1)?;
+//! let closed = over(alloc, &mut store, &spans, 0, listed)?;
+//! ```
+//!
+//! The store only gains nodes: a number that was handed out before keeps what it answers, also where
+//! memory was refused on the way.
+#![tactic(auto)]
+
+mod boxes;
+mod change;
+mod halving;
+mod interval;
+mod memo;
+mod nothing;
+mod overlay;
+mod pair;
+#[cfg(test)]
+mod tests;
+mod walk;
+
+pub use change::{over, under};
+pub use halving::build;

@@ -1,0 +1,84 @@
+//! Worked examples, and random lists against their first match.
+mod random;
+
+ghost use Rattle.std.specs.Prelude.{◌≡◌, ◌≤◌};
+ghost use Rattle.field_boxes.specs.Spans.{AreInside};
+ghost use Rattle.node_store.specs.Diagram.{level_of};
+
+use crate::{build, over, under};
+use field_boxes::{Header, Rule, Span};
+use node_store::{NodeId, Store};
+use std::process::Abort;
+use std::test::Fail;
+
+const ADDRESSES: Span = Span {
+    lo: 0,
+    hi: 4_294_967_295,
+};
+
+const PORTS: Span = Span { lo: 0, hi: 65_535 };
+
+/// The box that is open but for the protocol.
+fn protocols(lo: u32, hi: u32) -> [Span; 5]
+    requires ordered { lo ≤ hi }
+    requires inside { hi ≤ 255 }
+    ensures { AreInside result }
+{
+    [ADDRESSES, ADDRESSES, PORTS, PORTS, Span { lo, hi }]
+}
+
+/// What the diagram answers at some protocols.
+fn expect(rt: &impl Abort, store: &Store, root: NodeId, answers: &[(u32, u32)]) -> Result<(), Fail>
+    requires { level_of store.now root.0 ≡ 0 }
+{
+    for &(protocol, answer) in answers {
+        let header = Header::new([1, 2, 3, 4, protocol]).ok_or("no header")?;
+        assert_eq!(rt; store.answer(root, &header), answer, "at {protocol}");
+    }
+    Ok(())
+}
+
+#[test]
+fn boxes_go_under_and_over(rt: HostRuntime) -> Result<(), Fail> {
+    let mut store = Store::new(rt.alloc());
+    let none = build(rt.alloc(), &mut store, &[])?;
+    expect(&rt, &store, none, &[(0, 0), (6, 0), (255, 0)])?;
+    let six = under(rt.alloc(), &mut store, none, &protocols(6, 6), 1)?;
+    let both = under(rt.alloc(), &mut store, six, &protocols(0, 255), 2)?;
+    expect(
+        &rt,
+        &store,
+        both,
+        &[(0, 2), (5, 2), (6, 1), (7, 2), (255, 2)],
+    )?;
+    let two = over(rt.alloc(), &mut store, &protocols(6, 6), 2, both)?;
+    expect(
+        &rt,
+        &store,
+        two,
+        &[(0, 2), (5, 2), (6, 2), (7, 2), (255, 2)],
+    )?;
+    let hidden = over(rt.alloc(), &mut store, &protocols(6, 17), 0, both)?;
+    expect(&rt, &store, hidden, &[(5, 2), (6, 0), (17, 0), (18, 2)])
+}
+
+#[test]
+fn a_rule_that_decides_0_hides_the_rules_after_it(rt: HostRuntime) -> Result<(), Fail> {
+    let rules = [
+        Rule {
+            spans: protocols(6, 6),
+            decision: 0,
+        },
+        Rule {
+            spans: protocols(17, 17),
+            decision: 3,
+        },
+        Rule {
+            spans: protocols(0, 255),
+            decision: 1,
+        },
+    ];
+    let mut store = Store::new(rt.alloc());
+    let root = build(rt.alloc(), &mut store, &rules)?;
+    expect(&rt, &store, root, &[(5, 1), (6, 0), (7, 1), (17, 3)])
+}

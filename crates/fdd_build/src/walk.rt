@@ -1,0 +1,163 @@
+//! One diagram laid over another, in one walk over pairs of nodes.
+
+use crate::memo::Memo;
+use crate::nothing::Nothing;
+use crate::overlay::Overlay;
+use crate::pair::Pair;
+use node_store::{Edge, NodeId, Part, Store};
+use razor_base::Memory;
+use smallvec::SmallVec;
+use std::alloc::Global;
+
+/// What a walk is about.
+#[derive(Clone, Copy)]
+pub(crate) struct Walk {
+    pub alloc: Global,
+    pub overlay: Overlay,
+    pub nothing: Nothing,
+}
+
+/// The edges of a node that comes of a pair.
+type Edges = SmallVec<Edge, 6>;
+
+impl Walk {
+    ghost use Rattle.std.specs.Prelude.{◌≡◌, ◌≤◌, ◌<◌, ℕ, suc, List, map, IfOk, IfSome, OnOk};
+    ghost use Rattle.std.specs.List.{AllZip};
+    ghost use Rattle.field_boxes.specs.Fields.{IsHeader, greatest_of};
+    ghost use Rattle.node_store.specs.Diagram.{level_of, answer};
+    ghost use Rattle.node_store.specs.Edges.{AreFull};
+    ghost use Rattle.node_store.specs.Store.{Grows, LeadTo, AreValuesFrom};
+    ghost use Rattle.node_store.specs.Split.{to_left, to_right};
+    ghost use Rattle.fdd_build.specs.Overlay.{shown};
+    ghost use Rattle.fdd_build.specs.Nothing.{IsNothing};
+    ghost use Rattle.fdd_build.specs.Laid.{AreAt, IsLaid, IsLaidPart};
+    ghost use Rattle.fdd_build.specs.Memo.{IsMemo};
+
+    /// Lays the diagram under one node over that under another.
+    pub fn lay(&self, store: &mut Store, upper: NodeId, lower: NodeId) -> Result<NodeId, Memory>
+        requires nothing { IsNothing store.old self.now.nothing }
+        requires upper { level_of store.old upper.0 ≡ 0 }
+        requires lower { level_of store.old lower.0 ≡ 0 }
+        ensures level { IfOk result (λ id. level_of store.new id.0 ≡ 0) }
+        ensures answers { IfOk result (λ id. (header : List ℕ) → IsHeader header →
+            answer store.new id.0 header ≡ shown self.now.overlay (answer store.old upper.0 header) (answer store.old lower.0 header)) }
+        ensures grows { Grows store.old store.new }
+    {
+        let mut memo = Memo::new(self.alloc);
+        let laid = self.pair(store, &mut memo, 0, Pair { upper, lower })?;
+        Ok(laid)
+    }
+
+    /// What comes of a pair of a level: known at sight, or from an earlier turn, or worked out and kept.
+    #[cycle(walk)]
+    fn pair(
+        &self,
+        store: &mut Store,
+        memo: &mut Memo,
+        level: u8,
+        pair: Pair,
+    ) -> Result<NodeId, Memory>
+        requires nothing { IsNothing store.old self.now.nothing }
+        requires memo { IsMemo self.now.overlay store.old memo.old }
+        requires level { level ≤ 5 }
+        requires pair { AreAt store.old level pair }
+        ensures laid { IfOk result (λ laid. IsLaid self.now.overlay store.new pair laid) }
+        ensures memo { IsMemo self.now.overlay store.new memo.new }
+        ensures grows { Grows store.old store.new }
+    {
+        if let Some(known) = self.at_sight(store, level, pair) {
+            return Ok(known);
+        }
+        if let Some(known) = memo.get(pair) {
+            return Ok(known);
+        }
+        let laid = self.worked_out(store, memo, level, pair)?;
+        memo.keep(pair, laid)?;
+        Ok(laid)
+    }
+
+    /// What comes of a pair of which one node answers 0 everywhere.
+    fn at_sight(&self, store: &Store, level: u8, pair: Pair) -> Option<NodeId>
+        requires nothing { IsNothing store.now self.now.nothing }
+        requires level { level ≤ 5 }
+        requires pair { AreAt store.now level pair }
+        ensures { IfSome result (λ laid. IsLaid self.now.overlay store.now pair laid) }
+    {
+        let nothing = self.nothing.at(level);
+        if pair.upper == nothing {
+            return Some(pair.lower);
+        }
+        if pair.lower == nothing && self.overlay == Overlay::Answer {
+            return Some(pair.upper);
+        }
+        None
+    }
+
+    /// What comes of two leaves.
+    fn leaf(&self, store: &mut Store, pair: Pair) -> Result<NodeId, Memory>
+        requires { AreAt store.old 5 pair }
+        ensures laid { IfOk result (λ laid. IsLaid self.now.overlay store.new pair laid) }
+        ensures grows { Grows store.old store.new }
+    {
+        let upper = store.decision(pair.upper).unwrap_or(0);
+        let lower = store.decision(pair.lower).unwrap_or(0);
+        let laid = store.leaf(self.overlay.of(upper, lower))?;
+        Ok(laid)
+    }
+
+    /// What comes of a pair: a leaf, or a node with an edge for each part of the field.
+    #[cycle(walk)]
+    fn worked_out(
+        &self,
+        store: &mut Store,
+        memo: &mut Memo,
+        level: u8,
+        pair: Pair,
+    ) -> Result<NodeId, Memory>
+        requires nothing { IsNothing store.old self.now.nothing }
+        requires memo { IsMemo self.now.overlay store.old memo.old }
+        requires level { level ≤ 5 }
+        requires pair { AreAt store.old level pair }
+        ensures laid { IfOk result (λ laid. IsLaid self.now.overlay store.new pair laid) }
+        ensures memo { IsMemo self.now.overlay store.new memo.new }
+        ensures grows { Grows store.old store.new }
+    {
+        if level == 5 {
+            return self.leaf(store, pair);
+        }
+        let parts = store.split(pair.upper, pair.lower)?;
+        let edges = self.edges(store, memo, level + 1, parts.as_slice())?;
+        let laid = store.make(level, edges.as_slice())?;
+        Ok(laid)
+    }
+
+    /// An edge for each part, to what comes of its nodes, which stand at the level.
+    #[cycle(walk)]
+    fn edges(
+        &self,
+        store: &mut Store,
+        memo: &mut Memo,
+        level: u8,
+        parts: &[Part],
+    ) -> Result<Edges, Memory>
+        requires nothing { IsNothing store.old self.now.nothing }
+        requires memo { IsMemo self.now.overlay store.old memo.old }
+        requires level { level ≤ 5 }
+        requires left { LeadTo store.old level (map to_left parts.now) }
+        requires right { LeadTo store.old level (map to_right parts.now) }
+        ensures laid { IfOk result (λ edges. AllZip (IsLaidPart self.now.overlay store.new) parts.now edges.items) }
+        ensures memo { IsMemo self.now.overlay store.new memo.new }
+        ensures grows { Grows store.old store.new }
+    {
+        let mut edges = SmallVec::new(self.alloc);
+        for part in parts {
+            let pair = Pair {
+                upper: part.left,
+                lower: part.right,
+            };
+            let to = self.pair(store, memo, level, pair)?;
+            edges.push(Edge { hi: part.hi, to })?;
+        }
+        Ok(edges)
+    }
+}
