@@ -5,13 +5,22 @@
 //! ```text
 //! razor_bench nodes 1000000
 //! razor_bench minimise 100000
+//! razor_bench build 1000 20
+//! razor_bench crossed 256 20
 //! ```
 #![tactic(auto)]
 
+mod access;
+mod build;
+mod crossed;
+mod lists;
 mod minimise;
 mod nodes;
+mod numbers;
 mod pieces;
 mod plan;
+mod rules;
+mod tally;
 #[cfg(test)]
 mod tests;
 mod work;
@@ -22,5 +31,6 @@ fn main(rt: HostRuntime) -> anyhow::Result<()> {
     match Work::of_words(&rt)? {
         Work::Nodes(count) => nodes::run(&rt, count),
         Work::Minimise(count) => minimise::run(&rt, count),
+        Work::Build { list, times } => build::run(&rt, list, times),
     }
 }

@@ -1,5 +1,6 @@
 //! What the words ask for.
 
+use crate::lists::RuleList;
 use anyhow::{Context, Result, bail};
 use std::env;
 use std::rt::Env;
@@ -11,26 +12,45 @@ pub enum Work {
     Nodes(u32),
     /// Find the cheapest prefix list of so many pieces.
     Minimise(u32),
+    /// Build the diagram of a list, so often.
+    Build { list: RuleList, times: u32 },
 }
 
 impl Work {
-    /// The work with the name and the size.
-    pub fn of(name: &str, size: &str) -> Result<Work> {
-        let size = size
-            .parse::<u32>()
-            .context(format_args!("the size {size:?}"))?;
+    /// The work with the name and the size; how often it is done counts for diagrams alone.
+    pub fn of(name: &str, size: u32, times: u32) -> Result<Work> {
         match name {
             "nodes" => Ok(Work::Nodes(size)),
             "minimise" => Ok(Work::Minimise(size)),
+            "build" => Ok(Work::Build {
+                list: RuleList::Access(size),
+                times,
+            }),
+            "crossed" => Ok(Work::Build {
+                list: RuleList::Crossed(size),
+                times,
+            }),
             _ => bail!("no work is named {name:?}"),
         }
     }
 
-    /// The work that the words after the program's name ask for.
+    /// The work that the words after the program's name ask for: a name, a size, and how often, or once.
     pub fn of_words(rt: &(impl Env + AllocGlobal)) -> Result<Work> {
         let mut words = env::args(rt)?.skip(1);
-        let name = words.next().context("nodes or minimise, and a size")?;
+        let name = words
+            .next()
+            .context("nodes, minimise, build or crossed, and a size")?;
         let size = words.next().context("a size")?;
-        Work::of(name.as_str(), size.as_str())
+        let times = match words.next() {
+            Some(word) => number(word.as_str())?,
+            None => 1,
+        };
+        Work::of(name.as_str(), number(size.as_str())?, times)
     }
+}
+
+/// The number that the word spells.
+pub fn number(word: &str) -> Result<u32> {
+    word.parse::<u32>()
+        .context(format_args!("the number {word:?}"))
 }
