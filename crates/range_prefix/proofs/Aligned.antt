@@ -71,7 +71,7 @@ high-fits width p fits splits =
     fits-from width (high_half width p) next (high_block width (width - (p.len + 1)) p.value (split_block width p fits splits))
 
 -- the value that the higher half begins with, as 32 bits compute it
-pub high-size : (width : ℕ) (p : Prefix) → FitsWidth width p → p.len < width → (1 * 2 ^ (width - (p.len + 1))) % 2 ^ 32 ≡ 2 ^ (width - (p.len + 1))
+high-size : (width : ℕ) (p : Prefix) → FitsWidth width p → p.len < width → (1 * 2 ^ (width - (p.len + 1))) % 2 ^ 32 ≡ 2 ^ (width - (p.len + 1))
 high-size width p fits splits = let wide = fits.wide in one_shl (width - (p.len + 1)) 32 (omega arith)
 
 pub high-value : (width : ℕ) (p : Prefix) → FitsWidth width p → p.len < width → Fits w32 (p.value + (1 * 2 ^ (width - (p.len + 1))) % 2 ^ 32)
