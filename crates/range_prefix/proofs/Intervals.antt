@@ -10,7 +10,7 @@ use Rattle.field_boxes.specs.Prefix.{FitsWidth}
 use Rattle.range_prefix.specs.Halves.{low_half, high_half}
 use Rattle.range_prefix.specs.Share.{SharesOut}
 use Rattle.range_prefix.specs.Shortest.{has_block, shortest_in, shortest_below}
-use Rattle.range_prefix.proofs.Aligned.{high-fits, low-fits}
+use Rattle.field_boxes.proofs.Aligned.{high-fits, low-fits}
 use Rattle.range_prefix.proofs.Blocks.{halves_in, has_block-at, has_block-from, nothing_in, whole_in}
 
 -- the values from lo to hi

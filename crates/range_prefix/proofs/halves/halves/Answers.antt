@@ -1,4 +1,4 @@
-use Rattle.range_prefix.proofs.Aligned.{high-value}
+use Rattle.field_boxes.proofs.Aligned.{high-value}
 use Rattle.range_prefix.proofs.halves.halves.Goals as goal
 
 pub overflow_add-high : goal.overflow_add-high
