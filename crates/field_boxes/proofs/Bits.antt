@@ -1,14 +1,14 @@
 -- Numbers as their bits.
-use Rattle.std.proofs.Common.{◌≡◌, ◌≢◌, ◌∷◌, ◌++◌, ℕ, zero, suc, ◌+◌, ◌*◌, ◌/◌, ◌%◌, ◌^◌, ◌<◌, List, Bool, true, false, ap, refl, sym, subst, ◌∙◌, arith, inl, inr, eq-eqb, length, take}
+use Rattle.std.proofs.Common.{◌≡◌, ◌∷◌, ◌++◌, ℕ, zero, suc, ◌+◌, ◌*◌, ◌/◌, ◌%◌, ◌^◌, ◌<◌, List, Bool, true, false, ap, refl, sym, subst, ◌∙◌, arith, inl, inr, eq-eqb, length, take}
 use Rattle.std.specs.Prelude.{nat_eq, ◌&&◌}
 use Rattle.std.proofs.lemmas.Nat.{pow_pos, shr-shr, shr_split, shr_below, field_of, mod_below}
 use Rattle.std.proofs.Math.Nat.{mod-mod}
 use Rattle.std.proofs.Math.Numerals.{one-add}
-use Rattle.std.proofs.Math.Pow.{mod-mod-pow}
-use Rattle.std.proofs.lemmas.Bool.{eqb-true, false≢true}
+use Rattle.std.proofs.lemmas.Bool.{eqb-true, ne_eqb, false≢true}
 use Rattle.std.proofs.lemmas.Bool.Decides.{eqb_tells}
 use Rattle.std.proofs.lemmas.List.{take_at}
 use Rattle.field_boxes.specs.Bits.{bits, begins}
+use Rattle.field_boxes.proofs.Powers.{mod_mod}
 
 pub length-bits : (n v : ℕ) → length (bits n v) ≡ n
 length-bits zero v = refl
@@ -23,9 +23,6 @@ bits-add (suc l) k v =
     let top : v / 2 ^ (l + k) ≡ v / 2 ^ k / 2 ^ l = ap (λ n. v / 2 ^ n) (sym c) ∙ sym (shr-shr v k l) in
     ap (λ n. bits n v) e ∙ ap (λ x. nat_eq (x % 2) 1 ∷ bits (l + k) v) top ∙ ap (λ bs. nat_eq (v / 2 ^ k / 2 ^ l % 2) 1 ∷ bs) (bits-add l k v)
 
-mod_mod : (n v : ℕ) → v % 2 ^ suc n % 2 ^ n ≡ v % 2 ^ n
-mod_mod n v = ap (λ m. v % 2 ^ m % 2 ^ n) (sym (one-add n)) ∙ mod-mod-pow v 1 n
-
 -- the bits above are not seen
 pub bits-mod : (n v : ℕ) → bits n (v % 2 ^ n) ≡ bits n v
 bits-mod zero v = refl
@@ -34,9 +31,6 @@ bits-mod (suc n) v =
     ap (λ m. v % 2 ^ m / 2 ^ n % 2) (sym (one-add n)) ∙ ap (λ x. x % 2) (field_of v 1 n) ∙ mod-mod (v / 2 ^ n) 2 in
     let low : bits n (v % 2 ^ suc n) ≡ bits n v = sym (bits-mod n (v % 2 ^ suc n)) ∙ ap (bits n) (mod_mod n v) ∙ bits-mod n v in
     ap (λ x. nat_eq x 1 ∷ bits n (v % 2 ^ suc n)) top ∙ ap (λ bs. nat_eq (v / 2 ^ n % 2) 1 ∷ bs) low
-
-ne_eqb : (a b : ℕ) → a ≢ b → nat_eq a b ≡ false
-ne_eqb a b h = elim (eqb_tells a b) [ inl t ↦ absurd (h t.1) | inr t ↦ t.0 ]
 
 nat_eq_comm : (a b : ℕ) → nat_eq a b ≡ nat_eq b a
 nat_eq_comm a b = elim (eqb_tells a b) [ inl t ↦ t.0 ∙ sym (eq-eqb b a (sym t.1)) | inr t ↦ t.0 ∙ sym (ne_eqb b a (λ e. t.1 (sym e))) ]

@@ -24,3 +24,6 @@ pub use names::decision_word;
 pub use prefix::Prefix;
 pub use rule::Rule;
 pub use span::Span;
+
+#[cfg(test)]
+mod tests;

@@ -1,7 +1,7 @@
 -- Parts of a power of two.
 use Rattle.std.proofs.Common.{◌≡◌, ℕ, zero, suc, ◌+◌, ◌-◌, ◌*◌, ◌%◌, ◌^◌, ◌<◌, ◌≤◌, arith, ap, sym, ◌∙◌}
 use Rattle.std.proofs.lemmas.Nat.{one_shl}
-use Rattle.prefix_min.proofs.Values.{double}
+use Rattle.field_boxes.proofs.Powers.{double}
 
 pub double-one : (n : ℕ) → 2 ^ (n + 1) ≡ 2 ^ n + 2 ^ n
 double-one n = ap (λ k. 2 ^ k) (let e : n + 1 ≡ suc n = omega arith in e) ∙ double n

@@ -11,7 +11,7 @@ use Rattle.field_boxes.proofs.Prefixes.{interval-prefix}
 use Rattle.prefix_min.specs.declared.row.PrefixRow.{PrefixRow}
 use Rattle.prefix_min.specs.PrefixList.{front}
 use Rattle.prefix_min.specs.Rows.{IsPart, IsInside, Nests, AreNested, ArePartRows, row_of}
-use Rattle.prefix_min.proofs.Values.{double}
+use Rattle.field_boxes.proofs.Powers.{double}
 
 both : (a b : Bool) → (a && b) ≡ true → (a ≡ true) × (b ≡ true)
 both true b h = (refl, h)

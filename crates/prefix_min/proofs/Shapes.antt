@@ -1,35 +1,19 @@
 -- Parts of the field and their halves.
-use Rattle.std.proofs.Common.{◌≡◌, ℕ, zero, suc, ◌+◌, ◌-◌, ◌*◌, ◌/◌, ◌%◌, ◌^◌, ◌<◌, ◌≤◌, List, arith, ap, sym, ◌∙◌, subst, Bor}
-use Rattle.std.proofs.lemmas.Nat.{pow_pos, shr_split, mod_low}
-use Rattle.std.proofs.Math.Numerals.{one-add}
-use Rattle.std.proofs.Math.Pow.{mod-mod-pow}
+use Rattle.std.proofs.Common.{◌≡◌, ℕ, zero, suc, ◌+◌, ◌-◌, ◌^◌, ◌<◌, ◌≤◌, List, arith, sym, subst, Bor}
+use Rattle.std.proofs.Math.Nat.{zero-mod}
 use Rattle.prefix_min.specs.declared.trie.Node.{Node, Constant, Halves'}
 use Rattle.prefix_min.specs.declared.costs.Costs.{Costs}
 use Rattle.prefix_min.specs.Costs.{IsSplit}
 use Rattle.prefix_min.specs.Trie.{StandsFor, costs_of}
 use Rattle.prefix_min.specs.Rows.{IsPart, FitsBits}
-use Rattle.prefix_min.proofs.Values.{double}
-
-zero_mod : (n : ℕ) → 0 % 2 ^ n ≡ 0
-zero_mod n = let e : 0 ≡ 0 * 2 ^ n + 0 = omega arith in ap (λ x. x % 2 ^ n) e ∙ mod_low 0 n 0 (pow_pos n)
-
-aligned_less : (n low : ℕ) → low % 2 ^ suc n ≡ 0 → low % 2 ^ n ≡ 0
-aligned_less n low h =
-    sym (ap (λ m. low % 2 ^ m % 2 ^ n) (sym (one-add n)) ∙ mod-mod-pow low 1 n) ∙ ap (λ x. x % 2 ^ n) h ∙ zero_mod n
-
-aligned_next : (n low : ℕ) → low % 2 ^ n ≡ 0 → (low + 2 ^ n) % 2 ^ n ≡ 0
-aligned_next n low h =
-    let q = low / 2 ^ n in
-    let next : (q + 1) * 2 ^ n ≡ q * 2 ^ n + 2 ^ n = grind arith in
-    let e : low + 2 ^ n ≡ (q + 1) * 2 ^ n + 0 = omega (arith, shr_split low n, h, next) in
-    ap (λ x. x % 2 ^ n) e ∙ mod_low (q + 1) n 0 (pow_pos n)
+use Rattle.field_boxes.proofs.Powers.{aligned_high, aligned_low, double}
 
 low_half : (width n low : ℕ) → IsPart width (suc n) low → IsPart width n low
 low_half width n low p = record {
   wide = p.wide;
   len = omega (arith, p.len);
   within = omega (arith, p.within, double n);
-  aligned = aligned_less n low p.aligned;
+  aligned = aligned_low n low p.aligned;
 }
 
 high_half : (width n low : ℕ) → IsPart width (suc n) low → IsPart width n (low + 2 ^ n)
@@ -37,7 +21,7 @@ high_half width n low p = record {
   wide = p.wide;
   len = omega (arith, p.len);
   within = omega (arith, p.within, double n);
-  aligned = aligned_next n low (aligned_less n low p.aligned);
+  aligned = aligned_high n low p.aligned;
 }
 
 less_one : (n : ℕ) → suc n - 1 ≡ n
@@ -71,4 +55,4 @@ stands-fits weights f (suc n) low (Halves' c p lower q upper) s =
 
 -- the whole field is a part of itself
 pub field-part : (width : ℕ) → width ≤ 32 → IsPart width width 0
-field-part width le = record { wide = le; len = omega arith; within = omega arith; aligned = zero_mod width }
+field-part width le = record { wide = le; len = omega arith; within = omega arith; aligned = zero-mod (2 ^ width) }

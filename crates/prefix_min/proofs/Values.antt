@@ -2,9 +2,9 @@
 use Rattle.std.proofs.Common.{◌≡◌, ◌∷◌, ℕ, zero, suc, List, [], ◌+◌, ◌*◌, ◌%◌, ◌^◌, ◌<◌, ◌≤◌, Bool, true, false, refl, ap, arith, sym, ◌∙◌, length}
 use Rattle.std.specs.Prelude.{nat_eq}
 use Rattle.std.proofs.lemmas.Nat.{pow_pos, shr_high, mod_low}
-use Rattle.std.proofs.Math.Nat.{pow-suc}
 use Rattle.field_boxes.specs.Bits.{bits}
 use Rattle.field_boxes.proofs.Bits.{bits-mod}
+use Rattle.field_boxes.proofs.Powers.{double}
 
 -- the value with these lowest bits, in the part of n bits from low on
 abbrev pub value : ℕ → ℕ → List Bool → ℕ
@@ -12,10 +12,6 @@ value zero low b = low
 value (suc n) low [] = low
 value (suc n) low (true ∷ b) = value n (low + 2 ^ n) b
 value (suc n) low (false ∷ b) = value n low b
-
--- twice a power
-pub double : (n : ℕ) → 2 ^ suc n ≡ 2 ^ n + 2 ^ n
-double n = rw (pow-suc 2 n) (omega arith)
 
 pub value-low : (n low : ℕ) (b : List Bool) → low ≤ value n low b
 value-low zero low b = omega arith

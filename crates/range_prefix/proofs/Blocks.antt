@@ -4,7 +4,7 @@ use Rattle.std.specs.Prelude.{◌&&◌, if◌then◌else◌}
 use Rattle.std.proofs.lemmas.Nat.{pow_pos}
 use Rattle.std.proofs.lemmas.Bool.{and_parts, false≢true}
 use Rattle.range_prefix.specs.Shortest.{has_block, block_prefix, shortest_in}
-use Rattle.range_prefix.proofs.Powers.{on_block, on_low, on_high}
+use Rattle.field_boxes.proofs.Powers.{on_block, on_low, on_high}
 
 and_both : (a b : Bool) → a ≡ true → b ≡ true → (a && b) ≡ true
 and_both true b h k = k

@@ -13,8 +13,8 @@ use Rattle.field_boxes.specs.Prefix.{FitsWidth, prefix_holds}
 use Rattle.field_boxes.proofs.Prefixes.{interval-prefix}
 use Rattle.range_prefix.specs.Cover.{IsApart}
 use Rattle.range_prefix.specs.Shortest.{has_block, block_prefix, shortest_in}
-use Rattle.range_prefix.proofs.Powers.{double, on_block}
-use Rattle.range_prefix.proofs.Aligned.{IsBlock, block-fits, high_block, low_block}
+use Rattle.field_boxes.proofs.Powers.{double, on_block}
+use Rattle.field_boxes.proofs.Aligned.{IsBlock, block-fits, high_block, low_block}
 use Rattle.range_prefix.proofs.Blocks.{has_block-at}
 
 -- the value after the last that a prefix holds

@@ -2,10 +2,11 @@
 use Rattle.std.proofs.Common.{◌≡◌, ◌∷◌, ◌++◌, ℕ, zero, suc, ◌+◌, ◌-◌, ◌*◌, ◌^◌, ◌<◌, ◌≤◌, List, [], Bool, true, false, ap, arith, inl, inr, length, max}
 use Rattle.std.specs.Prelude.{◌&&◌, if◌then◌else◌}
 use Rattle.std.proofs.lemmas.Nat.{pow_pos}
+use Rattle.std.proofs.lemmas.Bool.{cases_lt}
 use Rattle.std.proofs.lemmas.List.{length-append}
 use Rattle.field_boxes.specs.declared.prefix.Prefix.{Prefix}
 use Rattle.range_prefix.specs.Shortest.{has_block, block_prefix, shortest_cover, shortest_in}
-use Rattle.range_prefix.proofs.Powers.{double, le_or_above}
+use Rattle.field_boxes.proofs.Powers.{double}
 use Rattle.range_prefix.proofs.Blocks.{whole_in}
 use Rattle.range_prefix.proofs.Intervals.{inside, has-whole, missed-above, missed-below}
 
@@ -51,9 +52,9 @@ from_before width lo hi zero v h = two_values width lo hi v
 from_before width lo hi (suc n) v h =
     let low = from_before width lo hi n v h in
     let high = from_before width lo hi n (v + 2 ^ suc n) (omega arith) in
-    elim (le_or_above (v + 2 ^ suc n) hi) [
-      | inl over ↦ let whole = one_whole width lo hi (suc n) v h (omega arith) in halves_many width lo hi (suc n) v (suc (suc n)) (omega arith) (omega arith)
-      | inr short ↦ let none = none-above width lo hi (suc n) (v + 2 ^ suc n) short in halves_many width lo hi (suc n) v (suc (suc n)) (omega arith) (omega arith)
+    elim (cases_lt hi (v + 2 ^ suc n)) [
+      | inr over ↦ let whole = one_whole width lo hi (suc n) v h (omega arith) in halves_many width lo hi (suc n) v (suc (suc n)) (omega arith) (omega arith)
+      | inl short ↦ let none = none-above width lo hi (suc n) (v + 2 ^ suc n) short in halves_many width lo hi (suc n) v (suc (suc n)) (omega arith) (omega arith)
     ]
 
 -- an interval up to after a block
@@ -63,20 +64,20 @@ to_after width lo hi (suc n) v h =
     let twice = double (suc n) in
     let low = to_after width lo hi n v (omega arith) in
     let high = to_after width lo hi n (v + 2 ^ suc n) (omega arith) in
-    elim (le_or_above (v + 2 ^ suc n) lo) [
-      | inl late ↦ let none = none-below width lo hi (suc n) v late in halves_many width lo hi (suc n) v (suc (suc n)) (omega arith) (omega arith)
-      | inr over ↦
+    elim (cases_lt lo (v + 2 ^ suc n)) [
+      | inr late ↦ let none = none-below width lo hi (suc n) v late in halves_many width lo hi (suc n) v (suc (suc n)) (omega arith) (omega arith)
+      | inl over ↦
           let whole = one_whole width lo hi (suc n) (v + 2 ^ suc n) (omega arith) (omega arith) in halves_many width lo hi (suc n) v (suc (suc n)) (omega arith) (omega arith)
     ]
 
 crossing : (width lo hi n v : ℕ) → many width lo hi (suc n) v ≤ 2 * suc n → many width lo hi (suc n) (v + 2 ^ suc n) ≤ 2 * suc n → many width lo hi (suc (suc n)) v ≤ 2 * suc n
 crossing width lo hi n v low high =
-    elim (le_or_above (v + 2 ^ suc n) hi) [
-      | inr short ↦ let none = none-above width lo hi (suc n) (v + 2 ^ suc n) short in halves_many width lo hi (suc n) v (2 * suc n) (omega arith) (omega arith)
-      | inl over ↦
-          elim (le_or_above (v + 2 ^ suc n) lo) [
-            | inl late ↦ let none = none-below width lo hi (suc n) v late in halves_many width lo hi (suc n) v (2 * suc n) (omega arith) (omega arith)
-            | inr early ↦
+    elim (cases_lt hi (v + 2 ^ suc n)) [
+      | inl short ↦ let none = none-above width lo hi (suc n) (v + 2 ^ suc n) short in halves_many width lo hi (suc n) v (2 * suc n) (omega arith) (omega arith)
+      | inr over ↦
+          elim (cases_lt lo (v + 2 ^ suc n)) [
+            | inr late ↦ let none = none-below width lo hi (suc n) v late in halves_many width lo hi (suc n) v (2 * suc n) (omega arith) (omega arith)
+            | inl early ↦
                 let left = to_after width lo hi n v (omega arith) in
                 let right = from_before width lo hi n (v + 2 ^ suc n) (omega arith) in
                 halves_many width lo hi (suc n) v (2 * suc n) (omega arith) (omega arith)

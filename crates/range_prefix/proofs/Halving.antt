@@ -4,7 +4,7 @@ use Rattle.std.specs.List.{list_any}
 use Rattle.field_boxes.specs.Prefix.{prefix_holds}
 use Rattle.range_prefix.specs.Cover.{IsShortestCover}
 use Rattle.range_prefix.specs.Shortest.{shortest_below, shortest_cover, shortest_in}
-use Rattle.range_prefix.proofs.Aligned.{field_block}
+use Rattle.field_boxes.proofs.Aligned.{field_block}
 use Rattle.range_prefix.proofs.Chains.{chain-apart, chain-fit, chain-in, chain-rising, exact-in}
 use Rattle.range_prefix.proofs.Shortest.{least}
 

@@ -10,6 +10,7 @@ use Rattle.field_boxes.specs.Prefix.{FitsWidth}
 use Rattle.range_prefix.specs.Halves.{low_half, high_half}
 use Rattle.range_prefix.specs.Share.{SharesOut}
 use Rattle.range_prefix.specs.Shortest.{has_block, shortest_in, shortest_below}
+use Rattle.field_boxes.proofs.Aligned.{high-fits, low-fits}
 use Rattle.range_prefix.proofs.Blocks.{halves_in, has_block-at, has_block-from, nothing_in, whole_in}
 
 -- the values from lo to hi
@@ -71,14 +72,14 @@ halved width set p splits =
     let e : suc (width - (p.len + 1)) ≡ width - p.len = omega arith in
     subst (λ m. has_block set m p.value ≡ false → shortest_in width set m p.value ≡ shortest_in width set n p.value ++ shortest_in width set n (p.value + 2 ^ n)) e (halves_in width set n p.value)
 
-pub shares-out : (width : ℕ) (set : ℕ → Bool) (p low high : Prefix) → low ≡ low_half p → high ≡ high_half width p → FitsWidth width low → FitsWidth width high →
+pub shares-out : (width : ℕ) (set : ℕ → Bool) (p low high : Prefix) → low ≡ low_half p → high ≡ high_half width p → FitsWidth width p →
     p.len < width → has_block set (width - p.len) p.value ≡ false → SharesOut width set p low high
-shares-out width set p low high low_is high_is low_fits high_fits splits part =
+shares-out width set p low high low_is high_is fits splits part =
     let low_len = ap (λ q. q.len) low_is in
     let high_len = ap (λ q. q.len) high_is in
     record {
-      low_fits = low_fits;
-      high_fits = high_fits;
+      low_fits = subst (FitsWidth width) (sym low_is) (low-fits width p fits splits);
+      high_fits = subst (FitsWidth width) (sym high_is) (high-fits width p fits splits);
       low_longer = omega arith;
       high_longer = omega arith;
       joined =

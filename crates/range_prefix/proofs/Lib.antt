@@ -1,6 +1,4 @@
-pub mod Powers
 pub mod Blocks
-pub mod Aligned
 pub mod Chains
 pub mod Shortest
 pub mod Halving

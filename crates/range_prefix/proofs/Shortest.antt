@@ -15,7 +15,7 @@ use Rattle.field_boxes.proofs.Bits.{bits-mod, prefix-begins}
 use Rattle.field_boxes.proofs.Halves.{Row, IsRootless, front, front-half, half, is_root, weight-halves}
 use Rattle.range_prefix.specs.Cover.{HoldExactly}
 use Rattle.range_prefix.specs.Shortest.{has_block, block_prefix, shortest_in}
-use Rattle.range_prefix.proofs.Powers.{double}
+use Rattle.field_boxes.proofs.Powers.{double}
 use Rattle.range_prefix.proofs.Blocks.{has_block-at, has_block-from}
 
 -- the bits of a value of the lower half of a block, and of the higher

@@ -10,8 +10,6 @@ pub(crate) fn halves(prefix: Prefix, width: u8) -> (Prefix, Prefix)
     requires splits { prefix.len < width }
     ensures low { result.0 ≡ low_half prefix }
     ensures high { result.1 ≡ high_half width prefix }
-    ensures low_fits { FitsWidth width result.0 }
-    ensures high_fits { FitsWidth width result.1 }
 {
     let len = prefix.len + 1;
     let size = 1u32 << (width - len);

@@ -2,10 +2,13 @@
 //!
 //! Ternary words can't hold an interval of a field, only prefixes. [`cover`] gives the fewest prefixes
 //! that hold exactly a span's values, in rising order; [`cover_count`] says how many these are, and takes
-//! no memory. Both begin with the whole field and halve: a block that the span misses needs no prefix, a
-//! block inside the span is one prefix, and any other block needs what its halves need. Of the blocks of
-//! one size only the two at the ends of the span are halved, so a field of `width` bits takes no more
-//! than about `4 * width` steps.
+//! no memory. Both begin with the whole field: a block that the span misses needs no prefix, a block
+//! inside the span is one prefix, and any other block is halved and needs what its halves need.
+//!
+//! A field of `width` bits takes at most `2 * width` turns. A turn looks at both halves of one block, and
+//! there is one only for a block that is halved. The span has some value of such a block and lacks
+//! another, so an end of the span lies in the block: of the blocks of one size at most two are halved. A
+//! single value is never halved, and `width` sizes are larger.
 //!
 //! No list of prefixes does with fewer, even if its prefixes may overlap. [`laws`] has this for any set
 //! of values.

@@ -1,3 +1,5 @@
+ghost use Rattle.std.specs.Prelude.{◌≤◌, ◌<◌, ◌⊎◌};
+ghost use Rattle.std.specs.Bool.{OnTrue, OnFalse};
 ghost use Rattle.field_boxes.specs.Prefix.{FitsWidth};
 ghost use Rattle.range_prefix.specs.Cover.{values_of};
 
@@ -22,13 +24,29 @@ impl Share {
         ensures { IsShare width (values_of span) prefix result }
     {
         let block = prefix.span(width);
-        if block.hi < span.lo || span.hi < block.lo {
+        if misses(span, block) {
             return Share::Nothing;
         }
-        if span.lo <= block.lo && block.hi <= span.hi {
+        if has_whole(span, block) {
             return Share::Whole;
         }
         let (low, high) = halves(prefix, width);
         Share::Halves(low, high)
     }
+}
+
+/// Whether the span has no value of the block.
+fn misses(span: Span, block: Span) -> bool
+    ensures yes { OnTrue result ((block.hi < span.lo) ⊎ (span.hi < block.lo)) }
+    ensures no { OnFalse result ((span.lo ≤ block.hi) × (block.lo ≤ span.hi)) }
+{
+    block.hi < span.lo || span.hi < block.lo
+}
+
+/// Whether the span has each value of the block.
+fn has_whole(span: Span, block: Span) -> bool
+    ensures yes { OnTrue result ((span.lo ≤ block.lo) × (block.hi ≤ span.hi)) }
+    ensures no { OnFalse result ((block.lo < span.lo) ⊎ (span.hi < block.hi)) }
+{
+    span.lo <= block.lo && block.hi <= span.hi
 }

@@ -1,8 +1,8 @@
 -- A text cut at its first separator, and the lines of a text.
-use Rattle.std.proofs.Common.{◌≡◌, ◌≢◌, ◌∷◌, ℕ, suc, ◌+◌, ◌<◌, ◌≤◌, List, Bool, true, false, cond, [], ap, refl, ◌∙◌, arith, length, take, drop, add-one, Some, None, nat_lt}
+use Rattle.std.proofs.Common.{◌≡◌, ◌≢◌, ◌∷◌, ℕ, suc, ◌+◌, ◌<◌, ◌≤◌, List, Bool, true, false, cond, [], ap, refl, sym, ◌∙◌, arith, length, take, drop, add-one, Some, None, nat_lt}
 use Rattle.std.specs.Prelude.{position, Option, option_map, not, nat_eq, MatchOption}
 use Rattle.std.specs.List.{position_or_len}
-use Rattle.std.proofs.lemmas.Bool.{ltb-true, ltb-false, lt-ltb, le-ltb}
+use Rattle.std.proofs.lemmas.Bool.{false≢true, ltb-true, ltb-false, lt-ltb, le-ltb}
 use Rattle.std.proofs.lemmas.Bool.Decides.{nat_tests}
 use Rattle.razor_core.specs.Steps.{split_once}
 use Rattle.razor_core.specs.ThinList.{lines_of, onto_first}
@@ -52,3 +52,7 @@ cut_step b bs false (Some p) e h = rw e (ap (onto_first b) h)
 pub cuts_line : (text : List ℕ) → CutsLine text (split_once 10 text)
 cuts_line [] = λ some. absurd (some refl)
 cuts_line (b ∷ bs) = rw (split_once-cons 10 b bs) (cut_step b bs (nat_eq b 10) (split_once 10 bs) refl (cuts_line bs))
+
+-- a text that doesn't test as empty has a byte
+pub has_byte : (text : List ℕ) → nat_eq (length text) 0 ≡ false → text ≢ []
+has_byte text h e = false≢true (sym h ∙ ap (λ (t : List ℕ). nat_eq (length t) 0) e)

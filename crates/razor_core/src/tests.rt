@@ -1,6 +1,5 @@
 mod faults;
 mod limits;
-mod values;
 
 use crate::{Words, razor};
 use razor_base::{MemDesk, MemSink};

@@ -6,7 +6,7 @@ use Rattle.range_prefix.proofs.Halving.{is-shortest, whole_field}
 use Rattle.range_prefix.proofs.counting.cover_count.Goals as goal
 
 pub returns-clause-value : goal.returns-clause-value
-returns-clause-value c = c.count_below.ensures.value ∙ ap length (whole_field c.args.width (values_of c.args.span))
+returns-clause-value c = c.count_below.ensures ∙ ap length (whole_field c.args.width (values_of c.args.span))
 
 pub returns-clause-shortest : goal.returns-clause-shortest
 returns-clause-shortest c =

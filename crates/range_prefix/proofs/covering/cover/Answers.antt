@@ -1,15 +1,10 @@
-use Rattle.std.proofs.Common.{◌++◌, ◌∙◌, ap, subst, sym}
-use Rattle.field_boxes.specs.declared.prefix.Prefix.{Prefix}
+use Rattle.std.proofs.Common.{◌∙◌, subst, sym}
 use Rattle.range_prefix.specs.Cover.{IsShortestCover, values_of}
-use Rattle.range_prefix.specs.Shortest.{shortest_below}
 use Rattle.range_prefix.proofs.Halving.{is-shortest, whole_field}
 use Rattle.range_prefix.proofs.covering.cover.Goals as goal
 
 pub returns-clause-value : goal.returns-clause-value
-returns-clause-value c =
-    let set = values_of c.args.span in
-    let field : Prefix = record { value = 0; len = 0 } in
-    c.in_ok-cover_below.ensures ∙ ap (λ ps. ps ++ shortest_below c.args.width set field) c.new-prefixes.ensures.items ∙ whole_field c.args.width set
+returns-clause-value c = c.in_ok-prefixes.ensures ∙ whole_field c.args.width (values_of c.args.span)
 
 pub returns-clause-shortest : goal.returns-clause-shortest
 returns-clause-shortest c =

@@ -6,11 +6,9 @@ use Rattle.razor_core.specs.declared.list.NumberedRule.{NumberedRule}
 use Rattle.razor_core.specs.declared.reason.Reason.{Reason}
 use Rattle.razor_core.specs.Numbered.{named_rules}
 use Rattle.razor_core.specs.ThinViews.{line_rule}
+use Rattle.razor_core.proofs.Cuts.{has_byte}
 use Rattle.razor_core.proofs.Seen.{too_many, by_rule, one_more}
 use Rattle.razor_core.proofs.line.take_line.Goals as goal
-
-has_byte : (text : List ℕ) → eqb (length text) 0 ≡ false → text ≢ []
-has_byte text h e = false≢true (sym h ∙ ap (λ (t : List ℕ). eqb (length t) 0) e)
 
 pub returns-then-len-eq-MOST_RULES-clause-read : goal.returns-then-len-eq-MOST_RULES-clause-read
 returns-then-len-eq-MOST_RULES-clause-read c =

@@ -2,14 +2,11 @@ use Rattle.std.proofs.Common.{◌≡◌, ◌≢◌, [], ◌-◌, ℕ, List, leng
 use Rattle.std.proofs.Common.{false}
 use Rattle.std.proofs.lemmas.Grind.{common_steps}
 use Rattle.std.proofs.lemmas.Bool.{false≢true}
-use Rattle.razor_core.proofs.Cuts.{CutsLine, cuts_line}
+use Rattle.razor_core.proofs.Cuts.{CutsLine, cuts_line, has_byte}
 use Rattle.razor_core.proofs.lines.next_line.Goals as goal
 
 nothing_after : (text : List ℕ) → take (length text - length text) (drop (length text) text) ≡ []
 nothing_after text = grind (arith, common_steps)
-
-has_byte : (text : List ℕ) → eqb (length text) 0 ≡ false → text ≢ []
-has_byte text h e = false≢true (sym h ∙ ap (λ (t : List ℕ). eqb (length t) 0) e)
 
 pub returns-in-Some-clause-line : goal.returns-in-Some-clause-line
 returns-in-Some-clause-line c = subst (CutsLine c.args.text.now) (sym c.in-Some.ensures) (cuts_line c.args.text.now)

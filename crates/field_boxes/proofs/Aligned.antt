@@ -7,9 +7,7 @@ use Rattle.std.proofs.lemmas.Nat.{one_shl, pow_pos}
 use Rattle.field_boxes.specs.declared.prefix.Prefix.{Prefix}
 use Rattle.field_boxes.specs.Prefix.{FitsWidth}
 use Rattle.field_boxes.proofs.Prefixes.{whole_step_within}
-use Rattle.range_prefix.specs.Halves.{low_half, high_half}
-use Rattle.range_prefix.specs.Shortest.{block_prefix}
-use Rattle.range_prefix.proofs.Powers.{double, aligned_low, aligned_high}
+use Rattle.field_boxes.proofs.Powers.{double, aligned_low, aligned_high}
 
 -- an aligned block of a field
 pub record IsBlock (width n v : ℕ) : Type 0 where
@@ -32,7 +30,7 @@ high_block width n v b =
     let below = b.below in
     record { wide = b.wide; least = omega arith; below = omega arith; aligned = aligned_high n v b.aligned }
 
-pub block-fits : (width n v : ℕ) → IsBlock width n v → FitsWidth width (block_prefix width n v)
+pub block-fits : (width n v : ℕ) → IsBlock width n v → FitsWidth width (record { value = v; len = width - n })
 block-fits width n v b =
     let least = b.least in
     let below = b.below in
@@ -60,18 +58,18 @@ split_block width p fits splits =
     let e : width - p.len ≡ suc (width - (p.len + 1)) = omega arith in
     subst (λ n. IsBlock width n p.value) e (block_of width p fits)
 
-pub low-fits : (width : ℕ) (p : Prefix) → FitsWidth width p → p.len < width → FitsWidth width (low_half p)
+pub low-fits : (width : ℕ) (p : Prefix) → FitsWidth width p → p.len < width → FitsWidth width (record { value = p.value; len = p.len + 1 })
 low-fits width p fits splits =
     let next : p.len + 1 ≤ width = omega arith in
-    fits-from width (low_half p) next (low_block width (width - (p.len + 1)) p.value (split_block width p fits splits))
+    fits-from width (record { value = p.value; len = p.len + 1 }) next (low_block width (width - (p.len + 1)) p.value (split_block width p fits splits))
 
-pub high-fits : (width : ℕ) (p : Prefix) → FitsWidth width p → p.len < width → FitsWidth width (high_half width p)
+pub high-fits : (width : ℕ) (p : Prefix) → FitsWidth width p → p.len < width → FitsWidth width (record { value = p.value + 2 ^ (width - (p.len + 1)); len = p.len + 1 })
 high-fits width p fits splits =
     let next : p.len + 1 ≤ width = omega arith in
-    fits-from width (high_half width p) next (high_block width (width - (p.len + 1)) p.value (split_block width p fits splits))
+    fits-from width (record { value = p.value + 2 ^ (width - (p.len + 1)); len = p.len + 1 }) next (high_block width (width - (p.len + 1)) p.value (split_block width p fits splits))
 
 -- the value that the higher half begins with, as 32 bits compute it
-pub high-size : (width : ℕ) (p : Prefix) → FitsWidth width p → p.len < width → (1 * 2 ^ (width - (p.len + 1))) % 2 ^ 32 ≡ 2 ^ (width - (p.len + 1))
+high-size : (width : ℕ) (p : Prefix) → FitsWidth width p → p.len < width → (1 * 2 ^ (width - (p.len + 1))) % 2 ^ 32 ≡ 2 ^ (width - (p.len + 1))
 high-size width p fits splits = let wide = fits.wide in one_shl (width - (p.len + 1)) 32 (omega arith)
 
 pub high-value : (width : ℕ) (p : Prefix) → FitsWidth width p → p.len < width → Fits w32 (p.value + (1 * 2 ^ (width - (p.len + 1))) % 2 ^ 32)

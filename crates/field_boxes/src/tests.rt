@@ -1,4 +1,4 @@
-use field_boxes::{Decisions, Header, Prefix, Rule, Span, decision_word, first, greatest};
+use crate::{Decisions, Header, Prefix, Rule, Span, decision_word, first, greatest};
 use std::test::Fail;
 
 #[test]
