@@ -5,7 +5,6 @@ ghost use Rattle.field_boxes.specs.Fields.{IsHeader};
 ghost use Rattle.node_store.specs.Diagram.{level_of, answer};
 ghost use Rattle.node_store.specs.Store.{Grows};
 ghost use Rattle.fdd_build.specs.Nothing.{IsNothing};
-ghost use Rattle.fdd_build.specs.Overlay.{shown};
 ghost use Rattle.fdd_build.specs.declared.overlay.Overlay.TheVariants.{Answer};
 ghost use Rattle.fdd_build.specs.Rules.{decided, hides};
 
@@ -22,7 +21,7 @@ use std::alloc::Global;
 /// The diagram that answers the decision of the first rule that matches, or 0 where none does.
 ///
 /// The list is halved, and the diagram of the first half is laid over that of the second. A rule may
-/// decide 0; it hides the rules after it.
+/// decide 0; it hides the rules after it, and costs a walk of its own at each halving.
 ///
 /// The store keeps what all its numbers mean, and may have gained nodes, also after a refusal of memory.
 pub fn build(alloc: Global, store: &mut Store, rules: &[Rule]) -> Result<NodeId, Memory>

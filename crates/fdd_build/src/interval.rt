@@ -1,5 +1,5 @@
 //! A node that leads elsewhere in one interval of its field.
-ghost use Rattle.std.specs.Prelude.{◌≡◌, ◌≤◌, ◌<◌, ℕ, suc, List, ◌∷◌, nat_le, if◌then◌else◌, IfOk, OnOk};
+ghost use Rattle.std.specs.Prelude.{◌≡◌, ◌≤◌, ◌<◌, ℕ, suc, List, ◌∷◌, nat_le, if◌then◌else◌, IfOk};
 ghost use Rattle.field_boxes.specs.Fields.{greatest_of};
 ghost use Rattle.field_boxes.specs.Classifier.{interval_holds};
 ghost use Rattle.field_boxes.specs.Spans.{interval_of};

@@ -21,12 +21,11 @@ pub(crate) struct Walk {
 type Edges = SmallVec<Edge, 6>;
 
 impl Walk {
-    ghost use Rattle.std.specs.Prelude.{◌≡◌, ◌≤◌, ◌<◌, ℕ, suc, List, map, IfOk, IfSome, OnOk};
+    ghost use Rattle.std.specs.Prelude.{◌≡◌, ◌≤◌, ℕ, List, map, IfOk, IfSome};
     ghost use Rattle.std.specs.List.{AllZip};
-    ghost use Rattle.field_boxes.specs.Fields.{IsHeader, greatest_of};
+    ghost use Rattle.field_boxes.specs.Fields.{IsHeader};
     ghost use Rattle.node_store.specs.Diagram.{level_of, answer};
-    ghost use Rattle.node_store.specs.Edges.{AreFull};
-    ghost use Rattle.node_store.specs.Store.{Grows, LeadTo, AreValuesFrom};
+    ghost use Rattle.node_store.specs.Store.{Grows, LeadTo};
     ghost use Rattle.node_store.specs.Split.{to_left, to_right};
     ghost use Rattle.fdd_build.specs.Overlay.{shown};
     ghost use Rattle.fdd_build.specs.Nothing.{IsNothing};
