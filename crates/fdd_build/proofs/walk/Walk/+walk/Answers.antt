@@ -89,3 +89,11 @@ worked_out-returns-clause-laid t c =
 pub worked_out-returns-clause-memo : goal.worked_out-returns-clause-memo
 worked_out-returns-clause-memo t c =
     stays.memo c.args.self.now.overlay c.edges.new.store c.make.new.self c.edges.new.memo c.make.ensures.grows c.in_ok-edges.ensures.memo
+
+pub pair-returns-in_err-keep-clause-memo : goal.pair-returns-in_err-keep-clause-memo
+pair-returns-in_err-keep-clause-memo t c =
+    c.keep.ensures.memo c.args.self.now.overlay c.worked_out.new.store c.in_ok-laid.ensures.memo c.in_ok-laid.ensures.laid
+
+pub pair-returns-clause-memo : goal.pair-returns-clause-memo
+pair-returns-clause-memo t c =
+    c.keep.ensures.memo c.args.self.now.overlay c.worked_out.new.store c.in_ok-laid.ensures.memo c.in_ok-laid.ensures.laid
