@@ -7,6 +7,7 @@ use crate::numbers::Numbers;
 use crate::plan::{Plan, Protocols};
 use crate::tally::Tally;
 use crate::work::{Work, number};
+use fdd_build::build;
 use node_store::Store;
 use std::test::Fail;
 
@@ -112,6 +113,18 @@ fn fields_that_cross_share_their_nodes(rt: HostRuntime) -> Result<(), Fail> {
     let tally = Tally::of(rt.alloc(), &rules)?;
     assert_eq!(rt; tally.reached, 11);
     assert_eq!(rt; tally.checksum, 7_793_344_185_359_720_737);
+    Ok(())
+}
+
+#[test]
+fn rules_of_one_decision_may_change_places(rt: HostRuntime) -> Result<(), Fail> {
+    let mut rules = RuleList::Crossed(256).rules(rt.alloc())?;
+    let mut store = Store::new(rt.alloc());
+    let root = build(rt.alloc(), &mut store, &rules)?;
+    if let Some((_accepts, denies)) = rules.split_last_mut() {
+        denies.reverse();
+    }
+    assert_eq!(rt; build(rt.alloc(), &mut store, &rules)?, root);
     Ok(())
 }
 
