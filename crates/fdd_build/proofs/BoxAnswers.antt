@@ -1,8 +1,9 @@
 -- What a box's diagram answers, field by field.
 use Rattle.std.proofs.Common.{◌≡◌, ℕ, List, [], ◌∷◌, ◌<◌, ◌∙◌, refl, ap, arith, length, drop, sym}
-use Rattle.std.specs.Prelude.{suc, zero, Bool, true, false, ◌&&◌, ◌||◌, cond, map, slice_get, slice_index_or, unwrap_or, option_map, Some}
+use Rattle.std.specs.Prelude.{suc, zero, Bool, true, false, ◌&&◌, cond, slice_index_or, unwrap_or, option_map}
 use Rattle.std.specs.List.{list_any}
-use Rattle.std.proofs.lemmas.Option.{slice_get-get_or}
+use Rattle.std.proofs.lemmas.Option.{slice_get-get_or, slice_get-map}
+use Rattle.std.proofs.Math.Bool.{or-false}
 use Rattle.field_boxes.specs.declared.span.Span.{Span}
 use Rattle.field_boxes.specs.Fields.{stated}
 use Rattle.field_boxes.specs.Classifier.{interval_holds, set_holds, matches}
@@ -18,21 +19,12 @@ stated_from (suc (suc (suc zero))) h = refl
 stated_from (suc (suc (suc (suc zero)))) h = refl
 stated_from (suc (suc (suc (suc (suc n))))) h = absurd (omega (arith, h))
 
-or_false : (b : Bool) → (b || false) ≡ b
-or_false true = refl
-or_false false = refl
-
-mapped : (spans : List Span) (k : ℕ) (s : Span) → slice_get spans k ≡ Some s → slice_get (map (λ (t : Span). interval_of t ∷ []) spans) k ≡ Some (interval_of s ∷ [])
-mapped [] k s h = cc
-mapped (t ∷ spans) zero s h = ap (option_map (λ (x : Span). interval_of x ∷ [])) h
-mapped (t ∷ spans) (suc k) s h = mapped spans k s h
-
 -- the box holds a value of a field where the field's span does
 pub box_set : (spans : List Span) (field v : ℕ) (d : Span) → field < length spans →
     set_holds field v (box_rule spans) ≡ interval_holds v (interval_of (slice_index_or spans field d))
 box_set spans field v d h =
-    ap (λ o. list_any (interval_holds v) (unwrap_or o [])) (mapped spans field (slice_index_or spans field d) (slice_get-get_or spans field d h))
-    ∙ or_false (interval_holds v (interval_of (slice_index_or spans field d)))
+    ap (λ o. list_any (interval_holds v) (unwrap_or o [])) (slice_get-map (λ (s : Span). interval_of s ∷ []) spans field ∙ ap (option_map (λ (s : Span). interval_of s ∷ [])) (slice_get-get_or spans field d h))
+    ∙ or-false (interval_holds v (interval_of (slice_index_or spans field d)))
 
 pub box_step : (spans : List Span) (field v : ℕ) (values : List ℕ) (d : Span) → field < 5 → length spans ≡ 5 →
     matches (drop field stated) (v ∷ values) (box_rule spans)

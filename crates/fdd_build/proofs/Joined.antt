@@ -37,9 +37,9 @@ in_front : (decision lower : ℕ) (more none : Bool) → nat_eq decision 0 ≡ n
 in_front decision lower more true h = (Decides-eqb decision 0).0 h
 in_front decision lower more false h = refl
 
-and_false : (b more : Bool) → ((b && false) || more) ≡ more
-and_false true more = refl
-and_false false more = refl
+not_hidden : (b more : Bool) → ((b && false) || more) ≡ more
+not_hidden true more = refl
+not_hidden false more = refl
 
 abbrev lower_shown : List ℕ → List code.Rule → List code.Rule → ℕ
 lower_shown header first second = cond (list_any (λ r. hides r header) first) 0 (decided second header)
@@ -61,7 +61,7 @@ joined_by header rule first second false h rest =
     ∙ rest
     ∙ sym (ap (λ n. shown Answer n (lower_shown header (rule ∷ first) second)) (decided_head header rule first false h)
     ∙ ap (λ b. shown Answer (decided first header) (cond (b || any) 0 lower)) (hides_head header rule false h)
-    ∙ ap (λ b. shown Answer (decided first header) (cond b 0 lower)) (and_false (nat_eq rule.decision 0) any))
+    ∙ ap (λ b. shown Answer (decided first header) (cond b 0 lower)) (not_hidden (nat_eq rule.decision 0) any))
 
 pub joined : (header : List ℕ) (first second : List code.Rule) →
     decided (first ++ second) header ≡ shown Answer (decided first header) (lower_shown header first second)

@@ -17,9 +17,9 @@ use Rattle.fdd_build.specs.declared.overlay.Overlay.{Overlay}
 use Rattle.fdd_build.specs.declared.pair.Pair.{Pair}
 use Rattle.fdd_build.specs.Overlay.{shown}
 use Rattle.fdd_build.specs.Laid.{AreAt, IsLaid, IsLaidPart}
-use Rattle.fdd_build.proofs.Values.{each}
+use Rattle.node_store.proofs.Values.{each}
 use Rattle.fdd_build.proofs.LaidParts as parts
-use Rattle.fdd_build.proofs.Stays as stays
+use Rattle.node_store.proofs.Growth as growth
 
 -- the edges and the parts as slices
 pub from_slices : (overlay : Overlay) (nodes : List Node) (ps ps' : List Part) (es' es : List Edge) → ps ≡ ps' → es ≡ es' →
@@ -36,7 +36,7 @@ pub children : (overlay : Overlay) (old mid : List Node) (place : ℕ) (ps : Lis
     LeadTo old place (map to_left ps) → AllZip (IsLaidPart overlay mid) ps es → LeadTo mid place es
 children overlay old mid place ps es g five left zip =
     parts.lead overlay mid place ps es
-    (λ k d h. let at = left k d h in stays.level old mid (slice_index_or (map to_left ps) k d).to.0 g (within old (slice_index_or (map to_left ps) k d).to.0 (omega (arith, at, five))) ∙ at)
+    (λ k d h. let at = left k d h in growth.level_kept old mid (slice_index_or (map to_left ps) k d).to.0 g (within old (slice_index_or (map to_left ps) k d).to.0 (omega (arith, at, five))) ∙ at)
     zip
 
 module _ (overlay : Overlay) (old mid new : List Node) (first : Grows old mid) (second : Grows mid new) where
@@ -44,7 +44,7 @@ module _ (overlay : Overlay) (old mid new : List Node) (first : Grows old mid) (
   by_child : (id place child v : ℕ) (values : List ℕ) → level_of old id ≡ place → place < 5 → child_of (edges_of old id) v ≡ child → level_of old child ≡ suc place →
       answer new id (v ∷ values) ≡ answer mid child values
   by_child id place child v values l five is below =
-      stays.answers old mid new id (v ∷ values) first second (within old id (omega (arith, l, five)))
+      growth.answers_twice old mid new id (v ∷ values) first second (within old id (omega (arith, l, five)))
       ∙ ap (λ n. answer old n values) is
       ∙ sym (first.answers child values (within old child (omega (arith, below, five))))
 
@@ -57,9 +57,9 @@ module _ (overlay : Overlay) (old mid new : List Node) (first : Grows old mid) (
   made pair laid place ps es five at split left right zip level answers =
       let a = pair.upper.0 in
       let b = pair.lower.0 in
-      let grown = stays.then old mid new first second in
-      let top = stays.level old new a grown (within old a (omega (arith, at.upper, five))) ∙ at.upper in
-      let bottom = stays.level old new b grown (within old b (omega (arith, at.lower, five))) ∙ at.lower in
+      let grown = growth.twice old mid new first second in
+      let top = growth.level_kept old new a grown (within old a (omega (arith, at.upper, five))) ∙ at.upper in
+      let bottom = growth.level_kept old new b grown (within old b (omega (arith, at.lower, five))) ∙ at.lower in
       let rise = rise_of (greatest_of place) (map to_left ps) split.full in
       let by_value : (v : ℕ) (values : List ℕ) → v ≤ greatest_of place → AreValuesFrom (suc place) values →
       answer new laid.0 (v ∷ values) ≡ shown overlay (answer new a (v ∷ values)) (answer new b (v ∷ values)) =
@@ -69,7 +69,7 @@ module _ (overlay : Overlay) (old mid new : List Node) (first : Grows old mid) (
       let x_at = chosen (λ n. level_of old n ≡ suc place) (greatest_of place) 0 (map to_left ps) v rise low left in
       let y_at = parts.right_level old (suc place) (greatest_of place) 0 v ps rise right low in
       let comes = parts.comes overlay mid (greatest_of place) 0 v ps es rise zip low in
-      let x_mid = stays.level old mid x first (within old x (omega (arith, x_at, five))) ∙ x_at in
+      let x_mid = growth.level_kept old mid x first (within old x (omega (arith, x_at, five))) ∙ x_at in
       answers v values low
       ∙ comes.answers values (subst (λ k. AreValuesFrom k values) (sym x_mid) h)
       ∙ sym (ap (λ n. shown overlay n (answer new b (v ∷ values))) (by_child a place x v values at.upper five (sym (split.left v low)) x_at)
@@ -90,7 +90,7 @@ whole overlay old new pair laid g at l =
     let b = pair.lower.0 in
     let in_a = within old a (omega (arith, at.upper)) in
     let in_b = within old b (omega (arith, at.lower)) in
-    let top = stays.level old new a g in_a ∙ at.upper in (
+    let top = growth.level_kept old new a g in_a ∙ at.upper in (
       l.level ∙ top,
       λ header h.
           l.answers header (subst (λ k. AreValuesFrom k header) (sym top) h)

@@ -17,6 +17,7 @@ use Rattle.node_store.proofs.Edges as edges
 use Rattle.node_store.proofs.Canonical.{chosen}
 use Rattle.fdd_build.specs.declared.overlay.Overlay.{Overlay}
 use Rattle.fdd_build.specs.Laid.{AreAt, IsLaid, IsLaidPart}
+use Rattle.node_store.proofs.Growth as growth
 use Rattle.fdd_build.proofs.Stays as stays
 
 module _ {A B : Type 0} (R : A → B → Type 0) where
@@ -104,6 +105,6 @@ part_at old new place ps i d g five left right h =
     ap (λ (e : Edge). level_of old e.to.0) (sym (get_or-map to_left ps i d (to_left d) h)) ∙ left i (to_left d) (let n = length-map ps to_left in omega (arith, n, h)) in
     let b : level_of old p.right.0 ≡ place =
     ap (λ (e : Edge). level_of old e.to.0) (sym (get_or-map to_right ps i d (to_right d) h)) ∙ right i (to_right d) (let n = length-map ps to_right in omega (arith, n, h)) in record {
-      upper = stays.level old new p.left.0 g (within old p.left.0 (omega (arith, a, five))) ∙ a;
-      lower = stays.level old new p.right.0 g (within old p.right.0 (omega (arith, b, five))) ∙ b;
+      upper = growth.level_kept old new p.left.0 g (within old p.left.0 (omega (arith, a, five))) ∙ a;
+      lower = growth.level_kept old new p.right.0 g (within old p.right.0 (omega (arith, b, five))) ∙ b;
     }

@@ -1,4 +1,3 @@
-pub mod Values
 pub mod Joined
 pub mod Shown
 pub mod LaidParts

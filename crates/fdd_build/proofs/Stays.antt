@@ -1,10 +1,9 @@
--- What old numbers keep when a store grows.
-use Rattle.std.proofs.lemmas.List.{length-append}
-use Rattle.std.proofs.Common.{◌≡◌, ◌++◌, append_assoc, ℕ, List, ◌≤◌, ◌<◌, ◌∙◌, ap, arith, length, subst, sym}
-use Rattle.std.specs.Prelude.{slice_get, slice_index_or}
-use Rattle.node_store.specs.Diagram.{Node, node_level, level_of, answer}
+-- What was found of old numbers stays when a store grows.
+use Rattle.std.proofs.Common.{ℕ, List, ◌≤◌, ◌∙◌, ap, arith, subst, sym}
+use Rattle.std.specs.Prelude.{slice_index_or}
+use Rattle.node_store.specs.Diagram.{Node, answer}
 use Rattle.node_store.specs.Store.{Grows, AreValuesFrom}
-use Rattle.node_store.proofs.Growth.{kept_place}
+use Rattle.node_store.proofs.Growth as growth
 use Rattle.node_store.proofs.Made.{within}
 use Rattle.node_store.specs.declared.edge.NodeId.{NodeId}
 use Rattle.fdd_build.specs.declared.overlay.Overlay.{Overlay}
@@ -16,27 +15,10 @@ use Rattle.fdd_build.specs.Nothing.{AnswersNothing, IsNothing}
 use Rattle.fdd_build.specs.Laid.{IsLaid}
 use Rattle.fdd_build.specs.Memo.{IsMemo}
 
-pub level : (old new : List Node) (id : ℕ) → Grows old new → id < length old → level_of new id ≡ level_of old id
-level old new id g h = ap node_level (ap (λ nodes. slice_get nodes id) g.gained.1 ∙ kept_place old g.gained.0 id h)
-
--- the store has no fewer nodes
-used_later : (old new : List Node) (id : ℕ) → Grows old new → id < length old → id < length new
-used_later old new id g h = let n = ap (λ nodes. length nodes) g.gained.1 ∙ length-append old g.gained.0 in omega (arith, n, h)
-
-pub answers : (first second third : List Node) (id : ℕ) (values : List ℕ) → Grows first second → Grows second third → id < length first →
-    answer third id values ≡ answer first id values
-answers first second third id values g h used = h.answers id values (used_later first second id g used) ∙ g.answers id values used
-
-pub then : (first second third : List Node) → Grows first second → Grows second third → Grows first third
-then first second third g h = record {
-  gained = (g.gained.0 ++ h.gained.0, h.gained.1 ∙ ap (λ nodes. nodes ++ h.gained.0) g.gained.1 ∙ append_assoc first g.gained.0 h.gained.0);
-  answers = λ id values used. answers first second third id values g h used;
-}
-
 pub nothing : (old new : List Node) (place id : ℕ) → Grows old new → place ≤ 5 → AnswersNothing old place id → AnswersNothing new place id
 nothing old new place id g five n =
     let used = within old id (omega (arith, n.level, five)) in record {
-      level = level old new id g used ∙ n.level;
+      level = growth.level_kept old new id g used ∙ n.level;
       zero = λ values h. g.answers id values used ∙ n.zero values h;
     }
 
@@ -47,10 +29,10 @@ laid overlay old new pair c g l =
     let at_a = within old a (omega (arith, l.within)) in
     let at_b = within old b (omega (arith, l.within, l.beside)) in
     let at_c = within old c.0 (omega (arith, l.within, l.level)) in
-    let same = level old new a g at_a in record {
+    let same = growth.level_kept old new a g at_a in record {
       within = omega (arith, l.within, same);
-      beside = level old new b g at_b ∙ l.beside ∙ sym same;
-      level = level old new c.0 g at_c ∙ l.level ∙ sym same;
+      beside = growth.level_kept old new b g at_b ∙ l.beside ∙ sym same;
+      level = growth.level_kept old new c.0 g at_c ∙ l.level ∙ sym same;
       answers = λ values h.
           g.answers c.0 values at_c
           ∙ l.answers values (subst (λ k. AreValuesFrom k values) same h)

@@ -10,7 +10,7 @@ use Rattle.node_store.specs.Diagram.{Node, level_of, answer}
 use Rattle.node_store.specs.Store.{Grows}
 use Rattle.fdd_build.specs.declared.nothing.Nothing.{Nothing}
 use Rattle.fdd_build.specs.Nothing.{AnswersNothing, AnswerNothingFrom, IsNothing}
-use Rattle.fdd_build.proofs.Values.{each}
+use Rattle.node_store.proofs.Values.{each}
 use Rattle.fdd_build.proofs.Stays as stays
 
 pub opened : (old new : List Node) (field to id : ℕ) → field < 5 → AnswersNothing old (suc field) to → level_of new id ≡ field →

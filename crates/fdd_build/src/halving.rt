@@ -49,7 +49,7 @@ fn halved(walk: &Walk, store: &mut Store, rules: &[Rule]) -> Result<NodeId, Memo
 {
     match rules {
         [] => Ok(walk.nothing.at(0)),
-        [rule] => one(walk, store, rule),
+        [rule] => one_rule(walk, store, rule),
         _ => {
             let (first, second) = rules.split_at(rules.len() / 2);
             let upper = halved(walk, store, first)?;
@@ -62,7 +62,7 @@ fn halved(walk: &Walk, store: &mut Store, rules: &[Rule]) -> Result<NodeId, Memo
 }
 
 /// The diagram of one rule.
-fn one(walk: &Walk, store: &mut Store, rule: &Rule) -> Result<NodeId, Memory>
+fn one_rule(walk: &Walk, store: &mut Store, rule: &Rule) -> Result<NodeId, Memory>
     requires { IsNothing store.old walk.now.nothing }
     ensures level { IfOk result (λ id. level_of store.new id.0 ≡ 0) }
     ensures answers { IfOk result (λ id. (header : List ℕ) → IsHeader header → answer store.new id.0 header ≡ decided (rule.now ∷ []) header) }

@@ -4,6 +4,7 @@ use Rattle.std.specs.Prelude.{Bool, true, false, not, ◌&&◌, nat_eq}
 use Rattle.std.proofs.lemmas.List.{take_all}
 use Rattle.std.proofs.lemmas.Bool.Decides.{Decides-eqb, Decides-and}
 use Rattle.node_store.specs.declared.edge.Edge.{Edge}
+use Rattle.node_store.proofs.Edges.{edge_same}
 use Rattle.fdd_ops.proofs.Fronts.{AreLeft, passed}
 
 -- the two tests of the `==` of edges
@@ -27,10 +28,6 @@ same_to a b h = (Decides-eqb a b).0 (negated (nat_eq a b) h)
 
 pub other_to : (a b : ℕ) → true ≡ not (nat_eq a b) → a ≢ b
 other_to a b h p = true≢false (h ∙ ap not ((Decides-eqb a b).1 p))
-
-edge_same : (e d : Edge) → e.hi ≡ d.hi → e.to.0 ≡ d.to.0 → e ≡ d
-edge_same e d p q =
-    ap (λ (n : ℕ). let r : Edge = record { hi = n; to = e.to } in r) p ∙ ap (λ (n : ℕ). let r : Edge = record { hi = d.hi; to = record { 0 = n } } in r) q
 
 whole : (e : Edge) (xs : List Edge) → take (length (e ∷ xs) - 1) xs ≡ xs
 whole e xs = take_all (length (e ∷ xs) - 1) xs (omega arith)

@@ -102,8 +102,9 @@ no_earlier greatest lo e d (c ∷ xs) ys hx hy h less =
     let next = sym (within c xs (suc e.hi) a.0) ∙ sym (past e (c ∷ xs) (suc e.hi) (omega arith)) ∙ h (suc e.hi) (omega (arith, hx.0)) (omega (arith, a.0, a.1)) ∙ within d ys (suc e.hi) (omega (arith, less)) in
     hx.1 (same_id e.to c.to (here ∙ sym next))
 
-edge_same : (e d : Edge) → e.hi ≡ d.hi → e.to ≡ d.to → e ≡ d
-edge_same e d p q = ap (λ (n : ℕ). let r : Edge = record { hi = n; to = e.to } in r) p ∙ ap (λ (n : NodeId). let r : Edge = record { hi = d.hi; to = n } in r) q
+pub edge_same : (e d : Edge) → e.hi ≡ d.hi → e.to.0 ≡ d.to.0 → e ≡ d
+edge_same e d p q =
+    ap (λ (n : ℕ). let r : Edge = record { hi = n; to = e.to } in r) p ∙ ap (λ (n : ℕ). let r : Edge = record { hi = d.hi; to = record { 0 = n } } in r) q
 
 order : (a b : ℕ) → (a < b → ⊥) → (b < a → ⊥) → a ≡ b
 order a b f g = grind (arith, f, g)
@@ -115,7 +116,7 @@ heads greatest lo e d xs ys hx hy h =
     let b = ends greatest lo d ys hy in
     let stop = order e.hi d.hi (no_earlier greatest lo e d xs ys hx hy h) (no_earlier greatest lo d e ys xs hy hx (λ v low high. sym (h v low high))) in
     let to = sym (within e xs lo a.0) ∙ h lo (omega arith) (omega (arith, a.0, a.1)) ∙ within d ys lo b.0 in
-    (stop, edge_same e d stop (same_id e.to d.to to))
+    (stop, edge_same e d stop to)
 
 pub same : (greatest lo : ℕ) (xs ys : List Edge) → AreEdges greatest lo xs → AreEdges greatest lo ys →
     ((v : ℕ) → lo ≤ v → v ≤ greatest → child_of xs v ≡ child_of ys v) → xs ≡ ys

@@ -1,11 +1,11 @@
 -- A store that gains a node keeps what its old numbers mean, and stays a store.
-use Rattle.std.proofs.Common.{◌≡◌, ◌≢◌, ◌∷◌, ◌++◌, ℕ, List, [], ◌≤◌, ◌<◌, length, refl, ap, arith, sym, ◌∙◌, subst, inl, inr}
+use Rattle.std.proofs.Common.{◌≡◌, ◌≢◌, ◌∷◌, ◌++◌, ℕ, List, [], ◌≤◌, ◌<◌, length, append_assoc, refl, ap, arith, sym, ◌∙◌, subst, inl, inr}
 use Rattle.std.specs.Prelude.{◌⊎◌, suc, zero, Option, Some, None, slice_get, unwrap_or, All, cond, nat_le, true, false, Bool}
-use Rattle.std.proofs.lemmas.List.{append-nil}
+use Rattle.std.proofs.lemmas.List.{append-nil, length-append}
 use Rattle.std.proofs.lemmas.List.Elements.{All-tail}
 use Rattle.node_store.specs.declared.edge.Edge.{Edge}
 use Rattle.node_store.specs.Edges.{child_of}
-use Rattle.node_store.specs.Diagram.{Node, node_level, node_edges, node_decision, edges_of, answer}
+use Rattle.node_store.specs.Diagram.{Node, node_level, node_edges, node_decision, level_of, edges_of, answer}
 use Rattle.node_store.specs.Diagram.Node.{Leaf, Inner}
 use Rattle.node_store.specs.Store.{IsStore, FitsAt, Grows}
 
@@ -83,4 +83,22 @@ pub store_gains : (nodes : List Node) (node : Node) → IsStore nodes → FitsAt
 store_gains nodes node s fits fresh = record {
   fits = λ id other h. fits_by nodes node other id s fits (place_of nodes node other id h);
   once = λ i j other h k. once_by nodes node other i j s fresh (place_of nodes node other i h) (place_of nodes node other j k);
+}
+
+-- an old number keeps its level
+pub level_kept : (old new : List Node) (id : ℕ) → Grows old new → id < length old → level_of new id ≡ level_of old id
+level_kept old new id g h = ap node_level (ap (λ nodes. slice_get nodes id) g.gained.1 ∙ kept_place old g.gained.0 id h)
+
+used_later : (old new : List Node) (id : ℕ) → Grows old new → id < length old → id < length new
+used_later old new id g h = let n = ap (λ nodes. length nodes) g.gained.1 ∙ length-append old g.gained.0 in omega (arith, n, h)
+
+-- a store that grows and grows again has grown
+pub answers_twice : (first second third : List Node) (id : ℕ) (values : List ℕ) → Grows first second → Grows second third → id < length first →
+    answer third id values ≡ answer first id values
+answers_twice first second third id values g h used = h.answers id values (used_later first second id g used) ∙ g.answers id values used
+
+pub twice : (first second third : List Node) → Grows first second → Grows second third → Grows first third
+twice first second third g h = record {
+  gained = (g.gained.0 ++ h.gained.0, h.gained.1 ∙ ap (λ nodes. nodes ++ h.gained.0) g.gained.1 ∙ append_assoc first g.gained.0 h.gained.0);
+  answers = λ id values used. answers_twice first second third id values g h used;
 }

@@ -1,5 +1,5 @@
 -- Nodes of the code are equal exactly where they are one node of a diagram.
-use Rattle.std.proofs.Common.{◌≡◌, ℕ, ap, sym, ◌∙◌, true≢false}
+use Rattle.std.proofs.Common.{◌≡◌, ap, sym, ◌∙◌, true≢false}
 use Rattle.std.specs.Prelude.{Bool, nat_eq, ◌&&◌}
 use Rattle.std.specs.Bool.{Decides}
 use Rattle.std.specs.Cmp.Lexicographic.{pointwise, pointwise_decides}
@@ -11,6 +11,7 @@ use Rattle.node_store.specs.contracts.edge.EdgePartialEq.TheImpl as edge_impl
 use Rattle.node_store.specs.contracts.node.NodePartialEq.TheImpl as node_impl
 use Rattle.node_store.specs.Diagram.Node.{Leaf, Inner}
 use Rattle.node_store.specs.Nodes.{node_of}
+use Rattle.node_store.proofs.Edges.{edge_same}
 
 abbrev equal_edges : Edge → Edge → Bool
 equal_edges = (edge_impl.ghosts).eq
@@ -18,10 +19,6 @@ equal_edges = (edge_impl.ghosts).eq
 -- the `==` of the code
 abbrev pub equal : code.Node → code.Node → Bool
 equal = (node_impl.ghosts).eq
-
-edge_same : (e d : Edge) → e.hi ≡ d.hi → e.to.0 ≡ d.to.0 → e ≡ d
-edge_same e d p q =
-    ap (λ (n : ℕ). let r : Edge = record { hi = n; to = e.to } in r) p ∙ ap (λ (n : ℕ). let r : Edge = record { hi = d.hi; to = record { 0 = n } } in r) q
 
 edges_decide : (e d : Edge) → Decides (equal_edges e d) (e ≡ d)
 edges_decide e d =

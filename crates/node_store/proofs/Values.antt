@@ -47,3 +47,10 @@ count_by (suc left) field (v ∷ values) five h =
 
 pub count : (field : ℕ) (values : List ℕ) → field ≤ 5 → AreValuesFrom field values → field + length values ≡ 5
 count field values five h = let n = count_by (5 - field) field values (omega (arith, five)) h in omega (arith, n, five)
+
+-- what holds of each value of the field before values of the fields after it holds of all values
+pub each : (P : List ℕ → Type 0) (field : ℕ) → field < 5 →
+    ((v : ℕ) (rest : List ℕ) → v ≤ greatest_of field → AreValuesFrom (suc field) rest → P (v ∷ rest)) →
+    (values : List ℕ) → AreValuesFrom field values → P values
+each P field five by [] h = absurd (none_left field five h)
+each P field five by (v ∷ rest) h = let p = first field v rest five h in by v rest p.0 p.1

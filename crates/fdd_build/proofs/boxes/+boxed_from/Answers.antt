@@ -6,7 +6,7 @@ use Rattle.field_boxes.specs.Spans.{interval_of}
 use Rattle.node_store.specs.Diagram.{answer}
 use Rattle.node_store.specs.Store.{AreValuesFrom}
 use Rattle.fdd_build.specs.Rules.{box_rule}
-use Rattle.fdd_build.proofs.Values.{each}
+use Rattle.node_store.proofs.Values.{each}
 use Rattle.fdd_build.proofs.Zeros.{at}
 use Rattle.fdd_build.proofs.BoxAnswers.{box_answers}
 use Rattle.fdd_build.proofs.boxes.+boxed_from.Goals as goal

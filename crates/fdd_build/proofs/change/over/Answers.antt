@@ -6,7 +6,7 @@ use Rattle.fdd_build.specs.declared.overlay.Overlay.TheVariants.{Decision}
 use Rattle.fdd_build.specs.Overlay.{shown}
 use Rattle.fdd_build.specs.Rules.{box_holds}
 use Rattle.fdd_build.proofs.Shown.{box_over}
-use Rattle.fdd_build.proofs.Stays as stays
+use Rattle.node_store.proofs.Growth as growth
 use Rattle.fdd_build.proofs.change.over.Goals as goal
 
 pub returns-clause-answers : goal.returns-clause-answers
@@ -14,7 +14,7 @@ returns-clause-answers c = λ header h.
     let old = c.args.store.now in
     let mid = c.boxed.new.store in
     let below = c.args.below.0 in
-    let grown = stays.then old c.of.new.store mid c.in_ok-nothing.ensures.grows c.in_ok-inside.ensures.grows in
+    let grown = growth.twice old c.of.new.store mid c.in_ok-nothing.ensures.grows c.in_ok-inside.ensures.grows in
     let overlay = Decision c.args.decision in
     c.in_ok-id.ensures.answers header h
     ∙ ap (λ n. shown overlay n (answer mid below header)) (c.in_ok-inside.ensures.answers header h)

@@ -9,21 +9,22 @@ use Rattle.fdd_build.specs.declared.overlay.Overlay.TheVariants.{Answer}
 use Rattle.fdd_build.specs.Overlay.{shown}
 use Rattle.fdd_build.specs.Rules.{decided, hides}
 use Rattle.fdd_build.proofs.Joined.{joined, decides_none}
+use Rattle.node_store.proofs.Growth as growth
 use Rattle.fdd_build.proofs.Stays as stays
 use Rattle.fdd_build.proofs.halving.+halved.Goals as goal
 
 pub lay-requires-clause-nothing : goal.lay-requires-clause-nothing
 lay-requires-clause-nothing t c =
-    let grown = stays.then c.args.store.now c.halved.new.store c.hidden.new.store c.in_ok-upper-in_default.ensures.grows
-    (stays.then c.halved.new.store c.halved-in_default.new.store c.hidden.new.store c.in_ok-lower-in_default.ensures.grows c.in_ok-lower-in_default-2.ensures.grows) in
+    let grown = growth.twice c.args.store.now c.halved.new.store c.hidden.new.store c.in_ok-upper-in_default.ensures.grows
+    (growth.twice c.halved.new.store c.halved-in_default.new.store c.hidden.new.store c.in_ok-lower-in_default.ensures.grows c.in_ok-lower-in_default-2.ensures.grows) in
     stays.all_nothing c.args.store.now c.hidden.new.store c.args.walk.now.nothing grown c.requires.nothing
 
 pub lay-requires-clause-upper : goal.lay-requires-clause-upper
 lay-requires-clause-upper t c =
     let first = c.halved.new.store in
     let upper = c.in_ok-upper-in_default in
-    let later = stays.then first c.halved-in_default.new.store c.hidden.new.store c.in_ok-lower-in_default.ensures.grows c.in_ok-lower-in_default-2.ensures.grows in
-    stays.level first c.hidden.new.store upper.upper.0 later (within first upper.upper.0 (omega (arith, upper.ensures.level))) ∙ upper.ensures.level
+    let later = growth.twice first c.halved-in_default.new.store c.hidden.new.store c.in_ok-lower-in_default.ensures.grows c.in_ok-lower-in_default-2.ensures.grows in
+    growth.level_kept first c.hidden.new.store upper.upper.0 later (within first upper.upper.0 (omega (arith, upper.ensures.level))) ∙ upper.ensures.level
 
 pub returns-in-empty-clause-answers : goal.returns-in-empty-clause-answers
 returns-in-empty-clause-answers t c = λ header h.
@@ -41,7 +42,7 @@ returns-in_ok-id-in_default-clause-answers t c = λ header h.
     let rules = c.args.rules.now in
     let front = take (length rules / 2) rules in
     let back = drop (length rules / 2) rules in
-    let later = stays.then first second third lower.ensures.grows shown_lower.ensures.grows in
+    let later = growth.twice first second third lower.ensures.grows shown_lower.ensures.grows in
     c.in_ok-id-in_default.ensures.answers header h
     ∙ ap (λ o. shown o (answer third upper.upper.0 header) (answer third shown_lower.lower.0 header)) c.requires.overlay
     ∙ ap (λ n. shown Answer n (answer third shown_lower.lower.0 header))

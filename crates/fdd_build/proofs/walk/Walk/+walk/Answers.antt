@@ -9,6 +9,7 @@ use Rattle.node_store.specs.Edges.{AreFull}
 use Rattle.node_store.specs.Split.{IsSplit, to_left, to_right}
 use Rattle.node_store.specs.Store.{LeadTo}
 use Rattle.fdd_build.specs.Laid.{IsLaidPart}
+use Rattle.node_store.proofs.Growth as growth
 use Rattle.fdd_build.proofs.Stays as stays
 use Rattle.fdd_build.proofs.LaidParts as parts
 use Rattle.fdd_build.proofs.LaidNodes as nodes
@@ -42,7 +43,7 @@ edges-loop-part-preserved t c =
     let made = c.in_ok-to.ensures in
     let more = parts.next (IsLaidPart overlay c.pair.new.store) c.args.parts.now l.edges.items l.part-index d edge c.loop-part-test.true
     (parts.stay overlay l.store c.pair.new.store (take l.part-index c.args.parts.now) l.edges.items made.grows l.invariant.laid) (refl, made.laid) in record {
-      grows = stays.then c.args.store.now l.store c.pair.new.store l.invariant.grows made.grows;
+      grows = growth.twice c.args.store.now l.store c.pair.new.store l.invariant.grows made.grows;
       memo = made.memo;
       laid = subst (λ es. AllZip (IsLaidPart overlay c.pair.new.store) (take (l.part-index + 1) c.args.parts.now) es) (sym c.in_ok-push.ensures.ok)
           (subst (λ k. AllZip (IsLaidPart overlay c.pair.new.store) (take k c.args.parts.now) (l.edges.items ++ edge ∷ [])) one more);
