@@ -1,13 +1,23 @@
 -- Of a field of n bits an interval needs at most 2 n - 2 prefixes, and of a field of one bit at most one.
-use Rattle.std.proofs.Common.{◌≡◌, ◌∷◌, ◌++◌, ℕ, zero, suc, ◌+◌, ◌-◌, ◌*◌, ◌^◌, ◌<◌, ◌≤◌, List, [], Bool, true, false, ap, arith, inl, inr, length, max}
-use Rattle.std.specs.Prelude.{◌&&◌, if◌then◌else◌}
+use Rattle.std.proofs.Common.{◌≡◌, ◌∷◌, ◌++◌, ℕ, zero, suc, ◌+◌, ◌-◌, ◌*◌, ◌^◌, ◌<◌, ◌≤◌, List, [], Bool, true, false, ap, arith, inl, inr, length, max, refl, ◌∙◌}
+use Rattle.std.specs.Prelude.{◌&&◌, ◌||◌, if◌then◌else◌}
+use Rattle.std.specs.List.{list_any}
 use Rattle.std.proofs.lemmas.Nat.{pow_pos}
 use Rattle.std.proofs.lemmas.Bool.{cases_lt}
+use Rattle.std.proofs.Math.Nat.{add-mul, zero-mul}
 use Rattle.std.proofs.lemmas.List.{length-append}
+use Rattle.std.proofs.lemmas.List.Elements.{All-append}
+use Rattle.std.proofs.lemmas.List.Folds.{list_any-append}
+use Rattle.std.proofs.Math.Pow.{pow_mono}
 use Rattle.field_boxes.specs.declared.prefix.Prefix.{Prefix}
-use Rattle.range_prefix.specs.Shortest.{has_block, block_prefix, shortest_cover, shortest_in}
+use Rattle.field_boxes.specs.declared.span.Span.{Span}
+use Rattle.field_boxes.specs.Prefix.{FitsWidth, prefix_holds}
+use Rattle.range_prefix.specs.Cover.{HoldExactly}
+use Rattle.range_prefix.specs.Shortest.{has_block, block_prefix, shortest_below, shortest_cover, shortest_in}
+use Rattle.range_prefix.specs.Spans.{union_of, values_of}
 use Rattle.field_boxes.proofs.Powers.{double}
-use Rattle.range_prefix.proofs.Blocks.{whole_in}
+use Rattle.range_prefix.proofs.Blocks.{nothing_in, whole_in}
+use Rattle.range_prefix.proofs.Halving.{is-shortest}
 use Rattle.range_prefix.proofs.Intervals.{inside, has-whole, missed-above, missed-below}
 
 -- how many prefixes a block needs
@@ -92,14 +102,61 @@ few_at width lo hi (suc n) v =
     let bound = crossing width lo hi n v (omega arith) (omega arith) in
     omega arith
 
-pub few : (width lo hi n v : ℕ) → many width lo hi n v ≤ 2 * n + 1
-few width lo hi zero v = one_at_most (inside lo hi v) (block_prefix width zero v)
-few width lo hi (suc n) v = let bound = few_at width lo hi n v in omega arith
+-- even of every set a block of values needs prefixes for half of them at the most
+half_at_most : (width : ℕ) (set : ℕ → Bool) (n v : ℕ) → length (shortest_in width set (suc n) v) ≤ 2 ^ n
+half_at_most width set zero v = two_at_most (set v) (set (v + 2 ^ zero)) (block_prefix width (suc zero) v) (block_prefix width zero v) (block_prefix width zero (v + 2 ^ zero))
+half_at_most width set (suc n) v =
+    let twice = double n in
+    let positive = pow_pos (suc n) in
+    let low = half_at_most width set n v in
+    let high = half_at_most width set n (v + 2 ^ suc n) in
+    either_many (has_block set (suc (suc n)) v) (block_prefix width (suc (suc n)) v) (shortest_in width set (suc n) v) (shortest_in width set (suc n) (v + 2 ^ suc n)) (2 ^ suc n) positive (omega arith)
 
-few_positive : (width lo hi n v : ℕ) → 1 ≤ n → many width lo hi n v ≤ max 1 (2 * n - 2)
-few_positive width lo hi zero v h = absurd (omega arith)
-few_positive width lo hi (suc n) v h = let bound = few_at width lo hi n v in omega arith
+within : (width : ℕ) (set : ℕ → Bool) (n v : ℕ) → n ≤ 32 → length (shortest_in width set n v) ≤ 2 ^ 31
+within width set zero v h = let one = one_at_most (set v) (block_prefix width zero v) in omega arith
+within width set (suc n) v h =
+    let half = half_at_most width set n v in
+    let small : n ≤ 31 = omega arith in
+    let room : 2 ^ n ≤ 2 ^ 31 = pow_mono small in
+    omega arith
 
-pub few_field : (width lo hi : ℕ) → 1 ≤ width → length (shortest_cover width (inside lo hi)) ≤ max 1 (2 * width - 2)
+pub within_below : (width : ℕ) (set : ℕ → Bool) (p : Prefix) → width ≤ 32 → length (shortest_below width set p) ≤ 2 ^ 31
+within_below width set p h = within width set (width - p.len) p.value (omega arith)
+
+few_bits : (width lo hi n v : ℕ) → many width lo hi n v ≤ max 1 (2 * n - 2)
+few_bits width lo hi zero v = let one = one_at_most (inside lo hi v) (block_prefix width zero v) in omega arith
+few_bits width lo hi (suc n) v = let bound = few_at width lo hi n v in omega arith
+
+few_field : (width : ℕ) (s : Span) → length (shortest_cover width (values_of s)) ≤ max 1 (2 * width - 2)
 unfolding shortest_cover
-few_field width lo hi h = few_positive width lo hi width 0 h
+few_field width s = few_bits width s.lo s.hi width 0
+
+none : (width : ℕ) → length (shortest_cover width (union_of [])) ≤ 0
+unfolding shortest_cover
+none width = omega (arith, ap length (nothing_in width (union_of []) width 0 (λ k small. refl)))
+
+-- a union needs no more than its spans do each by itself
+joined : (width : ℕ) (s : Span) (spans : List Span) → width ≤ 32 →
+    HoldExactly width (union_of (s ∷ spans)) (shortest_cover width (values_of s) ++ shortest_cover width (union_of spans))
+joined width s spans wide =
+    let first = shortest_cover width (values_of s) in
+    let rest = shortest_cover width (union_of spans) in
+    let one = (is-shortest width (values_of s) wide).cover.exact in
+    let others = (is-shortest width (union_of spans) wide).cover.exact in
+    record {
+      fit = All-append (FitsWidth width) first rest one.fit others.fit;
+      exact = λ v small.
+          list_any-append (λ p. prefix_holds width p v) first rest
+          ∙ ap (λ t. t || list_any (λ p. prefix_holds width p v) rest) (one.exact v small)
+          ∙ ap (λ t. values_of s v || t) (others.exact v small);
+    }
+
+pub few_union : (width : ℕ) (spans : List Span) → width ≤ 32 → length (shortest_cover width (union_of spans)) ≤ length spans * max 1 (2 * width - 2)
+few_union width [] wide = let no = none width in let e = zero-mul (max 1 (2 * width - 2)) in rw e no
+few_union width (s ∷ spans) wide =
+    let first = few_field width s in
+    let rest = few_union width spans wide in
+    let both = (is-shortest width (union_of (s ∷ spans)) wide).least (shortest_cover width (values_of s) ++ shortest_cover width (union_of spans)) (joined width s spans wide) in
+    let sum = length-append (shortest_cover width (values_of s)) (shortest_cover width (union_of spans)) in
+    let more = add-mul (length spans) 1 (max 1 (2 * width - 2)) in
+    omega (arith, first, rest, both, sum, more)

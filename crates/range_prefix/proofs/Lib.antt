@@ -3,4 +3,5 @@ pub mod Chains
 pub mod Shortest
 pub mod Halving
 pub mod Intervals
+pub mod Unions
 pub mod Few

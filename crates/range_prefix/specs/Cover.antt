@@ -2,14 +2,7 @@
 use Rattle.std.specs.Prelude.{◌≡◌, ℕ, ◌<◌, ◌≤◌, ◌^◌, Bool, true, false, List, length, All, AllPairs}
 use Rattle.std.specs.List.{list_any}
 use Rattle.field_boxes.specs.declared.prefix.Prefix.{Prefix}
-use Rattle.field_boxes.specs.declared.span.Span.{Span}
-use Rattle.field_boxes.specs.Classifier.{interval_holds}
-use Rattle.field_boxes.specs.Spans.{interval_of}
 use Rattle.field_boxes.specs.Prefix.{FitsWidth, prefix_holds}
-
--- the values of a span, as a set
-abbrev pub values_of : Span → ℕ → Bool
-values_of span v = interval_holds v (interval_of span)
 
 -- each prefix fits the width, and together they hold exactly the set's values of that width
 pub record HoldExactly (width : ℕ) (set : ℕ → Bool) (prefixes : List Prefix) : Type 0 where

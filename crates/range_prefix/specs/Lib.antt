@@ -1,3 +1,4 @@
+pub mod Spans
 pub mod Cover
 pub mod Shortest
 pub mod Halves

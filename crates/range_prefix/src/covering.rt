@@ -1,7 +1,8 @@
-ghost use Rattle.std.specs.Prelude.{◌≡◌, ◌≤◌, ◌<◌, ◌^◌, ◌++◌, IfOk, OnOk};
+ghost use Rattle.std.specs.Prelude.{◌≡◌, ◌≤◌, ◌++◌, IfOk, OnOk};
 ghost use Rattle.field_boxes.specs.Prefix.{FitsWidth};
-ghost use Rattle.range_prefix.specs.Cover.{IsShortestCover, values_of};
+ghost use Rattle.range_prefix.specs.Cover.{IsShortestCover};
 ghost use Rattle.range_prefix.specs.Shortest.{shortest_below, shortest_cover};
+ghost use Rattle.range_prefix.specs.Spans.{RiseApart, union_of, values_of};
 
 use crate::share::Share;
 use field_boxes::{Prefix, Span};
@@ -10,57 +11,50 @@ use std::alloc::Global;
 
 /// The fewest prefixes of a field of `width` bits that hold exactly the span's values, in rising order.
 ///
-/// No two of them have a value in common, and there are as many as [`cover_count`](crate::cover_count)
-/// says. The error comes where memory was refused; nothing is kept then.
-/// It takes at most `2 * width` turns.
+/// This is [`cover_all`] of one span.
 pub fn cover(alloc: Global, span: Span, width: u8) -> Result<Vec<Prefix>, Memory>
-    requires positive { 1 ≤ width }
-    requires wide { width ≤ 32 }
-    requires inside { span.hi < 2 ^ width }
+    requires { width ≤ 32 }
     ensures shortest { IfOk result (λ prefixes. IsShortestCover width (values_of span) prefixes.items) }
     ensures value { IfOk result (λ prefixes. prefixes.items ≡ shortest_cover width (values_of span)) }
 {
-    let field = Prefix { value: 0, len: 0 };
-    let prefixes = cover_below(alloc, span, width, field)?;
-    Ok(prefixes)
+    cover_all(alloc, &[span], width)
 }
 
-/// The prefixes for the span's values among those of the prefix.
-fn cover_below(alloc: Global, span: Span, width: u8, prefix: Prefix) -> Result<Vec<Prefix>, Memory>
-    requires { FitsWidth width prefix }
-    ensures { IfOk result (λ prefixes. prefixes.items ≡ shortest_below width (values_of span) prefix) }
+/// The fewest prefixes of a field of `width` bits that hold exactly the values of the spans, in rising order.
+///
+/// No two of them have a value in common, and there are as many as [`count_all`](crate::count_all)
+/// says. Values that the field doesn't have count for nothing. The error comes where memory was refused;
+/// nothing is kept then. The turns are of the order of the spans times the width.
+pub fn cover_all(alloc: Global, spans: &[Span], width: u8) -> Result<Vec<Prefix>, Memory>
+    requires wide { width ≤ 32 }
+    requires apart { RiseApart 0 spans.now }
+    ensures shortest { IfOk result (λ prefixes. IsShortestCover width (union_of spans.now) prefixes.items) }
+    ensures value { IfOk result (λ prefixes. prefixes.items ≡ shortest_cover width (union_of spans.now)) }
 {
+    let field = Prefix { value: 0, len: 0 };
     let mut prefixes = Vec::new(alloc);
-    match Share::of(span, width, prefix) {
-        Share::Nothing => {}
-        Share::Whole => prefixes.push(prefix)?,
-        Share::Halves(low, high) => cover_halves(span, width, low, high, &mut prefixes)?,
-    }
+    cover_below(spans, width, field, &mut prefixes)?;
     Ok(prefixes)
 }
 
-/// Adds the prefixes for the span's values among those of the two halves of a prefix.
-fn cover_halves(
-    span: Span,
+/// Adds the prefixes for the spans' values among those of the prefix.
+fn cover_below(
+    spans: &[Span],
     width: u8,
-    low: Prefix,
-    high: Prefix,
+    prefix: Prefix,
     prefixes: &mut Vec<Prefix>,
 ) -> Result<(), Memory>
-    requires low { FitsWidth width low }
-    requires high { FitsWidth width high }
-    ensures { OnOk result
-        (prefixes.new.items ≡ prefixes.old.items ++ shortest_below width (values_of span) low ++ shortest_below width (values_of span) high) }
+    requires fits { FitsWidth width prefix }
+    requires apart { RiseApart 0 spans.now }
+    ensures { OnOk result (prefixes.new.items ≡ prefixes.old.items ++ shortest_below width (union_of spans.now) prefix) }
 {
-    match Share::of(span, width, low) {
+    match Share::of(spans, width, prefix) {
         Share::Nothing => {}
-        Share::Whole => prefixes.push(low)?,
-        Share::Halves(first, second) => cover_halves(span, width, first, second, prefixes)?,
-    }
-    match Share::of(span, width, high) {
-        Share::Nothing => {}
-        Share::Whole => prefixes.push(high)?,
-        Share::Halves(first, second) => cover_halves(span, width, first, second, prefixes)?,
+        Share::Whole => prefixes.push(prefix)?,
+        Share::Part(halved) => {
+            cover_below(halved.spans, width, halved.low, prefixes)?;
+            cover_below(halved.spans, width, halved.high, prefixes)?;
+        }
     }
     Ok(())
 }

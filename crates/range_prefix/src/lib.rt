@@ -1,21 +1,22 @@
-//! The shortest cover of an interval by prefixes.
+//! The shortest cover of values of a field by prefixes.
 //!
-//! Ternary words can't hold an interval of a field, only prefixes. [`cover`] gives the fewest prefixes
-//! that hold exactly a span's values, in rising order; [`cover_count`] says how many these are, and takes
-//! no memory. Both begin with the whole field: a block that the span misses needs no prefix, a block
-//! inside the span is one prefix, and any other block is halved and needs what its halves need.
+//! Ternary words can't hold an interval of a field, only prefixes. [`cover_all`] gives the fewest prefixes
+//! that hold exactly the values of some spans, in rising order; [`count_all`] says how many these are, and
+//! takes no memory. [`cover`] and [`cover_count`] are the same for one span. All begin with the whole
+//! field: a block that the spans miss needs no prefix, a block inside a span is one prefix, and any other
+//! block is halved and needs what its halves need.
 //!
-//! A field of `width` bits takes at most `2 * width` turns. A turn looks at both halves of one block, and
-//! there is one only for a block that is halved. The span has some value of such a block and lacks
-//! another, so an end of the span lies in the block: of the blocks of one size at most two are halved. A
-//! single value is never halved, and `width` sizes are larger.
+//! At most `2 * width` blocks are halved for each span: a span has some value of such a block and lacks
+//! another, so an end of it lies in the block, and of the blocks of one size at most two are halved for it.
+//! A block that is halved passes the spans on that don't end before it, so each span is dropped once for
+//! each size at the most. All turns together are of the order of the spans times the width.
 //!
 //! No list of prefixes does with fewer, even if its prefixes may overlap. [`laws`] has this for any set
 //! of values.
 //!
 //! ```text
-//! let prefixes = cover(alloc, span, 16)?;
-//! let count = cover_count(span, 16); // the length of prefixes
+//! let prefixes = cover_all(alloc, &spans, 16)?;
+//! let count = count_all(&spans, 16); // the length of prefixes
 //! ```
 #![tactic(auto)]
 
@@ -23,10 +24,11 @@ mod counting;
 mod covering;
 mod halves;
 pub mod laws;
+mod reaching;
 mod share;
 
-pub use counting::cover_count;
-pub use covering::cover;
+pub use counting::{count_all, cover_count};
+pub use covering::{cover, cover_all};
 
 #[cfg(test)]
 mod tests;

@@ -1,46 +1,56 @@
 ghost use Rattle.std.specs.Prelude.{◌≤◌, ◌<◌, ◌⊎◌};
 ghost use Rattle.std.specs.Bool.{OnTrue, OnFalse};
 ghost use Rattle.field_boxes.specs.Prefix.{FitsWidth};
-ghost use Rattle.range_prefix.specs.Cover.{values_of};
+ghost use Rattle.range_prefix.specs.Spans.{RiseApart};
 
 use crate::halves::halves;
+use crate::reaching::reaching;
 use field_boxes::{Prefix, Span};
 
-/// How much of a prefix a span has.
+/// How much of a prefix some spans have.
 #[derive(Clone, Copy)]
-pub(crate) enum Share {
+pub(crate) enum Share<'a> {
     Nothing,
     Whole,
-    /// Some of it, which lies in these two halves of the prefix.
-    Halves(Prefix, Prefix),
+    Part(Halved<'a>),
 }
 
-impl Share {
+/// A prefix of which the spans have some values and lack others.
+#[derive(Clone, Copy)]
+pub(crate) struct Halved<'a> {
+    /// The spans that don't end before the prefix.
+    pub spans: &'a [Span],
+    pub low: Prefix,
+    pub high: Prefix,
+}
+
+impl<'a> Share<'a> {
     ghost use Rattle.range_prefix.specs.Share.{IsShare};
 
-    /// How much of the prefix of a field of `width` bits the span has.
-    pub fn of(span: Span, width: u8, prefix: Prefix) -> Share
-        requires { FitsWidth width prefix }
-        ensures { IsShare width (values_of span) prefix result }
+    /// How much of the prefix of a field of `width` bits the spans have.
+    pub fn of(spans: &'a [Span], width: u8, prefix: Prefix) -> Share<'a>
+        requires fits { FitsWidth width prefix }
+        requires apart { RiseApart 0 spans.now }
+        ensures { IsShare width spans.now prefix result }
     {
         let block = prefix.span(width);
-        if misses(span, block) {
+        let left = reaching(spans, block.lo);
+        let [first, ..] = left else {
+            return Share::Nothing;
+        };
+        if block.hi < first.lo {
             return Share::Nothing;
         }
-        if has_whole(span, block) {
+        if has_whole(*first, block) {
             return Share::Whole;
         }
         let (low, high) = halves(prefix, width);
-        Share::Halves(low, high)
+        Share::Part(Halved {
+            spans: left,
+            low,
+            high,
+        })
     }
-}
-
-/// Whether the span has no value of the block.
-fn misses(span: Span, block: Span) -> bool
-    ensures yes { OnTrue result ((block.hi < span.lo) ⊎ (span.hi < block.lo)) }
-    ensures no { OnFalse result ((span.lo ≤ block.hi) × (block.lo ≤ span.hi)) }
-{
-    block.hi < span.lo || span.hi < block.lo
 }
 
 /// Whether the span has each value of the block.

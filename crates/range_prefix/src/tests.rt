@@ -1,8 +1,10 @@
-ghost use Rattle.std.specs.Prelude.{◌≤◌, ◌<◌, ◌^◌};
+ghost use Rattle.std.specs.Prelude.{◌≤◌};
 
-use crate::{cover, cover_count};
+use crate::{count_all, cover, cover_all, cover_count};
 use field_boxes::{Prefix, Span};
 use std::test::Fail;
+
+mod unions;
 
 #[test]
 fn covers_are_shortest_and_rise(rt: HostRuntime) -> Result<(), Fail> {
@@ -20,6 +22,26 @@ fn covers_are_shortest_and_rise(rt: HostRuntime) -> Result<(), Fail> {
     Ok(())
 }
 
+/// Ports 80 to 90 and 443.
+#[test]
+fn covers_of_unions_rise_over_the_spans(rt: HostRuntime) -> Result<(), Fail> {
+    let spans = [Span { lo: 80, hi: 90 }, Span { lo: 443, hi: 443 }];
+    let prefixes = cover_all(rt.alloc(), &spans, 16)?;
+    let expected = [
+        Prefix { value: 80, len: 13 },
+        Prefix { value: 88, len: 15 },
+        Prefix { value: 90, len: 16 },
+        Prefix {
+            value: 443,
+            len: 16,
+        },
+    ];
+    assert_eq!(rt; prefixes.as_slice(), expected.as_slice());
+    assert_eq!(rt; count_all(&spans, 16), 4);
+    assert_eq!(rt; count_all(&[], 16), 0);
+    Ok(())
+}
+
 #[test]
 fn the_widest_field_is_one_prefix(rt: HostRuntime) -> Result<(), Fail> {
     let span = Span::new(0, u32::MAX).ok_or("no span")?;
@@ -30,9 +52,7 @@ fn the_widest_field_is_one_prefix(rt: HostRuntime) -> Result<(), Fail> {
 }
 
 fn count_between(lo: u32, hi: u32, width: u8) -> Result<u32, Fail>
-    requires positive { 1 ≤ width }
-    requires wide { width ≤ 32 }
-    requires inside { hi < 2 ^ width }
+    requires { width ≤ 32 }
 {
     let span = Span::new(lo, hi).ok_or("no span")?;
     Ok(cover_count(span, width))
@@ -46,22 +66,6 @@ fn counts_of_worked_spans(rt: HostRuntime) -> Result<(), Fail> {
     assert_eq!(rt; count_between(0, 65_535, 16)?, 1);
     assert_eq!(rt; count_between(80, 80, 16)?, 1);
     assert_eq!(rt; count_between(1, u32::MAX - 1, 32)?, 62);
-    Ok(())
-}
-
-/// On each span of a field of 6 bits the count is the length of the cover.
-#[test]
-fn counts_are_lengths(rt: HostRuntime) -> Result<(), Fail> {
-    for lo in 0..64 {
-        for hi in lo..64 {
-            let span = Span::new(lo, hi).ok_or("no span")?;
-            let prefixes = cover(rt.alloc(), span, 6)?;
-            assert_eq!(rt;
-                cover_count(span, 6) as usize,
-                prefixes.len(),
-                "{lo} to {hi}"
-            );
-        }
-    }
+    assert_eq!(rt; count_between(0, 0, 0)?, 1);
     Ok(())
 }

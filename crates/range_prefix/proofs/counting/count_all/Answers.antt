@@ -1,18 +1,18 @@
 use Rattle.std.proofs.Common.{◌≤◌, ◌*◌, ◌-◌, ◌∙◌, ap, length, max, subst, sym}
-use Rattle.range_prefix.specs.Cover.{values_of}
 use Rattle.range_prefix.specs.Shortest.{shortest_cover}
-use Rattle.range_prefix.proofs.Few.{few_field}
+use Rattle.range_prefix.specs.Spans.{union_of}
+use Rattle.range_prefix.proofs.Few.{few_union}
 use Rattle.range_prefix.proofs.Halving.{is-shortest, whole_field}
-use Rattle.range_prefix.proofs.counting.cover_count.Goals as goal
+use Rattle.range_prefix.proofs.counting.count_all.Goals as goal
 
 pub returns-clause-value : goal.returns-clause-value
-returns-clause-value c = c.count_below.ensures ∙ ap length (whole_field c.args.width (values_of c.args.span))
+returns-clause-value c = c.count_below.ensures ∙ ap length (whole_field c.args.width (union_of c.args.spans.now))
 
 pub returns-clause-shortest : goal.returns-clause-shortest
 returns-clause-shortest c =
-    let set = values_of c.args.span in
+    let set = union_of c.args.spans.now in
     (shortest_cover c.args.width set, is-shortest c.args.width set c.requires.wide, returns-clause-value c)
 
 pub returns-clause-few : goal.returns-clause-few
 returns-clause-few c =
-    subst (λ n. n ≤ max 1 (2 * c.args.width - 2)) (sym (returns-clause-value c)) (few_field c.args.width c.args.span.lo c.args.span.hi c.requires.positive)
+    subst (λ n. n ≤ length c.args.spans.now * max 1 (2 * c.args.width - 2)) (sym (returns-clause-value c)) (few_union c.args.width c.args.spans.now c.requires.wide)

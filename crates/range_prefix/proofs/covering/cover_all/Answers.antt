@@ -1,0 +1,17 @@
+use Rattle.std.proofs.Common.{◌∙◌, ◌++◌, ap, subst, sym}
+use Rattle.range_prefix.specs.Cover.{IsShortestCover}
+use Rattle.range_prefix.specs.Shortest.{shortest_below}
+use Rattle.range_prefix.specs.Spans.{union_of}
+use Rattle.range_prefix.proofs.Halving.{is-shortest, whole_field}
+use Rattle.range_prefix.proofs.covering.cover_all.Goals as goal
+
+pub returns-clause-value : goal.returns-clause-value
+returns-clause-value c =
+    c.in_ok-cover_below.ensures
+    ∙ ap (λ xs. xs ++ shortest_below c.args.width (union_of c.args.spans.now) (record { value = 0; len = 0 })) c.new-prefixes.ensures.items
+    ∙ whole_field c.args.width (union_of c.args.spans.now)
+
+pub returns-clause-shortest : goal.returns-clause-shortest
+returns-clause-shortest c =
+    let set = union_of c.args.spans.now in
+    subst (IsShortestCover c.args.width set) (sym (returns-clause-value c)) (is-shortest c.args.width set c.requires.wide)
