@@ -1,0 +1,4 @@
+pub mod OneCost
+pub mod Plans
+pub mod Singles
+pub mod FewHeaders
