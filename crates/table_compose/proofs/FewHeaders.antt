@@ -39,6 +39,7 @@ singles_plan f fields R Costs most plan s = record {
 }
 
 pub few : {A : Type 0} (fields : List ℕ) (R : List (Rule A)) (n : ℕ) → IsLeastCost fields R n → n ≤ 2 ^ bits_of fields
+unfolding IsLeastCost
 few [] R n h = omega (arith, h)
 few (f ∷ fields) R n h =
     let there = h.0 in

@@ -7,6 +7,7 @@ use Rattle.field_boxes.proofs.Residues.{source-residue}
 use Rattle.table_compose.specs.LeastCost.{AreAlike, IsPlan, IsLeastCost}
 
 pub cost-unique : {A : Type 0} (fields : List ℕ) (R : List (Rule A)) (m n : ℕ) → IsLeastCost fields R m → IsLeastCost fields R n → m ≡ n
+unfolding IsLeastCost
 cost-unique [] R m n c d = c ∙ sym d
 cost-unique (f ∷ fields) R m n c d =
     let a = c.0 in let b = d.0 in omega (arith, a.3, b.3, c.1 b.0 b.1 b.2, d.1 a.0 a.1 a.2)
@@ -38,6 +39,7 @@ plan-alike f fields R S plan h p = record {
 }
 
 pub alike-cost : {A : Type 0} (fields : List ℕ) (R S : List (Rule A)) (n : ℕ) → AreAlike fields R S → IsLeastCost fields R n → IsLeastCost fields S n
+unfolding IsLeastCost
 alike-cost [] R S n h c = c
 alike-cost (f ∷ fields) R S n h c =
     let there = c.0 in

@@ -36,7 +36,7 @@ pub record IsPlan {A : Type 0} (f : ℕ) (fields : List ℕ) (R : List (Rule A))
 
 -- n is the least cost of the rules over these fields: 1 where none is left, and else what some plan costs
 -- and no plan costs less, where each pair has the least cost of its residue
-abbrev pub IsLeastCost : {A : Type 0} → List ℕ → List (Rule A) → ℕ → Type 0
+unfoldable pub IsLeastCost : {A : Type 0} → List ℕ → List (Rule A) → ℕ → Type 0
 IsLeastCost [] R n = n ≡ 1
 IsLeastCost (f ∷ fields) R n =
     ((plan : List Choice) × IsPlan f fields R plan × All (λ c. IsLeastCost fields (residue f c.value R) c.cost) plan × (plan_cost plan ≡ n))
