@@ -1,0 +1,12 @@
+pub mod OneCost
+pub mod Plans
+pub mod Singles
+pub mod FewHeaders
+pub mod Cheapest
+pub mod Labelled
+pub mod Children
+pub mod Marks
+pub mod NodeCost
+pub mod Planned
+pub mod Inputs
+pub mod Later

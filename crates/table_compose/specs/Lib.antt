@@ -1,0 +1,5 @@
+pub mod LeastCost
+pub mod Diagrams
+pub mod Labels
+pub mod Plans
+pub mod Rows

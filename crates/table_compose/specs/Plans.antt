@@ -1,0 +1,56 @@
+-- What is worked out of each node: its least cost, and the cheapest prefix list of its field.
+use Rattle.std.specs.Prelude.{◌≡◌, ℕ, ◌<◌, ◌≤◌, ◌^◌, ◌+◌, Bool, true, List, Some, All, drop, length, slice_get, slice_index}
+use Rattle.std.specs.Global.{Vec}
+use Rattle.field_boxes.specs.Fields.{width, greatest_of, stated}
+use Rattle.node_store.specs.Edges.{child_of}
+use Rattle.node_store.specs.Diagram.{Node, level_of, edges_of}
+use Rattle.prefix_min.specs.declared.row.PrefixRow.{PrefixRow}
+use Rattle.prefix_min.specs.PrefixList.{IsRight, weight}
+use Rattle.prefix_min.specs.Order.{InOrder}
+use Rattle.table_compose.specs.LeastCost.{bits_of}
+use Rattle.table_compose.specs.Diagrams.{IsCostOf}
+use Rattle.table_compose.specs.declared.row.Row.{Row}
+use Rattle.table_compose.specs.Rows.{rows_at}
+
+-- the node under the number is marked
+abbrev pub IsMarked : List Bool → ℕ → Type 0
+IsMarked marks id = slice_get marks id ≡ Some true
+
+-- marked nodes from a number on lead to marked nodes
+abbrev pub AreClosedFrom : List Node → ℕ → List Bool → Type 0
+AreClosedFrom nodes low marks = (id : ℕ) → low ≤ id → IsMarked marks id → All (λ e. IsMarked marks e.to.0) (edges_of nodes id)
+
+-- n is the least cost of every rule list that decides as the node answers, and at most one entry for each
+-- header of the fields from the node's on
+pub record IsCosted (nodes : List Node) (id n : ℕ) : Type 0 where
+  pub least : IsCostOf nodes (drop (level_of nodes id) stated) id n
+  pub few : n ≤ 2 ^ bits_of (drop (level_of nodes id) stated)
+
+-- a value of the node's field leads to the child
+abbrev pub IsChild : List Node → ℕ → ℕ → Type 0
+IsChild nodes id child = (v : ℕ) × (v ≤ greatest_of (level_of nodes id)) × (child_of (edges_of nodes id) v ≡ child)
+
+-- a prefix list of an inner node's field: the label of a row is the child to which the row's values lead
+pub record IsListOf (nodes : List Node) (id : ℕ) (rows : List PrefixRow) : Type 0 where
+  pub right : IsRight (width (level_of nodes id)) (child_of (edges_of nodes id)) rows
+  pub order : InOrder rows
+  pub children : All (λ r. IsChild nodes id r.label) rows
+
+-- the list of an inner node, whose rows cost so much as their children do, and for a leaf one entry
+pub record IsPlanned (nodes : List Node) (costs : List ℕ) (id : ℕ) (rows : List PrefixRow) (n : ℕ) : Type 0 where
+  pub costed : IsCosted nodes id n
+  pub list : level_of nodes id < 5 → IsListOf nodes id rows
+  pub sum : level_of nodes id < 5 → weight costs rows ≡ n
+  pub leaf : level_of nodes id ≡ 5 → n ≡ 1
+
+-- each marked node below so many is planned: its cost and its list stand under its number
+abbrev pub ArePlanned : List Node → List Bool → List ℕ → List (Vec Row) → Type 0
+ArePlanned nodes marks costs lists = (id : ℕ) → id < length costs → IsMarked marks id → IsPlanned nodes costs id (rows_at lists id) (slice_index costs id)
+
+-- the nodes of a diagram are planned
+pub record ArePlans (nodes : List Node) (root : ℕ) (costs : List ℕ) (lists : List (Vec Row)) : Type 0 where
+  pub marks : List Bool
+  pub root_marked : IsMarked marks root
+  pub closed : AreClosedFrom nodes 0 marks
+  pub count : length costs ≡ root + 1
+  pub planned : ArePlanned nodes marks costs lists
