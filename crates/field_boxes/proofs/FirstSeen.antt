@@ -1,14 +1,14 @@
 -- Names in the order in which they were first seen.
 use Rattle.std.proofs.Common.{◌≡◌, ◌≢◌, ◌∷◌, ◌++◌, ℕ, ◌+◌, ◌-◌, ◌<◌, ◌≤◌, zero, suc, add-one, List, Bool, true, false, cond, [], ap, refl, sym, ◌∙◌, arith, length, get_or, Some}
 use Rattle.std.specs.Prelude.{map, position, slice_get, Option, option_map, ◌||◌, not}
-use Rattle.std.specs.List.{list_any, prefix_len}
+use Rattle.std.specs.List.{list_any, prefix_len, AllZip}
 use Rattle.std.specs.Str.{bytes_eq}
 use Rattle.std.proofs.lemmas.List.Quantifiers.{position-Some}
 use Rattle.std.proofs.lemmas.Option.{slice_get-get_or, slice_get-map, slice_get_within, none-some}
 use Rattle.std.proofs.lemmas.List.{length-map, map-append, length-append}
 use Rattle.std.proofs.lemmas.Grind.{common_steps}
 use Rattle.std.proofs.lemmas.Slice.Eq.{bytes_eq-Decides}
-use Rattle.field_boxes.specs.Names.{miss, name_at, with_name, number_of, text_of, AreNames}
+use Rattle.field_boxes.specs.Names.{miss, is_known, name_at, with_name, number_of, text_of, AreNames}
 
 pub list_any-map : {X Y : Type 0} (p : Y → Bool) (f : X → Y) (xs : List X) → list_any p (map f xs) ≡ list_any (λ x. p (f x)) xs
 list_any-map p f [] = refl
@@ -46,15 +46,15 @@ text_at f ks (suc n) k some h =
     let at : slice_get ks n ≡ Some k = ap (slice_get ks) (sym same) ∙ h in
     rw (slice_get-map f ks n, at) refl
 
-named_with : (names : List (List ℕ)) (name : List ℕ) (t : Bool) → length names < 262144 → name ≢ miss → AreNames names → AreNames (cond t names (names ++ name ∷ []))
+named_with : (names : List (List ℕ)) (name : List ℕ) (t : Bool) → (t ≡ false → length names < 262144) → name ≢ miss → AreNames names → AreNames (cond t names (names ++ name ∷ []))
 named_with names name true room named h = h
 named_with names name false room named h = record {
-  few = omega (arith, length-append names (name ∷ []));
+  few = omega (arith, room refl, length-append names (name ∷ []));
   named = grind (arith, common_steps, h.named);
 }
 
-pub AreNames-with_name : (names : List (List ℕ)) (name : List ℕ) → length names < 262144 → name ≢ miss → AreNames names → AreNames (with_name names name)
-AreNames-with_name names name room named h = named_with names name (list_any (bytes_eq name) names) room named h
+pub AreNames-with_name : (names : List (List ℕ)) (name : List ℕ) → (is_known names name ≡ false → length names < 262144) → name ≢ miss → AreNames names → AreNames (with_name names name)
+AreNames-with_name names name room named h = named_with names name (is_known names name) room named h
 
 pub number_by : {X : Type 0} (f : X → List ℕ) (ks : List X) (name : List ℕ) (r : Option ℕ) → bytes_eq name miss ≡ false → r ≡ position (λ k. bytes_eq name (f k)) ks →
     option_map (λ k. k + 1) r ≡ number_of (map f ks) name
@@ -77,3 +77,10 @@ name_at-with_name names name k h = kept_by names name (list_any (bytes_eq name) 
 pub name_at_within : (names : List (List ℕ)) (n : ℕ) (name : List ℕ) → name_at names n ≡ Some name → (0 < n) × (n ≤ length names)
 name_at_within names zero name h = absurd (none-some name h)
 name_at_within names (suc k) name h = (omega arith, omega (arith, slice_get_within names k name h))
+
+-- clones have the same texts
+pub same_texts : {X : Type 0} (f : X → List ℕ) (xs ys : List X) → AllZip (λ x y. f y ≡ f x) xs ys → map f ys ≡ map f xs
+same_texts f [] [] zip = refl
+same_texts f [] (y ∷ ys) zip = absurd zip
+same_texts f (x ∷ xs) [] zip = absurd zip
+same_texts f (x ∷ xs) (y ∷ ys) zip = ap (λ t. t ∷ map f ys) zip.0 ∙ ap (λ ts. f x ∷ ts) (same_texts f xs ys zip.1)

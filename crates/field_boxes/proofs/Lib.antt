@@ -1,8 +1,14 @@
 pub mod Aligned
 pub mod Bits
+pub mod Covered
+pub mod FieldByField
+pub mod Filled
 pub mod FirstSeen
 pub mod Halves
 pub mod Residues
 pub mod Order
 pub mod Powers
 pub mod Prefixes
+pub mod SameValues
+pub mod Unions
+pub mod United

@@ -4,4 +4,9 @@ pub mod Names
 pub mod Prefix
 pub mod Bits
 pub mod Spans
+pub mod Unions
+pub mod SpanLists
+pub mod Ports
+pub mod Boxes
 pub mod Rules
+pub mod NamedRules

@@ -33,9 +33,13 @@ text_of name = unwrap_or name miss
 abbrev pub number_of : List (List ℕ) → List ℕ → Option ℕ
 number_of names text = if bytes_eq text miss then Some 0 else option_map (λ k. k + 1) (position (bytes_eq text) names)
 
+-- whether the name is one of these
+abbrev pub is_known : List (List ℕ) → List ℕ → Bool
+is_known names name = list_any (bytes_eq name) names
+
 -- the names after one is seen: a new one goes last
 abbrev pub with_name : List (List ℕ) → List ℕ → List (List ℕ)
-with_name names name = if list_any (bytes_eq name) names then names else names ++ name ∷ []
+with_name names name = if is_known names name then names else names ++ name ∷ []
 
 -- there are at most so many names, and none is the word for no decision
 pub record AreNames (names : List (List ℕ)) : Type 0 where

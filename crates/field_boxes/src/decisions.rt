@@ -1,5 +1,5 @@
-ghost use Rattle.std.specs.Prelude.{◌≡◌, ◌≢◌, ◌≤◌, ◌<◌, ◌↔◌, ℕ, List, [], length, Some, IfOk, IfSome, IsNone, OnOk, OnErr};
-ghost use Rattle.field_boxes.specs.Names.{miss, name_at, number_of, text_of, with_name};
+ghost use Rattle.std.specs.Prelude.{◌≡◌, ◌≢◌, ◌≤◌, ◌<◌, ◌↔◌, ℕ, false, List, [], length, Some, IfOk, IfSome, IsNone, OnOk, OnErr};
+ghost use Rattle.field_boxes.specs.Names.{miss, is_known, name_at, number_of, text_of, with_name};
 
 use indexmap::IndexSet;
 use razor_base::Memory;
@@ -41,7 +41,7 @@ impl Decisions {
     /// The number of the name: its own where it is there, and the next one for a new name.
     pub fn intern(&mut self, name: &str) -> Result<u32, Memory>
         requires named { name.now ≢ miss }
-        requires room { length self.old < 262144 }
+        requires room { is_known self.old name.now ≡ false → length self.old < 262144 }
         ensures names { OnOk result (self.new ≡ with_name self.old name.now) }
         ensures number { IfOk result (λ n. name_at self.new n ≡ Some name.now) }
         ensures within { IfOk result (λ n. (0 < n) × (n ≤ length self.new)) }
@@ -86,5 +86,15 @@ impl Decisions {
         }
         let place = self.names.get_index_of(name)?;
         Some(place as u32 + 1)
+    }
+
+    /// A copy, with the same names under the same numbers.
+    pub fn copy(&self, alloc: Global) -> Result<Decisions, Memory>
+        ensures { IfOk result (λ copy. copy ≡ self.now) }
+    {
+        Ok(Decisions {
+            alloc,
+            names: self.names.clone()?,
+        })
     }
 }

@@ -1,9 +1,6 @@
 ghost use Rattle.std.specs.Prelude.{◌≡◌, ◌<◌};
 ghost use Rattle.field_boxes.specs.Fields.{greatest_of};
 
-/// The bits of each field, in the stated order.
-pub const WIDTHS: [u8; 5] = [32, 32, 16, 16, 8];
-
 /// The greatest value of the field.
 pub fn greatest(field: usize) -> u32
     requires { field < 5 }

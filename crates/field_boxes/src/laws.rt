@@ -1,7 +1,8 @@
 //! Laws of the definitions, for whoever relies on them. The functions do nothing.
 ghost use Rattle.std.specs.Prelude.{◌≡◌, ◌<◌, ◌^◌, ◌∷◌, ◌⊎◌, ℕ, List, length};
 ghost use Rattle.field_boxes.specs.Fields.{ComesBefore};
-ghost use Rattle.field_boxes.specs.Classifier.{Rule, source, residue, interval_holds};
+ghost use Rattle.field_boxes.specs.Classifier.{Interval, Rule, source, residue, interval_holds, union_holds};
+ghost use Rattle.field_boxes.specs.Unions.{RiseApart};
 ghost use Rattle.field_boxes.specs.Prefix.{FitsWidth, prefix_bits, prefix_holds, prefix_interval};
 ghost use Rattle.field_boxes.specs.Bits.{bits, begins};
 ghost use Rattle.field_boxes.specs.declared.prefix.Prefix.{Prefix};
@@ -26,4 +27,9 @@ pub fn prefixes_are_intervals()
 /// A prefix holds the values whose bits begin with its own.
 pub fn prefixes_are_bits()
     ensures { (width : ℕ) (p : Prefix) → FitsWidth width p → (v : ℕ) → v < 2 ^ width → prefix_holds width p v ≡ begins (prefix_bits width p) (bits width v) }
+{}
+
+/// Two unions whose intervals rise apart are the same list where they have the same values.
+pub fn unions_are_values()
+    ensures { (top : ℕ) (a b : List Interval) → RiseApart 0 top a → RiseApart 0 top b → ((v : ℕ) → union_holds v a ≡ union_holds v b) → a ≡ b }
 {}

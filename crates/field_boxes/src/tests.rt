@@ -1,4 +1,10 @@
-use crate::{Decisions, Header, Prefix, Rule, Span, decision_word, first, greatest};
+//! Worked values, and boxes against all headers at their ends.
+mod brute_force;
+
+ghost use Rattle.std.specs.Prelude.{◌≤◌};
+
+use crate::{Decisions, Header, Ports, Prefix, Rule, Span, decision_word, first, greatest};
+use std::mem::size_of;
 use std::test::Fail;
 
 #[test]
@@ -29,29 +35,60 @@ fn prefixes_hold_their_spans(rt: HostRuntime) {
     assert!(rt; !ten.holds(32, 0x0b00_0000));
 }
 
+/// The rule that is open but for the destination ports and the protocol.
+fn web_rule(ports: Ports, protocol: u32, decision: u32) -> Option<Rule>
+    requires { protocol ≤ 255 }
+{
+    Some(Rule {
+        source: Span::new(0, 4_294_967_295)?,
+        destination: Span::new(0, 4_294_967_295)?,
+        ports: [Ports::of(&[Span::new(0, 65_535)?])?, ports],
+        protocol: Span {
+            lo: protocol,
+            hi: protocol,
+        },
+        decision,
+    })
+}
+
 #[test]
-fn the_first_rule_that_holds_a_header_is_found(rt: HostRuntime) {
-    let tcp = Rule {
-        spans: [
-            Span {
-                lo: 0,
-                hi: 4_294_967_295,
-            },
-            Span {
-                lo: 0x0a00_0000,
-                hi: 0x0aff_ffff,
-            },
-            Span { lo: 0, hi: 65_535 },
-            Span { lo: 0, hi: 65_535 },
-            Span { lo: 6, hi: 6 },
-        ],
-        decision: 1,
-    };
-    let rules = [tcp, tcp];
-    let inside = Header::new([1, 0x0a00_0001, 2, 3, 6]).expect(&rt, "a header");
-    let outside = Header::new([1, 0x0a00_0001, 2, 3, 17]).expect(&rt, "a header");
-    assert!(rt; first(&rules, &inside) == Some(0));
+fn the_first_rule_that_holds_a_header_is_found(rt: HostRuntime) -> Result<(), Fail> {
+    let ports = Ports::of(&[Span { lo: 80, hi: 80 }, Span { lo: 443, hi: 443 }]).ok_or("no ports")?;
+    let rules = [
+        web_rule(ports, 17, 2).ok_or("no rule")?,
+        web_rule(ports, 6, 1).ok_or("no rule")?,
+    ];
+    let inside = Header::new([1, 2, 3, 443, 6]).ok_or("no header")?;
+    let outside = Header::new([1, 2, 3, 81, 6]).ok_or("no header")?;
+    assert!(rt; first(&rules, &inside) == Some(1));
     assert!(rt; first(&rules, &outside).is_none());
+    assert!(rt; size_of::<Rule>() <= 320);
+    Ok(())
+}
+
+#[test]
+fn unions_are_kept_maximal(rt: HostRuntime) -> Result<(), Fail> {
+    let web = Ports::of(&[
+        Span { lo: 443, hi: 443 },
+        Span { lo: 80, hi: 80 },
+        Span { lo: 81, hi: 90 },
+    ])
+    .ok_or("no ports")?;
+    assert_eq!(rt;
+        web.spans(),
+        [Span { lo: 80, hi: 90 }, Span { lo: 443, hi: 443 }].as_slice()
+    );
+    assert!(rt; web.holds(85));
+    assert!(rt; !web.holds(91));
+    let all = Ports::of(&[Span { lo: 10, hi: 65_535 }, Span { lo: 0, hi: 9 }]).ok_or("no ports")?;
+    assert_eq!(rt; all.spans(), [Span { lo: 0, hi: 65_535 }].as_slice());
+    assert!(rt; Ports::of(&[Span { lo: 0, hi: 65_535 }]) == Some(all));
+    assert!(rt; all != web);
+    assert!(rt; Ports::of(&[]).is_none());
+    assert!(rt; Ports::of(&[Span { lo: 1, hi: 1 }; 16]).is_some());
+    assert!(rt; Ports::of(&[Span { lo: 1, hi: 1 }; 17]).is_none());
+    assert!(rt; Ports::of(&[Span { lo: 1, hi: 65_536 }]).is_none());
+    Ok(())
 }
 
 #[test]
@@ -63,6 +100,9 @@ fn names_are_numbered_as_first_seen(rt: HostRuntime) -> Result<(), Fail> {
     assert!(rt; names.number("miss") == Some(0));
     assert!(rt; names.number("accept") == Some(1));
     assert!(rt; names.number("Accept").is_none());
+    let copy = names.copy(rt.alloc())?;
+    assert!(rt; copy.count() == 1);
+    assert!(rt; copy.number("accept") == Some(1));
     for word in [b"accept".as_slice(), b"a-b_c.9", b"Miss", b"x"] {
         assert!(rt; decision_word(word));
     }

@@ -1,0 +1,11 @@
+use Rattle.std.proofs.Common.{◌<◌, ℕ, []}
+use Rattle.std.specs.Prelude.{IsTrue, slice_index_or}
+use Rattle.field_boxes.specs.declared.span.Span.{Span}
+use Rattle.field_boxes.specs.Fields.{greatest_of}
+use Rattle.field_boxes.specs.Classifier.{union_holds}
+use Rattle.field_boxes.specs.Boxes.{SomeValue}
+use Rattle.field_boxes.specs.Rules.{sets_of}
+use Rattle.field_boxes.proofs.rule.Rule.meets.Given as goal
+
+abbrev pub invariant-loop-field : goal.invariant-loop-field
+invariant-loop-field l = (k : ℕ) (d : Span) → k < l.field → SomeValue (greatest_of k) (slice_index_or l.spans k d) (λ v. IsTrue (union_holds v (slice_index_or (sets_of l.self) k [])))
