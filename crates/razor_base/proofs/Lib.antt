@@ -1,3 +1,5 @@
 pub mod Digits
 pub mod Input
 pub mod Output
+pub mod Streams
+pub mod Writing

@@ -2,7 +2,12 @@ pub mod FaultPlan
 pub mod Faults
 pub mod HostDesk
 pub mod HostSink
+pub mod HostStream
 pub mod Input
 pub mod MemDesk
 pub mod MemSink
 pub mod Output
+pub mod Parts
+pub mod StreamDesk
+pub mod Streams
+pub mod StreamSink

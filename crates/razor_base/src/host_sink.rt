@@ -1,21 +1,19 @@
-ghost use Rattle.std.specs.Prelude.{◌≡◌, ◌≤◌, length, IfOk};
-
 use crate::failure::Failed;
-use crate::host_desk::RETRIES;
+use crate::host_stream::HostDrain;
 use crate::sink::Sink;
-use std::io;
-use std::io::{ErrorKind, Stderr};
+use crate::stream_sink::StreamSink;
+use std::io::Stderr;
 
 /// Standard output or standard error.
 ///
 /// What a write takes has reached the system when it answers. The bytes are not told.
 #[derive(Drop)]
 pub struct HostSink<P> {
-    stream: P,
-    faults: u64,
+    sink: StreamSink<HostDrain<P>>,
 }
 
 impl<P: Print> HostSink<P> {
+    ghost use Rattle.std.specs.Prelude.{◌≡◌};
     ghost use Rattle.razor_base.specs.HostSink.{stream_faults};
 
     /// What the runtime prints to, its standard output.
@@ -23,57 +21,46 @@ impl<P: Print> HostSink<P> {
         ensures { stream_faults result ≡ 0 }
     {
         HostSink {
-            stream: rt,
-            faults: 0,
+            sink: StreamSink::new(HostDrain::new(rt)),
         }
     }
 }
 
 impl HostSink<Stderr> {
+    ghost use Rattle.std.specs.Prelude.{◌≡◌};
     ghost use Rattle.razor_base.specs.HostSink.{stream_faults};
 
     /// The standard error of the runtime.
     pub fn err(rt: &HostRuntime) -> Self
         ensures { stream_faults result ≡ 0 }
     {
-        HostSink {
-            stream: rt.stderr(),
-            faults: 0,
-        }
+        HostSink::out(rt.stderr())
     }
 }
 
 impl<P: Print> Sink for HostSink<P> {
-    ghost use Rattle.std.specs.Prelude.{None};
+    ghost use Rattle.std.specs.Prelude.{◌≡◌, ◌≤◌, ◌<◌, length, Ok, None, IfOk, OnErr, is_ok, if◌then◌else◌};
+    ghost use Rattle.std.specs.Io.KnownBytes.{WriteAppends};
+    ghost use Rattle.razor_base.specs.Faults.{Rose};
+    ghost use Rattle.razor_base.specs.FaultPlan.{counted};
     ghost use Rattle.razor_base.specs.HostSink.{stream_faults};
 
     ghost written = { λ _. None };
 
     ghost faults = { stream_faults };
 
-    fn write(&mut self, piece: &[u8]) -> Result<usize, Failed> {
-        if piece.is_empty() {
-            return Ok(0);
-        }
-        match write_some(&self.stream, piece) {
-            Ok(taken) if taken > 0 => Ok(taken),
-            _ => {
-                self.faults = self.faults.saturating_add(1);
-                Err(Failed)
-            }
-        }
-    }
-}
+    fn write(&mut self, piece: &[u8]) -> Result<usize, Failed>
+        ensures bytes { WriteAppends None None result piece.now }
+        ensures within { IfOk result (λ n. n ≤ length piece.now) }
+        ensures some { IfOk result (λ n. 0 < length piece.now → 0 < n) }
+        ensures empty { length piece.now ≡ 0 → result ≡ Ok 0 }
+        ensures failed { OnErr result (Rose (stream_faults self.old) (stream_faults self.new)) }
+        ensures counts { stream_faults self.old ≤ stream_faults self.new }
 
-/// Writes some of the bytes, again where a signal cut the call short.
-fn write_some<P: Print>(stream: &P, piece: &[u8]) -> io::Result<usize>
-    ensures { IfOk result (λ n. n ≤ length piece.now) }
-{
-    for _ in 0..RETRIES {
-        match stream.write_some(piece) {
-            Err(error) if error.kind() == ErrorKind::Interrupted => {}
-            outcome => return outcome,
-        }
+        // The count rises by one with a failure, and with nothing else.
+        ensures rises { stream_faults self.new
+            ≡ (if is_ok result then stream_faults self.old else counted (stream_faults self.old)) }
+    {
+        self.sink.write(piece)
     }
-    stream.write_some(piece)
 }

@@ -1,8 +1,6 @@
-ghost use Rattle.std.specs.Prelude.{◌≡◌, ◌≤◌, ◌+◌, [], ◌++◌, length, OnOk, OnErr};
+ghost use Rattle.std.specs.Prelude.{◌≡◌, ◌≤◌, ◌+◌, [], ◌++◌, length};
 ghost use Rattle.std.specs.Fmt.{decimal};
-ghost use Rattle.std.specs.Io.KnownBytes.{Appends};
-ghost use Rattle.razor_base.specs.Faults.{Rose};
-ghost use Rattle.razor_base.specs.Output.{LeavesOut, AppendsFront};
+ghost use Rattle.razor_base.specs.Output.{Puts, Writes};
 
 use crate::decimal::Decimal;
 use crate::failure::Failed;
@@ -48,13 +46,7 @@ impl Pending {
 
     /// Puts the bytes behind those that wait, and writes what no longer fits.
     pub fn put<K: Sink>(&mut self, sink: &mut K, bytes: &[u8]) -> Result<(), Failed>
-        ensures ok { OnOk result
-            (LeavesOut (K.written sink.old) (K.written sink.new) (self.old ++ bytes.now) self.new) }
-        ensures err { OnErr result
-            (AppendsFront (K.written sink.old) (K.written sink.new) (self.old ++ bytes.now)) }
-        ensures lost { OnErr result (self.new ≡ []) }
-        ensures failed { OnErr result (Rose (K.faults sink.old) (K.faults sink.new)) }
-        ensures counts { K.faults sink.old ≤ K.faults sink.new }
+        ensures { Puts K.written K.faults sink.old sink.new self.old self.new bytes.now result }
     {
         if bytes.len() <= self.room() {
             self.keep(bytes);
@@ -70,25 +62,15 @@ impl Pending {
 
     /// Puts the decimal digits of the number, without leading zeros, behind the bytes that wait.
     pub fn put_number<K: Sink>(&mut self, sink: &mut K, number: u128) -> Result<(), Failed>
-        ensures ok { OnOk result
-            (LeavesOut (K.written sink.old) (K.written sink.new) (self.old ++ decimal number) self.new) }
-        ensures err { OnErr result
-            (AppendsFront (K.written sink.old) (K.written sink.new) (self.old ++ decimal number)) }
-        ensures lost { OnErr result (self.new ≡ []) }
-        ensures failed { OnErr result (Rose (K.faults sink.old) (K.faults sink.new)) }
-        ensures counts { K.faults sink.old ≤ K.faults sink.new }
+        ensures { Puts K.written K.faults sink.old sink.new self.old self.new (decimal number) result }
     {
         self.put(sink, Decimal::of(number).bytes())
     }
 
     /// Writes all that waits.
     pub fn flush<K: Sink>(&mut self, sink: &mut K) -> Result<(), Failed>
-        ensures ok { OnOk result
-            (Appends (K.written sink.old) (K.written sink.new) self.old × (self.new ≡ [])) }
-        ensures err { OnErr result (AppendsFront (K.written sink.old) (K.written sink.new) self.old) }
-        ensures lost { OnErr result (self.new ≡ []) }
-        ensures failed { OnErr result (Rose (K.faults sink.old) (K.faults sink.new)) }
-        ensures counts { K.faults sink.old ≤ K.faults sink.new }
+        ensures whole { Writes K.written K.faults sink.old sink.new self.old result }
+        ensures none { self.new ≡ [] }
     {
         let filled = self.filled;
         self.filled = 0;

@@ -7,18 +7,19 @@ ghost use Rattle.razor_base.specs.declared.read.ReadError.TheVariants.{Fault, To
 use crate::desk::Desk;
 use crate::failure::Failed;
 use std::alloc::AllocError;
+use thiserror::Error;
 
 /// As many bytes as are asked for at once.
 const PIECE: usize = 65_536;
 
 /// Why an input was not read to its end.
-#[derive(Clone, Copy, Debug, PartialEq, Eq)]
+#[derive(Clone, Copy, Debug, PartialEq, Eq, Error)]
 pub enum ReadError {
-    /// A read failed.
+    #[error("a read failed")]
     Fault,
-    /// The input is longer than the limit.
+    #[error("the input is longer than the limit")]
     TooLong,
-    /// Memory was refused.
+    #[error("memory was refused")]
     Memory,
 }
 

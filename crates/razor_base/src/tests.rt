@@ -1,5 +1,8 @@
 ghost use Rattle.std.specs.Prelude.{◌<◌, ◌≤◌};
 
+mod script;
+mod streams;
+
 use crate::{
     Desk, Failed, HostDesk, HostSink, MemDesk, MemSink, Pending, ReadError, Sink, read_all,
     write_all, write_number,

@@ -1,8 +1,5 @@
-ghost use Rattle.std.specs.Prelude.{◌≤◌, OnOk, OnErr};
 ghost use Rattle.std.specs.Fmt.{decimal};
-ghost use Rattle.std.specs.Io.KnownBytes.{Appends};
-ghost use Rattle.razor_base.specs.Faults.{Rose};
-ghost use Rattle.razor_base.specs.Output.{AppendsFront};
+ghost use Rattle.razor_base.specs.Output.{Writes};
 
 use crate::decimal::Decimal;
 use crate::failure::Failed;
@@ -10,10 +7,7 @@ use crate::sink::Sink;
 
 /// Writes all of the bytes, in as many calls as the sink takes.
 pub fn write_all<K: Sink>(sink: &mut K, bytes: &[u8]) -> Result<(), Failed>
-    ensures ok { OnOk result (Appends (K.written sink.old) (K.written sink.new) bytes.now) }
-    ensures err { OnErr result (AppendsFront (K.written sink.old) (K.written sink.new) bytes.now) }
-    ensures failed { OnErr result (Rose (K.faults sink.old) (K.faults sink.new)) }
-    ensures counts { K.faults sink.old ≤ K.faults sink.new }
+    ensures { Writes K.written K.faults sink.old sink.new bytes.now result }
 {
     let mut rest = bytes;
     while !rest.is_empty() {
@@ -25,10 +19,7 @@ pub fn write_all<K: Sink>(sink: &mut K, bytes: &[u8]) -> Result<(), Failed>
 
 /// Writes the decimal digits of the number, without leading zeros.
 pub fn write_number<K: Sink>(sink: &mut K, number: u128) -> Result<(), Failed>
-    ensures ok { OnOk result (Appends (K.written sink.old) (K.written sink.new) (decimal number)) }
-    ensures err { OnErr result (AppendsFront (K.written sink.old) (K.written sink.new) (decimal number)) }
-    ensures failed { OnErr result (Rose (K.faults sink.old) (K.faults sink.new)) }
-    ensures counts { K.faults sink.old ≤ K.faults sink.new }
+    ensures { Writes K.written K.faults sink.old sink.new (decimal number) result }
 {
     write_all(sink, Decimal::of(number).bytes())
 }

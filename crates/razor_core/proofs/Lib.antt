@@ -2,7 +2,6 @@ pub mod Boxes
 pub mod Cuts
 pub mod Endings
 pub mod Entries
-pub mod PartsSent
 pub mod Seen
 pub mod Whole
 pub mod Zipped

@@ -6,7 +6,7 @@ pub mod Turns
 pub mod Expansion
 pub mod Messages
 pub mod Ending
-pub mod Parts
+pub mod Says
 pub mod Inputs
 pub mod Promise
 pub mod Rows

@@ -7,7 +7,7 @@ ghost use Rattle.razor_core.specs.ThinList.{BadLine};
 ghost use Rattle.razor_core.specs.Turns.{turns_of, bad_line, too_long};
 ghost use Rattle.razor_core.specs.Ending.{IsDone, IsCutOff, IsStopped, status_of};
 ghost use Rattle.razor_core.specs.Promise.{IsStatusOf, IsLine, SomeReadFails};
-ghost use Rattle.razor_core.specs.Parts.{Says};
+ghost use Rattle.razor_core.specs.Says.{Says};
 
 use crate::command::spelled_command;
 use crate::ending::Ending;
@@ -87,7 +87,7 @@ pub fn razor<D: Desk, K: Sink, E: Sink>(
         × IsLine (command_of words.now)
         (seen (D.remaining desk.old) (D.faults desk.old) (K.written out.old) (K.faults out.old))
         (seen (D.remaining desk.new) (D.faults desk.new) (K.written out.new) (K.faults out.new)) result line
-        × Says (E.written err.old) (E.written err.new) (E.faults err.old) (E.faults err.new) line }
+        × Says E.written E.faults err.old err.new line }
 {
     let Some(spelled) = spelled_command(words) else {
         say_usage(err);

@@ -1,11 +1,9 @@
 pub mod FirstMatch
 pub mod Fives
 pub mod Joined
-pub mod Lines
 pub mod Masked
 pub mod Matching
 pub mod PrefixHolds
 pub mod PrefixMasks
 pub mod PrefixTrits
-pub mod Puts
 pub mod WordText

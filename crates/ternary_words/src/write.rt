@@ -1,8 +1,5 @@
-ghost use Rattle.std.specs.Prelude.{◌≤◌, ◌∷◌, [], ◌++◌, length, OnOk, OnErr};
-ghost use Rattle.std.specs.Fmt.{decimal};
-ghost use Rattle.std.specs.Io.KnownBytes.{Appends};
-ghost use Rattle.razor_base.specs.Faults.{Rose};
-ghost use Rattle.razor_base.specs.Output.{AppendsFront, LeavesOut};
+ghost use Rattle.std.specs.Prelude.{◌≤◌, length};
+ghost use Rattle.razor_base.specs.Output.{Puts, Writes};
 ghost use Rattle.ternary_words.specs.TableText.{entries_text, entry_line, first_line, table_text};
 ghost use Rattle.ternary_words.specs.Views.{entry_of, table_of};
 
@@ -10,14 +7,11 @@ use crate::characters::characters;
 use crate::entry::Entry;
 use crate::table::Table;
 use field_boxes::Decisions;
-use razor_base::{Failed, Pending, Sink};
+use razor_base::{Failed, Part, Pending, Sink, put_parts};
 
 /// Writes the text of the table, in large pieces and without taking memory.
 pub fn write_table<K: Sink>(table: &Table, out: &mut K) -> Result<(), Failed>
-    ensures ok { OnOk result (Appends (K.written out.old) (K.written out.new) (table_text (table_of table.now))) }
-    ensures err { OnErr result (AppendsFront (K.written out.old) (K.written out.new) (table_text (table_of table.now))) }
-    ensures failed { OnErr result (Rose (K.faults out.old) (K.faults out.new)) }
-    ensures counts { K.faults out.old ≤ K.faults out.new }
+    ensures { Writes K.written K.faults out.old out.new (table_text (table_of table.now)) result }
 {
     let mut pending = Pending::new();
     put_first_line(table, &mut pending, out)?;
@@ -27,45 +21,26 @@ pub fn write_table<K: Sink>(table: &Table, out: &mut K) -> Result<(), Failed>
 
 /// Puts the first line: the slot's width, the number composed, and the number of entries.
 fn put_first_line<K: Sink>(table: &Table, pending: &mut Pending, out: &mut K) -> Result<(), Failed>
-    ensures ok { OnOk result
-        (LeavesOut (K.written out.old) (K.written out.new) (pending.old ++ first_line (table_of table.now)) pending.new) }
-    ensures err { OnErr result
-        (AppendsFront (K.written out.old) (K.written out.new) (pending.old ++ first_line (table_of table.now))) }
-    ensures failed { OnErr result (Rose (K.faults out.old) (K.faults out.new)) }
-    ensures counts { K.faults out.old ≤ K.faults out.new }
+    ensures { Puts K.written K.faults out.old out.new pending.old pending.new (first_line (table_of table.now)) result }
 {
-    put_labelled(b"table 1 slot ", u128::from(table.slot), pending, out)?;
-    put_labelled(b" composed ", u128::from(table.composed), pending, out)?;
-    put_labelled(b" entries ", table.entries.len() as u128, pending, out)?;
-    pending.put(out, b"\n")
-}
-
-/// Puts the label and, behind it, the number.
-fn put_labelled<K: Sink>(
-    label: &[u8],
-    number: u128,
-    pending: &mut Pending,
-    out: &mut K,
-) -> Result<(), Failed>
-    ensures ok { OnOk result
-        (LeavesOut (K.written out.old) (K.written out.new) (pending.old ++ label.now ++ decimal number) pending.new) }
-    ensures err { OnErr result
-        (AppendsFront (K.written out.old) (K.written out.new) (pending.old ++ label.now ++ decimal number)) }
-    ensures failed { OnErr result (Rose (K.faults out.old) (K.faults out.new)) }
-    ensures counts { K.faults out.old ≤ K.faults out.new }
-{
-    pending.put(out, label)?;
-    pending.put_number(out, number)
+    put_parts(
+        pending,
+        out,
+        &[
+            Part::Text("table 1 slot "),
+            Part::Number(u128::from(table.slot)),
+            Part::Text(" composed "),
+            Part::Number(u128::from(table.composed)),
+            Part::Text(" entries "),
+            Part::Number(table.entries.len() as u128),
+            Part::Text("\n"),
+        ],
+    )
 }
 
 /// Puts a line for each entry.
 fn put_entries<K: Sink>(table: &Table, pending: &mut Pending, out: &mut K) -> Result<(), Failed>
-    ensures ok { OnOk result
-        (LeavesOut (K.written out.old) (K.written out.new) (pending.old ++ entries_text (table_of table.now)) pending.new) }
-    ensures err { OnErr result
-        (AppendsFront (K.written out.old) (K.written out.new) (pending.old ++ entries_text (table_of table.now))) }
-    ensures failed { OnErr result (Rose (K.faults out.old) (K.faults out.new)) }
-    ensures counts { K.faults out.old ≤ K.faults out.new }
+    ensures { Puts K.written K.faults out.old out.new pending.old pending.new (entries_text (table_of table.now)) result }
 {
     for entry in &table.entries {
         put_entry(entry, table.slot, &table.names, pending, out)?;
@@ -84,28 +59,17 @@ fn put_entry<K: Sink>(
     requires narrowest { 104 ≤ slot }
     requires widest { slot ≤ 288 }
     requires number { entry.now.decision ≤ length names.now }
-    ensures ok { OnOk result
-        (LeavesOut (K.written out.old) (K.written out.new) (pending.old ++ entry_line slot (entry_of names.now entry.now)) pending.new) }
-    ensures err { OnErr result
-        (AppendsFront (K.written out.old) (K.written out.new) (pending.old ++ entry_line slot (entry_of names.now entry.now))) }
-    ensures failed { OnErr result (Rose (K.faults out.old) (K.faults out.new)) }
-    ensures counts { K.faults out.old ≤ K.faults out.new }
+    ensures { Puts K.written K.faults out.old out.new pending.old pending.new (entry_line slot (entry_of names.now entry.now)) result }
 {
     let characters = characters(&entry.word);
     pending.put(out, &characters[..slot as usize])?;
-    put_decision(names.name(entry.decision), pending, out)
-}
-
-/// Puts what follows an entry's word: a space, the decision and the end of the line.
-fn put_decision<K: Sink>(decision: &str, pending: &mut Pending, out: &mut K) -> Result<(), Failed>
-    ensures ok { OnOk result
-        (LeavesOut (K.written out.old) (K.written out.new) (pending.old ++ 32 ∷ decision.now ++ 10 ∷ []) pending.new) }
-    ensures err { OnErr result
-        (AppendsFront (K.written out.old) (K.written out.new) (pending.old ++ 32 ∷ decision.now ++ 10 ∷ [])) }
-    ensures failed { OnErr result (Rose (K.faults out.old) (K.faults out.new)) }
-    ensures counts { K.faults out.old ≤ K.faults out.new }
-{
-    pending.put(out, b" ")?;
-    pending.put(out, decision.as_bytes())?;
-    pending.put(out, b"\n")
+    put_parts(
+        pending,
+        out,
+        &[
+            Part::Text(" "),
+            Part::Text(names.name(entry.decision)),
+            Part::Text("\n"),
+        ],
+    )
 }

@@ -1,0 +1,103 @@
+ghost use Rattle.std.specs.Prelude.{◌≡◌, ◌↔◌};
+ghost use Rattle.std.specs.IoError.{error_kind};
+ghost use Rattle.razor_base.specs.declared.stream.Cut.TheVariants.{Interrupted};
+
+use crate::failure::Failed;
+use crate::opener::Opener;
+use crate::stream::{Cut, Drain, Source};
+use std::io::{ErrorKind, Read};
+use std::rt::Files;
+use std::{fs, io};
+
+/// Opens the files of the system, and standard input under the name `-`.
+#[derive(Drop)]
+pub(crate) struct HostFiles<R> {
+    rt: R,
+}
+
+/// A file, or standard input.
+#[derive(Drop)]
+pub(crate) enum HostSource<F, I> {
+    File(F),
+    Input(I),
+}
+
+/// What the runtime prints to.
+#[derive(Drop)]
+pub(crate) struct HostDrain<P> {
+    stream: P,
+}
+
+impl<R> HostFiles<R> {
+    pub(crate) fn new(rt: R) -> Self {
+        HostFiles { rt }
+    }
+}
+
+impl<P> HostDrain<P> {
+    pub(crate) fn new(stream: P) -> Self {
+        HostDrain { stream }
+    }
+}
+
+impl<R: Files + Input> Opener for HostFiles<R> {
+    ghost use Rattle.std.specs.Prelude.{None, IfOk, ◌≡◌, ◌↔◌, codes};
+    ghost use Rattle.std.specs.Io.KnownBytes.{Keeps};
+    ghost use Rattle.razor_base.specs.HostStream.{IsInput};
+
+    type Stream = HostSource<R::File, R::Reader>;
+
+    ghost contents = { λ _ _. None };
+
+    fn open(&self, name: &str) -> Result<HostSource<R::File, R::Reader>, Failed>
+        ensures start { IfOk result (λ stream. Keeps None None) }
+        ensures input { IfOk result (λ stream. IsInput stream ↔ (name.now ≡ codes "-")) }
+    {
+        if name == "-" {
+            return Ok(HostSource::Input(self.rt.reader()));
+        }
+        match fs::open(&self.rt, name) {
+            Ok(file) => Ok(HostSource::File(file)),
+            Err(_) => Err(Failed),
+        }
+    }
+}
+
+impl<F: Read, I: Read> Source for HostSource<F, I> {
+    ghost use Rattle.std.specs.Prelude.{None};
+
+    ghost left = { λ _. None };
+
+    ghost calls = { λ _. None };
+
+    fn read(&mut self, piece: &mut [u8]) -> Result<usize, Cut> {
+        let outcome = match self {
+            HostSource::File(file) => file.read(piece),
+            HostSource::Input(input) => input.read(piece),
+        };
+        outcome.map_err(cut)
+    }
+}
+
+impl<P: Print> Drain for HostDrain<P> {
+    ghost use Rattle.std.specs.Prelude.{None};
+
+    ghost taken = { λ _. None };
+
+    ghost calls = { λ _. None };
+
+    fn write(&mut self, piece: &[u8]) -> Result<usize, Cut> {
+        self.stream.write_some(piece).map_err(cut)
+    }
+}
+
+/// Whether a signal interrupted the call that answered this error.
+fn cut(error: io::Error) -> Cut
+    ensures { (result ≡ Interrupted) ↔ (error_kind error ≡ ErrorKind.Interrupted) }
+{
+    if error.kind() == ErrorKind::Interrupted {
+        Cut::Interrupted
+    } else {
+        Cut::Refused
+    }
+}

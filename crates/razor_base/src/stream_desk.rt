@@ -1,0 +1,152 @@
+ghost use Rattle.std.specs.Prelude.{◌≡◌, ◌≢◌, Some, IfOk, IsOkAnd, string_bytes};
+ghost use Rattle.std.specs.Io.KnownBytes.{Keeps};
+ghost use Rattle.razor_base.specs.StreamDesk.{name_of};
+
+use crate::desk::Desk;
+use crate::failure::Failed;
+use crate::opener::Opener;
+use crate::stream::{Source, read_some};
+use std::alloc::Global;
+
+/// A desk over streams that are opened by their names.
+///
+/// One stream is open at a time: it is opened at the first read of its name, and stays open until another
+/// name is read. The bytes that are left under a name aren't told, since a stream that is opened anew
+/// begins anew.
+#[derive(Drop)]
+pub(crate) struct StreamDesk<O, S> {
+    opener: O,
+    alloc: Global,
+    opened: Option<Opened<S>>,
+    faults: u64,
+}
+
+/// What is open, and its name.
+#[derive(Drop)]
+pub(crate) struct Opened<S> {
+    name: String,
+    stream: S,
+}
+
+impl<O: Opener<Stream = S>, S: Source + Drop> StreamDesk<O, S> {
+    ghost use Rattle.std.specs.Prelude.{◌≡◌, ◌≤◌, ◌≢◌, length, None, Some, IfOk, OnOk};
+    ghost use Rattle.std.specs.Io.KnownBytes.{ReadConsumes};
+    ghost use Rattle.razor_base.specs.StreamDesk.{open_name, left_open, open_faults, opener_of};
+
+    /// Nothing is open yet.
+    pub(crate) fn new(opener: O, alloc: Global) -> Self
+        ensures over { opener_of result ≡ opener }
+        ensures none { open_name result ≡ None }
+        ensures calm { open_faults result ≡ 0 }
+    {
+        StreamDesk {
+            opener,
+            alloc,
+            opened: None,
+            faults: 0,
+        }
+    }
+
+    /// Reads from what is open under the name, or opens it first.
+    fn read_named(&mut self, name: &str, piece: &mut [u8]) -> Result<usize, Failed>
+        ensures within { IfOk result (λ n. n ≤ length piece.new) }
+        ensures faults { open_faults self.new ≡ open_faults self.old }
+        ensures opener { opener_of self.new ≡ opener_of self.old }
+
+        // The name is open afterwards; one that was open stays so, also after a failure.
+        ensures opened { OnOk result (open_name self.new ≡ Some name.now) }
+        ensures stays { open_name self.old ≡ Some name.now → open_name self.new ≡ Some name.now }
+
+        // The bytes come from where the last read of the name ended, or from its start.
+        ensures goes_on { open_name self.old ≡ Some name.now →
+            ReadConsumes (left_open S.left self.old) (left_open S.left self.new) result piece.new }
+        ensures begins { open_name self.old ≢ Some name.now →
+            OnOk result (ReadConsumes (O.contents (opener_of self.old) name.now) (left_open S.left self.new) result piece.new) }
+    {
+        let kept = self.opened.take();
+        let mut opened = reopen(&self.opener, self.alloc, kept, name)?;
+        let outcome = read_some(&mut opened.stream, piece);
+        self.opened = Some(opened);
+        outcome
+    }
+}
+
+/// What is open already, if it has the name; else it is closed, and the name is opened.
+fn reopen<O: Opener<Stream = S>, S: Source + Drop>(
+    opener: &O,
+    alloc: Global,
+    kept: Option<Opened<S>>,
+    name: &str,
+) -> Result<Opened<S>, Failed>
+    ensures name { IfOk result (λ opened. string_bytes opened.name ≡ name.now) }
+    ensures kept { name_of kept ≡ Some name.now → IsOkAnd result (λ opened. Some opened ≡ kept) }
+    ensures anew { name_of kept ≢ Some name.now →
+        IfOk result (λ opened. Keeps (O.contents opener.now name.now) (S.left opened.stream)) }
+{
+    match kept {
+        Some(opened) if opened.name.as_str() == name => Ok(opened),
+        _ => open(opener, alloc, name),
+    }
+}
+
+/// Opens the stream of the name at its start.
+fn open<O: Opener<Stream = S>, S: Source + Drop>(
+    opener: &O,
+    alloc: Global,
+    name: &str,
+) -> Result<Opened<S>, Failed>
+    ensures name { IfOk result (λ opened. string_bytes opened.name ≡ name.now) }
+    ensures start { IfOk result (λ opened. Keeps (O.contents opener.now name.now) (S.left opened.stream)) }
+{
+    let stream = opener.open(name)?;
+    let Ok(name) = String::from_str(alloc, name) else {
+        return Err(Failed);
+    };
+    Ok(Opened { name, stream })
+}
+
+impl<O: Opener<Stream = S>, S: Source + Drop> Desk for StreamDesk<O, S> {
+    ghost use Rattle.std.specs.Prelude.{◌≡◌, ◌≢◌, ◌≤◌, ◌<◌, ◌==◌, ℕ, List, length, Ok, None, Some, IfOk, OnOk, OnErr, is_ok, if◌then◌else◌};
+    ghost use Rattle.std.specs.Io.KnownBytes.{ReadConsumes, Keeps};
+    ghost use Rattle.razor_base.specs.Faults.{Rose};
+    ghost use Rattle.razor_base.specs.FaultPlan.{counted};
+    ghost use Rattle.razor_base.specs.StreamDesk.{open_name, left_open, open_faults, opener_of};
+
+    ghost remaining = { λ _ _. None };
+
+    ghost faults = { λ desk _. open_faults desk };
+
+    fn read(&mut self, name: &str, piece: &mut [u8]) -> Result<usize, Failed>
+        ensures bytes { ReadConsumes None None result piece.new }
+        ensures within { IfOk result (λ n. n ≤ length piece.new) }
+        ensures empty { length piece.old ≡ 0 → result ≡ Ok 0 }
+        ensures others { (other : List ℕ) → other ≢ name.now → Keeps None None }
+        ensures failed { OnErr result (Rose (open_faults self.old) (open_faults self.new)) }
+        ensures counts { (other : List ℕ) → open_faults self.old ≤ open_faults self.new }
+
+        // The count rises by one with a failure, and with nothing else.
+        ensures rises { open_faults self.new
+            ≡ (if is_ok result then open_faults self.old else counted (open_faults self.old)) }
+
+        // A name that is read is open from then on, also after a failure.
+        ensures opened { OnOk result (0 < length piece.old → open_name self.new ≡ Some name.now) }
+        ensures stays { open_name self.old ≡ Some name.now → open_name self.new ≡ Some name.now }
+
+        // The bytes come from where the last read of the name ended, or from its start.
+        ensures goes_on { open_name self.old ≡ Some name.now → 0 < length piece.old →
+            ReadConsumes (left_open S.left self.old) (left_open S.left self.new) result piece.new }
+        ensures begins { open_name self.old ≢ Some name.now → 0 < length piece.old →
+            OnOk result (ReadConsumes (O.contents (opener_of self.old) name.now) (left_open S.left self.new) result piece.new) }
+    {
+        if piece.is_empty() {
+            return Ok(0);
+        }
+        match self.read_named(name, piece) {
+            Ok(count) => Ok(count),
+            Err(_) => {
+                self.faults = self.faults.saturating_add(1);
+                Err(Failed)
+            }
+        }
+    }
+}
