@@ -1,5 +1,5 @@
 ghost use Rattle.std.specs.Prelude.{◌≡◌, ◌<◌};
-ghost use Rattle.field_boxes.specs.Fields.{greatest_of};
+ghost use Rattle.field_boxes.specs.Fields.{greatest_of, width};
 
 /// The greatest value of the field.
 pub fn greatest(field: usize) -> u32
@@ -10,5 +10,17 @@ pub fn greatest(field: usize) -> u32
         0 | 1 => u32::MAX,
         2 | 3 => 65_535,
         _ => 255,
+    }
+}
+
+/// The bits of the field.
+pub fn width(field: usize) -> u8
+    requires { field < 5 }
+    ensures { result ≡ width field }
+{
+    match field {
+        0 | 1 => 32,
+        2 | 3 => 16,
+        _ => 8,
     }
 }

@@ -22,7 +22,7 @@ mod uniting;
 
 pub use classifier::first;
 pub use decisions::Decisions;
-pub use fields::greatest;
+pub use fields::{greatest, width};
 pub use header::Header;
 pub use names::decision_word;
 pub use ports::Ports;

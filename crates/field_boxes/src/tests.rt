@@ -3,7 +3,7 @@ mod brute_force;
 
 ghost use Rattle.std.specs.Prelude.{◌≤◌};
 
-use crate::{Decisions, Header, Ports, Prefix, Rule, Span, decision_word, first, greatest};
+use crate::{Decisions, Header, Ports, Prefix, Rule, Span, decision_word, first, greatest, width};
 use std::mem::size_of;
 use std::test::Fail;
 
@@ -16,6 +16,7 @@ fn spans_and_headers_keep_their_ranges(rt: HostRuntime) {
     assert!(rt; greatest(0) == 4_294_967_295);
     assert!(rt; greatest(2) == 65_535);
     assert!(rt; greatest(4) == 255);
+    assert!(rt; width(0) == 32 && width(3) == 16 && width(4) == 8);
     assert!(rt; Header::new([4_294_967_295, 0, 65_535, 65_535, 255]).is_some());
     assert!(rt; Header::new([0, 0, 65_536, 0, 0]).is_none());
     assert!(rt; Header::new([0, 0, 0, 65_536, 0]).is_none());
