@@ -22,7 +22,7 @@ pub struct Rule {
 }
 
 impl Rule {
-    ghost use Rattle.std.specs.Prelude.{◌≡◌, IsTrue, IsFalse, map};
+    ghost use Rattle.std.specs.Prelude.{◌≡◌, IsTrue, IsFalse, map, ℕ, ◌<◌, ◌≤◌, length, slice_index_or, []};
     ghost use Rattle.std.specs.Bool.{OnTrue, OnFalse};
     ghost use Rattle.field_boxes.specs.Fields.{stated};
     ghost use Rattle.field_boxes.specs.Classifier.{matches};
@@ -46,6 +46,7 @@ impl Rule {
     pub fn sets(&self) -> [&[Span]; 5]
         ensures sets { map (λ s. intervals_of s.now) result ≡ sets_of self.now }
         ensures inside { AreSets (sets_of self.now) }
+        ensures few { (k : ℕ) → k < 5 → length (slice_index_or (sets_of self.now) k []) ≤ 16 }
     {
         [
             alone(&self.source),

@@ -5,17 +5,24 @@ use Rattle.std.proofs.lemmas.Nat.{pow_pos}
 use Rattle.field_boxes.specs.declared.prefix.Prefix.{Prefix}
 use Rattle.field_boxes.specs.declared.span.Span.{Span}
 use Rattle.field_boxes.specs.Prefix.{FitsWidth}
+use Rattle.field_boxes.specs.Spans.{intervals_of}
+use Rattle.field_boxes.specs.Unions.{RiseApart}
 use Rattle.field_boxes.proofs.Aligned.{high-fits, low-fits}
 use Rattle.range_prefix.specs.declared.share.Halved.{Halved}
 use Rattle.range_prefix.specs.Halves.{low_half, high_half}
 use Rattle.range_prefix.specs.Share.{SharesOut}
 use Rattle.range_prefix.specs.Shortest.{has_block, shortest_in, shortest_below}
-use Rattle.range_prefix.specs.Spans.{RiseApart, union_of}
+use Rattle.range_prefix.specs.Spans.{AreApart, union_of}
 use Rattle.range_prefix.proofs.Blocks.{halves_in, has_block-from, has_block-lacks, nothing_in, same_in, whole_in}
 use Rattle.range_prefix.proofs.Intervals.{above_all, below_all, inside-from}
 
+-- spans whose intervals rise apart
+pub apart-from : (low top : ℕ) (spans : List Span) → RiseApart low top (intervals_of spans) → AreApart low spans
+apart-from low top [] h = tt
+apart-from low top (s ∷ spans) h = (h.0, apart-from (s.hi + 2) top spans h.3)
+
 -- what rises from a value on has none below it
-none_below : (low v : ℕ) (spans : List Span) → RiseApart low spans → v < low → union_of spans v ≡ false
+none_below : (low v : ℕ) (spans : List Span) → AreApart low spans → v < low → union_of spans v ≡ false
 none_below low v [] apart h = refl
 none_below low v (s ∷ spans) apart h =
     let from = apart.0 in
@@ -23,7 +30,7 @@ none_below low v (s ∷ spans) apart h =
     ap (λ t. t || union_of spans v) (below_all s.lo s.hi v (omega arith)) ∙ none_below (s.hi + 2) v spans apart.1 (omega arith)
 
 -- nor the value after its first span
-none_after : (low : ℕ) (s : Span) (spans : List Span) → RiseApart low (s ∷ spans) → union_of (s ∷ spans) (s.hi + 1) ≡ false
+none_after : (low : ℕ) (s : Span) (spans : List Span) → AreApart low (s ∷ spans) → union_of (s ∷ spans) (s.hi + 1) ≡ false
 none_after low s spans apart = ap (λ t. t || union_of spans (s.hi + 1)) (above_all s.lo s.hi (s.hi + 1) (omega arith)) ∙ none_below (s.hi + 2) (s.hi + 1) spans apart.1 (omega arith)
 
 -- spans with the values that the others have from a value on
@@ -34,7 +41,7 @@ pub nothing_left : (width : ℕ) (p : Prefix) (left spans : List Span) → lengt
 nothing_left width p [] spans none same = nothing_in width (union_of spans) (width - p.len) p.value (λ k small. sym (same (p.value + k) (omega arith)))
 nothing_left width p (s ∷ left) spans none same = absurd (omega (arith, none))
 
-pub missed : (width : ℕ) (p : Prefix) (left spans : List Span) (first : Span) → 1 ≤ length left → first ≡ get_or left 0 first → RiseApart 0 left → HaveFrom p.value left spans →
+pub missed : (width : ℕ) (p : Prefix) (left spans : List Span) (first : Span) → 1 ≤ length left → first ≡ get_or left 0 first → AreApart 0 left → HaveFrom p.value left spans →
     p.value + (2 ^ (width - p.len) - 1) < first.lo → shortest_below width (union_of spans) p ≡ []
 missed width p [] spans first some is apart same h = absurd (omega (arith, some))
 missed width p (s ∷ left) spans first some is apart same h =
@@ -61,7 +68,7 @@ whole width p (s ∷ left) spans first short some is same from to =
 abbrev IsPart : ℕ → ℕ → Span → Type 0
 IsPart n v s = (v < s.lo) ⊎ (s.hi < v + (2 ^ n - 1))
 
-has-part : (n v : ℕ) (s : Span) (left spans : List Span) → RiseApart 0 (s ∷ left) → HaveFrom v (s ∷ left) spans → v ≤ s.hi → IsPart n v s → has_block (union_of spans) n v ≡ false
+has-part : (n v : ℕ) (s : Span) (left spans : List Span) → AreApart 0 (s ∷ left) → HaveFrom v (s ∷ left) spans → v ≤ s.hi → IsPart n v s → has_block (union_of spans) n v ≡ false
 has-part n v s left spans apart same reaches (inl h) =
     has_block-lacks (union_of spans) n v 0 (pow_pos n) (sym (same (v + 0) (omega arith)) ∙ none_below s.lo (v + 0) (s ∷ left) (omega arith, apart.1) (omega arith))
 has-part n v s left spans apart same reaches (inr h) =
@@ -86,7 +93,7 @@ same_below : (width : ℕ) (p q : Prefix) (left spans : List Span) → p.value �
 same_below width p q left spans from same = same_in width (union_of spans) (union_of left) (width - q.len) q.value (λ k small. sym (same (q.value + k) (omega arith)))
 
 shares : (width : ℕ) (p : Prefix) (h : Halved) (spans : List Span) → h.low ≡ low_half p → h.high ≡ high_half width p → FitsWidth width p → p.len < width →
-    RiseApart 0 h.spans.now → HaveFrom p.value h.spans.now spans → has_block (union_of spans) (width - p.len) p.value ≡ false → SharesOut width spans p h
+    AreApart 0 h.spans.now → HaveFrom p.value h.spans.now spans → has_block (union_of spans) (width - p.len) p.value ≡ false → SharesOut width spans p h
 shares width p h spans low_is high_is fits longer apart same part =
     let low_len = ap (λ q. q.len) low_is in
     let high_len = ap (λ q. q.len) high_is in
@@ -106,7 +113,7 @@ shares width p h spans low_is high_is fits longer apart same part =
     }
 
 pub shares-out : (width lo : ℕ) (p : Prefix) (h : Halved) (spans left : List Span) (first : Span) → lo ≡ p.value → left ≡ h.spans.now → h.low ≡ low_half p → h.high ≡ high_half width p → FitsWidth width p →
-    1 ≤ length left → first ≡ get_or left 0 first → RiseApart 0 left → HaveFrom p.value left spans → IfSome (slice_get left 0) (λ s. lo ≤ s.hi) →
+    1 ≤ length left → first ≡ get_or left 0 first → AreApart 0 left → HaveFrom p.value left spans → IfSome (slice_get left 0) (λ s. lo ≤ s.hi) →
     first.lo ≤ p.value + (2 ^ (width - p.len) - 1) → IsPart (width - p.len) p.value first → SharesOut width spans p h
 shares-out width lo p h spans [] first least e low_is high_is fits some is apart same reaches h1 h2 = absurd (omega (arith, some))
 shares-out width lo p h spans (s ∷ left) first least e low_is high_is fits some is apart same reaches from part =
@@ -115,4 +122,4 @@ shares-out width lo p h spans (s ∷ left) first least e low_is high_is fits som
     let here : IsPart n p.value s = subst (IsPart n p.value) is part in
     let more : 0 < n = splits n p.value s (omega arith) (omega arith) here in
     let longer : p.len < width = omega arith in
-    shares width p h spans low_is high_is fits longer (subst (RiseApart 0) e apart) (subst (λ xs. HaveFrom p.value xs spans) e same) (has-part n p.value s left spans apart same (omega arith) here)
+    shares width p h spans low_is high_is fits longer (subst (AreApart 0) e apart) (subst (λ xs. HaveFrom p.value xs spans) e same) (has-part n p.value s left spans apart same (omega arith) here)

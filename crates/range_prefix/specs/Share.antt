@@ -7,11 +7,11 @@ use Rattle.range_prefix.specs.declared.share.Halved.{Halved}
 use Rattle.range_prefix.specs.declared.share.Share.{Share}
 use Rattle.range_prefix.specs.declared.share.Share.TheVariants.{Nothing, Whole, Part}
 use Rattle.range_prefix.specs.Shortest.{shortest_below}
-use Rattle.range_prefix.specs.Spans.{RiseApart, union_of}
+use Rattle.range_prefix.specs.Spans.{AreApart, union_of}
 
 -- two longer prefixes of the field, for whose values together other spans need the prefixes that the spans need for p
 pub record SharesOut (width : ℕ) (spans : List Span) (p : Prefix) (h : Halved) : Type 0 where
-  pub apart : RiseApart 0 h.spans.now
+  pub apart : AreApart 0 h.spans.now
   pub low_fits : FitsWidth width h.low
   pub high_fits : FitsWidth width h.high
   pub low_longer : p.len < h.low.len

@@ -14,6 +14,6 @@ abbrev pub union_of : List Span → ℕ → Bool
 union_of spans v = list_any (interval_holds v) (map interval_of spans)
 
 -- the spans rise from low on, and between two neighbours a value is missing
-abbrev pub RiseApart : ℕ → List Span → Type 0
-RiseApart low [] = Unit {0}
-RiseApart low (s ∷ spans) = (low ≤ s.lo) × RiseApart (s.hi + 2) spans
+abbrev pub AreApart : ℕ → List Span → Type 0
+AreApart low [] = Unit {0}
+AreApart low (s ∷ spans) = (low ≤ s.lo) × AreApart (s.hi + 2) spans

@@ -1,9 +1,11 @@
-ghost use Rattle.std.specs.Prelude.{◌≡◌, ◌≤◌, ◌-◌, ◌*◌, List, length, max};
+ghost use Rattle.std.specs.Prelude.{◌≡◌, ◌≤◌, ◌-◌, ◌*◌, List, length, max, ◌<◌, ◌^◌};
 ghost use Rattle.field_boxes.specs.declared.prefix.Prefix.{Prefix};
+ghost use Rattle.field_boxes.specs.Spans.{intervals_of};
+ghost use Rattle.field_boxes.specs.Unions.{RiseApart};
 ghost use Rattle.range_prefix.specs.Cover.{IsShortestCover};
 ghost use Rattle.field_boxes.specs.Prefix.{FitsWidth};
 ghost use Rattle.range_prefix.specs.Shortest.{shortest_below, shortest_cover};
-ghost use Rattle.range_prefix.specs.Spans.{RiseApart, union_of, values_of};
+ghost use Rattle.range_prefix.specs.Spans.{AreApart, union_of, values_of};
 
 use crate::share::Share;
 use field_boxes::{Prefix, Span};
@@ -12,7 +14,8 @@ use field_boxes::{Prefix, Span};
 ///
 /// This is [`count_all`] of one span.
 pub fn cover_count(span: Span, width: u8) -> u32
-    requires { width ≤ 32 }
+    requires wide { width ≤ 32 }
+    requires inside { span.hi < 2 ^ width }
     ensures shortest { (prefixes : List Prefix) × IsShortestCover width (values_of span) prefixes × (result ≡ length prefixes) }
     ensures value { result ≡ length (shortest_cover width (values_of span)) }
     ensures few { result ≤ max 1 (2 * width - 2) }
@@ -26,7 +29,7 @@ pub fn cover_count(span: Span, width: u8) -> u32
 /// spans times the width.
 pub fn count_all(spans: &[Span], width: u8) -> u32
     requires wide { width ≤ 32 }
-    requires apart { RiseApart 0 spans.now }
+    requires apart { RiseApart 0 (2 ^ width - 1) (intervals_of spans.now) }
     ensures shortest { (prefixes : List Prefix) × IsShortestCover width (union_of spans.now) prefixes × (result ≡ length prefixes) }
     ensures value { result ≡ length (shortest_cover width (union_of spans.now)) }
     ensures few { result ≤ length spans.now * max 1 (2 * width - 2) }
@@ -38,7 +41,7 @@ pub fn count_all(spans: &[Span], width: u8) -> u32
 /// How many prefixes the spans' values among those of the prefix need.
 fn count_below(spans: &[Span], width: u8, prefix: Prefix) -> u32
     requires fits { FitsWidth width prefix }
-    requires apart { RiseApart 0 spans.now }
+    requires apart { AreApart 0 spans.now }
     ensures { result ≡ length (shortest_below width (union_of spans.now) prefix) }
 {
     match Share::of(spans, width, prefix) {

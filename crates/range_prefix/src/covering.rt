@@ -1,8 +1,10 @@
-ghost use Rattle.std.specs.Prelude.{◌≡◌, ◌≤◌, ◌++◌, IfOk, OnOk};
+ghost use Rattle.std.specs.Prelude.{◌≡◌, ◌≤◌, ◌++◌, IfOk, OnOk, ◌<◌, ◌-◌, ◌^◌};
 ghost use Rattle.field_boxes.specs.Prefix.{FitsWidth};
+ghost use Rattle.field_boxes.specs.Spans.{intervals_of};
+ghost use Rattle.field_boxes.specs.Unions.{RiseApart};
 ghost use Rattle.range_prefix.specs.Cover.{IsShortestCover};
 ghost use Rattle.range_prefix.specs.Shortest.{shortest_below, shortest_cover};
-ghost use Rattle.range_prefix.specs.Spans.{RiseApart, union_of, values_of};
+ghost use Rattle.range_prefix.specs.Spans.{AreApart, union_of, values_of};
 
 use crate::share::Share;
 use field_boxes::{Prefix, Span};
@@ -13,7 +15,8 @@ use std::alloc::Global;
 ///
 /// This is [`cover_all`] of one span.
 pub fn cover(alloc: Global, span: Span, width: u8) -> Result<Vec<Prefix>, Memory>
-    requires { width ≤ 32 }
+    requires wide { width ≤ 32 }
+    requires inside { span.hi < 2 ^ width }
     ensures shortest { IfOk result (λ prefixes. IsShortestCover width (values_of span) prefixes.items) }
     ensures value { IfOk result (λ prefixes. prefixes.items ≡ shortest_cover width (values_of span)) }
 {
@@ -23,11 +26,11 @@ pub fn cover(alloc: Global, span: Span, width: u8) -> Result<Vec<Prefix>, Memory
 /// The fewest prefixes of a field of `width` bits that hold exactly the values of the spans, in rising order.
 ///
 /// No two of them have a value in common, and there are as many as [`count_all`](crate::count_all)
-/// says. Values that the field doesn't have count for nothing. The error comes where memory was refused;
+/// says. The error comes where memory was refused;
 /// nothing is kept then. The turns are of the order of the spans times the width.
 pub fn cover_all(alloc: Global, spans: &[Span], width: u8) -> Result<Vec<Prefix>, Memory>
     requires wide { width ≤ 32 }
-    requires apart { RiseApart 0 spans.now }
+    requires apart { RiseApart 0 (2 ^ width - 1) (intervals_of spans.now) }
     ensures shortest { IfOk result (λ prefixes. IsShortestCover width (union_of spans.now) prefixes.items) }
     ensures value { IfOk result (λ prefixes. prefixes.items ≡ shortest_cover width (union_of spans.now)) }
 {
@@ -45,7 +48,7 @@ fn cover_below(
     prefixes: &mut Vec<Prefix>,
 ) -> Result<(), Memory>
     requires fits { FitsWidth width prefix }
-    requires apart { RiseApart 0 spans.now }
+    requires apart { AreApart 0 spans.now }
     ensures { OnOk result (prefixes.new.items ≡ prefixes.old.items ++ shortest_below width (union_of spans.now) prefix) }
 {
     match Share::of(spans, width, prefix) {

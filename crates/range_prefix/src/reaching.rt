@@ -1,12 +1,12 @@
 ghost use Rattle.std.specs.Prelude.{◌≡◌, ◌≤◌, ℕ, IfSome, slice_get};
-ghost use Rattle.range_prefix.specs.Spans.{RiseApart, union_of};
+ghost use Rattle.range_prefix.specs.Spans.{AreApart, union_of};
 
 use field_boxes::Span;
 
 /// The spans from the first on that doesn't end before the value.
 pub(crate) fn reaching(spans: &[Span], value: u32) -> &[Span]
-    requires { RiseApart 0 spans.now }
-    ensures apart { RiseApart 0 result.now }
+    requires { AreApart 0 spans.now }
+    ensures apart { AreApart 0 result.now }
     ensures first { IfSome (slice_get result.now 0) (λ s. value ≤ s.hi) }
     ensures same { (v : ℕ) → value ≤ v → union_of result.now v ≡ union_of spans.now v }
 {

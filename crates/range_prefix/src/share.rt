@@ -1,7 +1,7 @@
 ghost use Rattle.std.specs.Prelude.{◌≤◌, ◌<◌, ◌⊎◌};
 ghost use Rattle.std.specs.Bool.{OnTrue, OnFalse};
 ghost use Rattle.field_boxes.specs.Prefix.{FitsWidth};
-ghost use Rattle.range_prefix.specs.Spans.{RiseApart};
+ghost use Rattle.range_prefix.specs.Spans.{AreApart};
 
 use crate::halves::halves;
 use crate::reaching::reaching;
@@ -30,7 +30,7 @@ impl<'a> Share<'a> {
     /// How much of the prefix of a field of `width` bits the spans have.
     pub fn of(spans: &'a [Span], width: u8, prefix: Prefix) -> Share<'a>
         requires fits { FitsWidth width prefix }
-        requires apart { RiseApart 0 spans.now }
+        requires apart { AreApart 0 spans.now }
         ensures { IsShare width spans.now prefix result }
     {
         let block = prefix.span(width);

@@ -1,7 +1,8 @@
 //! All unions of up to three spans of a field of 5 bits, each against the least number of prefixes found
 //! value by value from the last one down, over all blocks that begin at a value.
 ghost use Rattle.std.specs.Prelude.{◌≤◌, ◌<◌, ◌+◌};
-ghost use Rattle.range_prefix.specs.Spans.{RiseApart};
+ghost use Rattle.field_boxes.specs.Spans.{intervals_of};
+ghost use Rattle.field_boxes.specs.Unions.{RiseApart};
 
 use crate::{count_all, cover_all};
 use field_boxes::{Prefix, Span};
@@ -71,7 +72,7 @@ fn held(prefixes: &[Prefix]) -> Values {
 }
 
 fn check(rt: &impl Abort, alloc: Global, spans: &[Span]) -> Result<(), Fail>
-    requires { RiseApart 0 spans.now }
+    requires { RiseApart 0 31 (intervals_of spans.now) }
 {
     let mut values = 0;
     for span in spans {

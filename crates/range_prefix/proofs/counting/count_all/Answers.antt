@@ -3,6 +3,7 @@ use Rattle.range_prefix.specs.Shortest.{shortest_cover}
 use Rattle.range_prefix.specs.Spans.{union_of}
 use Rattle.range_prefix.proofs.Few.{few_union}
 use Rattle.range_prefix.proofs.Halving.{is-shortest, whole_field}
+use Rattle.range_prefix.proofs.Unions.{apart-from}
 use Rattle.range_prefix.proofs.counting.count_all.Goals as goal
 
 pub returns-clause-value : goal.returns-clause-value
@@ -16,3 +17,6 @@ returns-clause-shortest c =
 pub returns-clause-few : goal.returns-clause-few
 returns-clause-few c =
     subst (λ n. n ≤ length c.args.spans.now * max 1 (2 * c.args.width - 2)) (sym (returns-clause-value c)) (few_union c.args.width c.args.spans.now c.requires.wide)
+
+pub count_below-requires-clause-apart : goal.count_below-requires-clause-apart
+count_below-requires-clause-apart c = apart-from 0 _ c.args.spans.now c.requires.apart

@@ -3,6 +3,7 @@ use Rattle.range_prefix.specs.Cover.{IsShortestCover}
 use Rattle.range_prefix.specs.Shortest.{shortest_below}
 use Rattle.range_prefix.specs.Spans.{union_of}
 use Rattle.range_prefix.proofs.Halving.{is-shortest, whole_field}
+use Rattle.range_prefix.proofs.Unions.{apart-from}
 use Rattle.range_prefix.proofs.covering.cover_all.Goals as goal
 
 pub returns-clause-value : goal.returns-clause-value
@@ -15,3 +16,6 @@ pub returns-clause-shortest : goal.returns-clause-shortest
 returns-clause-shortest c =
     let set = union_of c.args.spans.now in
     subst (IsShortestCover c.args.width set) (sym (returns-clause-value c)) (is-shortest c.args.width set c.requires.wide)
+
+pub cover_below-requires-clause-apart : goal.cover_below-requires-clause-apart
+cover_below-requires-clause-apart c = apart-from 0 _ c.args.spans.now c.requires.apart

@@ -1,10 +1,10 @@
 use Rattle.std.proofs.Common.{◌≡◌, ◌≤◌, ℕ, length}
-use Rattle.range_prefix.specs.Spans.{RiseApart, union_of}
+use Rattle.range_prefix.specs.Spans.{AreApart, union_of}
 use Rattle.range_prefix.proofs.reaching.reaching.Given as goal
 
 abbrev pub invariant-loop-left : goal.invariant-loop-left
 invariant-loop-left l = record {
-  apart : RiseApart 0 l.left;
+  apart : AreApart 0 l.left;
   same : (v : ℕ) → l.value ≤ v → union_of l.left v ≡ union_of l.spans v;
 }
 
