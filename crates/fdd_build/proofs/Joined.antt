@@ -1,26 +1,15 @@
 -- What a list decides, by its two parts.
 use Rattle.std.proofs.Common.{◌≡◌, ◌∷◌, ◌++◌, ◌<◌, ◌∙◌, ℕ, List, [], length, arith, refl, ap, sym}
-use Rattle.std.specs.Prelude.{Bool, true, false, ◌&&◌, ◌||◌, cond, nat_eq, map, find, unwrap_or, option_map, slice_get, Some}
+use Rattle.std.specs.Prelude.{Bool, true, false, ◌&&◌, ◌||◌, cond, nat_eq, map, find, unwrap_or, option_map, Some}
 use Rattle.std.specs.List.{list_any}
 use Rattle.std.proofs.lemmas.Bool.Decides.{Decides-eqb}
 use Rattle.field_boxes.specs.declared.rule.Rule as code
 use Rattle.field_boxes.specs.Fields.{stated}
-use Rattle.field_boxes.specs.Classifier.{Rule, interval_holds, set_holds, matches}
+use Rattle.field_boxes.specs.Classifier.{Rule, matches}
 use Rattle.field_boxes.specs.Rules.{rule_of}
 use Rattle.fdd_build.specs.declared.overlay.Overlay.TheVariants.{Answer}
 use Rattle.fdd_build.specs.Overlay.{shown}
-use Rattle.fdd_build.specs.Rules.{decided, box_rule, box_holds, hides}
-
--- what a rule decides has no part in whether it matches
-matches_by_sets : (fields values : List ℕ) (r s : Rule ℕ) → r.sets ≡ s.sets → matches fields values r ≡ matches fields values s
-matches_by_sets [] values r s e = refl
-matches_by_sets (f ∷ fields) [] r s e = refl
-matches_by_sets (f ∷ fields) (v ∷ values) r s e =
-    ap (λ sets. list_any (interval_holds v) (unwrap_or (slice_get sets f) []) && matches fields values r) e
-    ∙ ap (λ b. set_holds f v s && b) (matches_by_sets fields values r s e)
-
-pub box_matches : (header : List ℕ) (rule : code.Rule) → box_holds rule.spans header ≡ matches stated header (rule_of rule)
-box_matches header rule = matches_by_sets stated header (box_rule rule.spans) (rule_of rule) refl
+use Rattle.fdd_build.specs.Rules.{decided, hides}
 
 decided_head : (header : List ℕ) (rule : code.Rule) (rules : List code.Rule) (m : Bool) → matches stated header (rule_of rule) ≡ m →
     decided (rule ∷ rules) header ≡ cond m rule.decision (decided rules header)
@@ -30,7 +19,14 @@ decided_head header rule rules false h =
     ap (λ b. unwrap_or (option_map (λ (r : Rule ℕ). r.decision) (cond b (Some (rule_of rule)) (find (matches stated header) (map rule_of rules)))) 0) h
 
 hides_head : (header : List ℕ) (rule : code.Rule) (m : Bool) → matches stated header (rule_of rule) ≡ m → hides rule header ≡ (nat_eq rule.decision 0 && m)
-hides_head header rule m h = ap (λ b. nat_eq rule.decision 0 && b) (box_matches header rule ∙ h)
+hides_head header rule m h = ap (λ b. nat_eq rule.decision 0 && b) h
+
+-- one more rule that may hide
+pub hidden_too : (earlier here : Bool) (below : ℕ) → cond here 0 (cond earlier 0 below) ≡ cond (earlier || here) 0 below
+hidden_too true true below = refl
+hidden_too true false below = refl
+hidden_too false true below = refl
+hidden_too false false below = refl
 
 -- the rule in front decides: where it decides 0, it hides what comes after
 in_front : (decision lower : ℕ) (more none : Bool) → nat_eq decision 0 ≡ none → decision ≡ cond none (cond ((none && true) || more) 0 lower) decision

@@ -1,6 +1,6 @@
 -- What holds of all pairs that are kept, and of one more.
 use Rattle.std.proofs.Common.{◌≡◌, ap, sym, ◌∙◌, subst, refl, ℕ}
-use Rattle.std.specs.Prelude.{Bool, true, false, cond, nat_eq, Option, Some}
+use Rattle.std.specs.Prelude.{Bool, true, false, cond, nat_eq, Option, Some, IsSome}
 use Rattle.std.proofs.lemmas.Bool.Decides.{Decides-eqb, Decides-and}
 use Rattle.node_store.specs.declared.edge.NodeId.{NodeId}
 use Rattle.fdd_build.specs.declared.pair.Pair.{Pair}
@@ -28,3 +28,11 @@ module _ (P : Pair → NodeId → Type 0) (old new : Pair → Option NodeId) (pa
   pub kept : ((q : Pair) → new q ≡ cond (same_pair pair q) (Some laid) (old q)) →
       ((k : Pair) (m : NodeId) → old k ≡ Some m → P k m) → P pair laid → (q : Pair) (l : NodeId) → new q ≡ Some l → P q l
   kept at all here q l h = kept_by q l (same_pair pair q) refl (at q) all here h
+
+-- what was kept is kept after one more pair
+still_by : {X : Type 0} (t : Bool) (x : X) (old new : Option X) → new ≡ cond t (Some x) old → IsSome old → IsSome new
+still_by true x old new e h = subst IsSome (sym e) refl
+still_by false x old new e h = subst IsSome (sym e) h
+
+pub still : (old new : Pair → Option NodeId) (pair : Pair) (laid : NodeId) → ((q : Pair) → new q ≡ cond (same_pair pair q) (Some laid) (old q)) → (q : Pair) → IsSome (old q) → IsSome (new q)
+still old new pair laid at q h = still_by (same_pair pair q) laid (old q) (new q) (at q) h

@@ -4,6 +4,8 @@ pub mod LaidParts
 pub mod LaidNodes
 pub mod Kept
 pub mod BoxAnswers
-pub mod Spans
+pub mod Boxed
+pub mod Fills
+pub mod Forked
 pub mod Zeros
 pub mod Stays

@@ -1,4 +1,5 @@
 pub mod Rules
+pub mod Sets
 pub mod Overlay
 pub mod Nothing
 pub mod Laid

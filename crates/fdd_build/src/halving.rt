@@ -9,7 +9,7 @@ ghost use Rattle.fdd_build.specs.declared.overlay.Overlay.TheVariants.{Answer};
 ghost use Rattle.fdd_build.specs.Rules.{decided, hides};
 
 use crate::boxes::boxed;
-use crate::change::over;
+use crate::change::over_sets;
 use crate::nothing::Nothing;
 use crate::overlay::Overlay;
 use crate::walk::Walk;
@@ -68,7 +68,13 @@ fn one_rule(walk: &Walk, store: &mut Store, rule: &Rule) -> Result<NodeId, Memor
     ensures answers { IfOk result (λ id. (header : List ℕ) → IsHeader header → answer store.new id.0 header ≡ decided (rule.now ∷ []) header) }
     ensures grows { Grows store.old store.new }
 {
-    let id = boxed(walk.alloc, store, &walk.nothing, &rule.spans, rule.decision)?;
+    let id = boxed(
+        walk.alloc,
+        store,
+        &walk.nothing,
+        &rule.sets(),
+        rule.decision,
+    )?;
     Ok(id)
 }
 
@@ -96,7 +102,7 @@ fn hidden_by(alloc: Global, store: &mut Store, rule: &Rule, below: NodeId) -> Re
     ensures grows { Grows store.old store.new }
 {
     if rule.decision == 0 {
-        over(alloc, store, &rule.spans, 0, below)
+        over_sets(alloc, store, &rule.sets(), 0, below)
     } else {
         Ok(below)
     }

@@ -2,7 +2,8 @@
 //!
 //! [`build`] gives a node that answers every header with the decision of the first rule that matches, as
 //! the firewall decision diagrams of Gouda and Liu do; [`under`] and [`over`] give one that answers as a
-//! diagram does, but for one box. All three lay one diagram over another: where the upper one answers 0,
+//! diagram does, but for one box, and [`under_rule`] one that does but for what a rule matches. All lay one
+//! diagram over another: where the upper one answers 0,
 //! the lower one shows.
 //!
 //! Laying is one walk over pairs of nodes of one level. A pair of which one node answers 0 everywhere is
@@ -23,8 +24,9 @@
 
 mod boxes;
 mod change;
+mod filling;
+mod fork;
 mod halving;
-mod interval;
 mod memo;
 mod nothing;
 mod overlay;
@@ -33,5 +35,5 @@ mod pair;
 mod tests;
 mod walk;
 
-pub use change::{over, under};
+pub use change::{over, under, under_rule};
 pub use halving::build;

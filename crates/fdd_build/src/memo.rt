@@ -18,7 +18,7 @@ impl Memo {
     ghost use Rattle.node_store.specs.Diagram.{Node};
     ghost use Rattle.fdd_build.specs.declared.overlay.Overlay.{Overlay};
     ghost use Rattle.fdd_build.specs.Laid.{IsLaid};
-    ghost use Rattle.fdd_build.specs.Memo.{same_pair, IsMemo};
+    ghost use Rattle.fdd_build.specs.Memo.{same_pair, IsMemo, KeepsPairs};
 
     /// No pairs.
     pub fn new(alloc: Global) -> Memo
@@ -43,6 +43,7 @@ impl Memo {
         ensures kept { OnOk result (get same_pair self.new.laid pair ≡ Some laid) }
         ensures memo { (overlay : Overlay) (nodes : List Node) → IsMemo overlay nodes self.old →
             IsLaid overlay nodes pair laid → IsMemo overlay nodes self.new }
+        ensures earlier { KeepsPairs self.old self.new }
     {
         self.laid.insert(pair, laid)?;
         Ok(())

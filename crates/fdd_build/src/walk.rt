@@ -21,16 +21,17 @@ pub(crate) struct Walk {
 type Edges = SmallVec<Edge, 6>;
 
 impl Walk {
-    ghost use Rattle.std.specs.Prelude.{◌≡◌, ◌≤◌, ℕ, List, map, IfOk, IfSome};
+    ghost use Rattle.std.specs.Prelude.{◌≡◌, ◌≤◌, ℕ, List, map, slice_index_or, IfOk, IfSome};
     ghost use Rattle.std.specs.List.{AllZip};
     ghost use Rattle.field_boxes.specs.Fields.{IsHeader};
+    ghost use Rattle.node_store.specs.declared.edge.NodeId.{NodeId};
     ghost use Rattle.node_store.specs.Diagram.{level_of, answer};
     ghost use Rattle.node_store.specs.Store.{Grows, LeadTo};
     ghost use Rattle.node_store.specs.Split.{to_left, to_right};
     ghost use Rattle.fdd_build.specs.Overlay.{shown};
     ghost use Rattle.fdd_build.specs.Nothing.{IsNothing};
     ghost use Rattle.fdd_build.specs.Laid.{AreAt, IsLaid, IsLaidPart};
-    ghost use Rattle.fdd_build.specs.Memo.{IsMemo};
+    ghost use Rattle.fdd_build.specs.Memo.{IsMemo, IsPlain, IsKept, KeepsPairs};
 
     /// Lays the diagram under one node over that under another.
     pub fn lay(&self, store: &mut Store, upper: NodeId, lower: NodeId) -> Result<NodeId, Memory>
@@ -61,6 +62,8 @@ impl Walk {
         requires level { level ≤ 5 }
         requires pair { AreAt store.old level pair }
         ensures laid { IfOk result (λ laid. IsLaid self.now.overlay store.new pair laid) }
+        ensures kept { IfOk result (λ laid. (d : NodeId) → IsKept self.now.overlay (slice_index_or self.now.nothing.nodes level d) memo.new pair laid) }
+        ensures earlier { KeepsPairs memo.old memo.new }
         ensures memo { IsMemo self.now.overlay store.new memo.new }
         ensures grows { Grows store.old store.new }
     {
@@ -80,7 +83,8 @@ impl Walk {
         requires nothing { IsNothing store.now self.now.nothing }
         requires level { level ≤ 5 }
         requires pair { AreAt store.now level pair }
-        ensures { IfSome result (λ laid. IsLaid self.now.overlay store.now pair laid) }
+        ensures laid { IfSome result (λ laid. IsLaid self.now.overlay store.now pair laid) }
+        ensures plain { IfSome result (λ _. (d : NodeId) → IsPlain self.now.overlay (slice_index_or self.now.nothing.nodes level d) pair) }
     {
         let nothing = self.nothing.at(level);
         if pair.upper == nothing {
@@ -118,6 +122,7 @@ impl Walk {
         requires level { level ≤ 5 }
         requires pair { AreAt store.old level pair }
         ensures laid { IfOk result (λ laid. IsLaid self.now.overlay store.new pair laid) }
+        ensures earlier { KeepsPairs memo.old memo.new }
         ensures memo { IsMemo self.now.overlay store.new memo.new }
         ensures grows { Grows store.old store.new }
     {
@@ -145,6 +150,7 @@ impl Walk {
         requires left { LeadTo store.old level (map to_left parts.now) }
         requires right { LeadTo store.old level (map to_right parts.now) }
         ensures laid { IfOk result (λ edges. AllZip (IsLaidPart self.now.overlay store.new) parts.now edges.items) }
+        ensures earlier { KeepsPairs memo.old memo.new }
         ensures memo { IsMemo self.now.overlay store.new memo.new }
         ensures grows { Grows store.old store.new }
     {

@@ -4,7 +4,7 @@ ghost use Rattle.field_boxes.specs.Fields.{greatest_of};
 ghost use Rattle.node_store.specs.Diagram.{level_of};
 
 use crate::build;
-use field_boxes::{Header, Rule, Span, first, greatest};
+use field_boxes::{Header, Ports, Rule, Span, first, greatest};
 use node_store::{NodeId, Store};
 use std::alloc::Global;
 use std::process::Abort;
@@ -53,24 +53,29 @@ impl Draw {
         }
     }
 
+    /// A union of one or two spans of ports.
+    fn ports(&mut self) -> Option<Ports> {
+        let spans = [self.span(2), self.span(3)];
+        Ports::of(&spans[..1 + self.below(2) as usize])
+    }
+
     /// A rule that decides from 0 to 3.
-    fn rule(&mut self) -> Rule {
-        let source = self.span(0);
-        let destination = self.span(1);
-        let source_port = self.span(2);
-        let destination_port = self.span(3);
+    fn rule(&mut self) -> Option<Rule> {
         let protocol = self.span(4);
-        Rule {
-            spans: [source, destination, source_port, destination_port, protocol],
+        Some(Rule {
+            source: self.span(0),
+            destination: self.span(1),
+            ports: [self.ports()?, self.ports()?],
+            protocol,
             decision: self.below(4),
-        }
+        })
     }
 
     /// Up to eight rules.
     fn rules(&mut self, alloc: Global) -> Result<Vec<Rule>, Fail> {
         let mut rules = Vec::new(alloc);
         for _ in 0..self.below(9) {
-            rules.push(self.rule())?;
+            rules.push(self.rule().ok_or("no rule")?)?;
         }
         Ok(rules)
     }

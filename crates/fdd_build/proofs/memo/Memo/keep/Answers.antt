@@ -2,7 +2,7 @@ use Rattle.std.proofs.Common.{ap, ◌∙◌, sym}
 use Rattle.std.specs.Map.{lookup}
 use Rattle.fdd_build.specs.Laid.{IsLaid}
 use Rattle.fdd_build.specs.Memo.{same_pair}
-use Rattle.fdd_build.proofs.Kept.{kept}
+use Rattle.fdd_build.proofs.Kept.{kept, still}
 use Rattle.fdd_build.proofs.memo.Memo.keep.Goals as goal
 
 pub returns-in_err-insert-clause-memo : goal.returns-in_err-insert-clause-memo
@@ -13,3 +13,6 @@ pub returns-clause-memo : goal.returns-clause-memo
 returns-clause-memo c = λ overlay nodes memo here.
     kept (IsLaid overlay nodes) (λ k. lookup (same_pair k) c.args.self.now.laid.entries) (λ k. lookup (same_pair k) c.insert.new.self.entries) c.args.pair c.args.laid
     c.in_ok-insert.ensures.updates.0 memo here
+
+pub returns-clause-earlier : goal.returns-clause-earlier
+returns-clause-earlier c = still (λ k. lookup (same_pair k) c.args.self.now.laid.entries) (λ k. lookup (same_pair k) c.insert.new.self.entries) c.args.pair c.args.laid c.in_ok-insert.ensures.updates.0

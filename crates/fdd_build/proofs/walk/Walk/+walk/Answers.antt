@@ -44,6 +44,7 @@ edges-loop-part-preserved t c =
     let more = parts.next (IsLaidPart overlay c.pair.new.store) c.args.parts.now l.edges.items l.part-index d edge c.loop-part-test.true
     (parts.stay overlay l.store c.pair.new.store (take l.part-index c.args.parts.now) l.edges.items made.grows l.invariant.laid) (refl, made.laid) in record {
       grows = growth.twice c.args.store.now l.store c.pair.new.store l.invariant.grows made.grows;
+      earlier = λ pair kept. made.earlier pair (l.invariant.earlier pair kept);
       memo = made.memo;
       laid = subst (λ es. AllZip (IsLaidPart overlay c.pair.new.store) (take (l.part-index + 1) c.args.parts.now) es) (sym c.in_ok-push.ensures.ok)
           (subst (λ k. AllZip (IsLaidPart overlay c.pair.new.store) (take k c.args.parts.now) (l.edges.items ++ edge ∷ [])) one more);

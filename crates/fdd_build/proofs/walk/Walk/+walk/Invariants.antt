@@ -2,7 +2,7 @@ use Rattle.std.proofs.Common.{◌+◌, ◌-◌, ◌*◌, take}
 use Rattle.std.specs.List.{AllZip}
 use Rattle.node_store.specs.Store.{Grows}
 use Rattle.fdd_build.specs.Laid.{IsLaidPart}
-use Rattle.fdd_build.specs.Memo.{IsMemo}
+use Rattle.fdd_build.specs.Memo.{IsMemo, KeepsPairs}
 use Rattle.fdd_build.proofs.walk.Walk.+walk.Given as goal
 
 abbrev pub decreases-pair : goal.decreases-pair
@@ -17,6 +17,7 @@ decreases-edges l = 3 * (6 - l.level) + 3
 abbrev pub invariant-edges-loop-part : goal.invariant-edges-loop-part
 invariant-edges-loop-part l = record {
   grows : Grows l.fn.store l.store;
+  earlier : KeepsPairs l.fn.memo l.memo;
   memo : IsMemo l.self.overlay l.store l.memo;
   laid : AllZip (IsLaidPart l.self.overlay l.store) (take l.part-index l.parts) l.edges.items;
 }
