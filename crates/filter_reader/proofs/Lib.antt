@@ -1,0 +1,17 @@
+pub mod AddressTexts
+pub mod Bytes
+pub mod Cuts
+pub mod Decimals
+pub mod KeptRanges
+pub mod PortTexts
+pub mod LineTexts
+pub mod ListTexts
+pub mod Positions
+pub mod ProtocolTexts
+pub mod RangeLists
+pub mod SoFar
+pub mod Spelling
+pub mod TailTexts
+pub mod UnionLists
+pub mod Whole
+pub mod Words

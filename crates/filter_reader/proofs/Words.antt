@@ -1,0 +1,57 @@
+-- Where the first token of a line begins and ends.
+use Rattle.std.proofs.Common.{◌≡◌, ◌∷◌, ℕ, ◌+◌, List, Bool, true, false, cond, [], ap, refl, take, drop, add-one, Some, None}
+use Rattle.std.specs.Prelude.{position, Option, option_map, not, ◌||◌, ◌&&◌, MatchOption, IsTrue}
+use Rattle.std.specs.List.{onto_first}
+use Rattle.std.proofs.lemmas.Bool.{false≢true}
+use Rattle.filter_reader.specs.Lines.{is_blank}
+use Rattle.filter_reader.specs.Tokens.{tokens, begins_token, goes_on, is_mark}
+use Rattle.filter_reader.proofs.Positions.{position-cons}
+
+-- what the place of the first byte that isn't blank says of the tokens
+abbrev pub BeginsAt : List ℕ → Option ℕ → Type 0
+BeginsAt line o = MatchOption o (tokens line ≡ []) (λ i. (tokens line ≡ tokens (drop i line)) × IsTrue (begins_token (drop i line)))
+
+begins_step : (b : ℕ) (line : List ℕ) (t : Bool) (o : Option ℕ) → is_blank b ≡ t → BeginsAt line o → BeginsAt (b ∷ line) (cond (not t) (Some 0) (option_map (λ i. i + 1) o))
+begins_step b line true None e h = rw e h
+begins_step b line true (Some i) e h = rw (e, add-one) h
+begins_step b line false o e h = (refl, ap not e)
+
+pub begins_at : (line : List ℕ) → BeginsAt line (position (λ b. not (is_blank b)) line)
+begins_at [] = refl
+begins_at (b ∷ line) = rw (position-cons (λ c. not (is_blank c)) b line) (begins_step b line (is_blank b) (position (λ c. not (is_blank c)) line) refl (begins_at line))
+
+-- what the place of the first byte that ends a word says of the tokens
+abbrev pub EndsAt : List ℕ → Option ℕ → Type 0
+EndsAt text o = MatchOption o (tokens text ≡ text ∷ []) (λ n. tokens text ≡ take n text ∷ tokens (drop n text))
+
+abbrev pub end_of : List ℕ → Option ℕ
+end_of text = position (λ b. is_blank b || is_mark b) text
+
+-- a word goes on
+longer : (b : ℕ) (text : List ℕ) (o : Option ℕ) → EndsAt text o → MatchOption (option_map (λ i. i + 1) o) (onto_first b (tokens text) ≡ (b ∷ text) ∷ []) (λ n. onto_first b (tokens text) ≡ take n (b ∷ text) ∷ tokens (drop n (b ∷ text)))
+longer b text None h = ap (onto_first b) h
+longer b text (Some n) h = rw (add-one n) (ap (onto_first b) h)
+
+-- a word ends
+last : (b c : ℕ) (text : List ℕ) (blank mark : Bool) → is_blank c ≡ blank → is_mark c ≡ mark → (not blank && not mark) ≡ false →
+    MatchOption (option_map (λ i. i + 1) (cond (blank || mark) (Some 0) (option_map (λ i. i + 1) (end_of text)))) ((b ∷ []) ∷ tokens (c ∷ text) ≡ (b ∷ c ∷ text) ∷ []) (λ n. (b ∷ []) ∷ tokens (c ∷ text) ≡ take n (b ∷ c ∷ text) ∷ tokens (drop n (b ∷ c ∷ text)))
+last b c text true mark p q h = refl
+last b c text false true p q h = refl
+last b c text false false p q h = absurd (cc)
+
+-- a byte of a word in front of what it stands before
+before_more : (b : ℕ) (text : List ℕ) (t : Bool) → goes_on text ≡ t → (t ≡ true → EndsAt text (end_of text)) →
+    MatchOption (option_map (λ i. i + 1) (end_of text)) (cond t (onto_first b (tokens text)) ((b ∷ []) ∷ tokens text) ≡ (b ∷ text) ∷ []) (λ n. cond t (onto_first b (tokens text)) ((b ∷ []) ∷ tokens text) ≡ take n (b ∷ text) ∷ tokens (drop n (b ∷ text)))
+before_more b text true e h = longer b text (end_of text) (h refl)
+before_more b [] false e h = refl
+before_more b (c ∷ text) false e h = rw (position-cons (λ d. is_blank d || is_mark d) c text) (last b c text (is_blank c) (is_mark c) refl refl e)
+
+ends_step : (b : ℕ) (text : List ℕ) (blank mark : Bool) → is_blank b ≡ blank → is_mark b ≡ mark → (not blank && not mark) ≡ true →
+    (goes_on text ≡ true → EndsAt text (end_of text)) → EndsAt (b ∷ text) (cond (blank || mark) (Some 0) (option_map (λ i. i + 1) (end_of text)))
+ends_step b text true mark p q h more = absurd (false≢true h)
+ends_step b text false true p q h more = absurd (false≢true h)
+ends_step b text false false p q h more = rw (p, q) (before_more b text (goes_on text) refl more)
+
+pub ends_at : (text : List ℕ) → goes_on text ≡ true → EndsAt text (end_of text)
+ends_at [] h = absurd (false≢true h)
+ends_at (b ∷ text) h = rw (position-cons (λ c. is_blank c || is_mark c) b text) (ends_step b text (is_blank b) (is_mark b) refl refl h (ends_at text))

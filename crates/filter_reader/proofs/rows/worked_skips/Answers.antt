@@ -1,0 +1,12 @@
+use Rattle.std.proofs.Common.{refl}
+use Rattle.filter_reader.specs.Numbers.{number_within, short_number}
+use Rattle.filter_reader.specs.Addresses.{address_of, length_of}
+use Rattle.filter_reader.specs.Masks.{hex_number, value_and_mask}
+use Rattle.filter_reader.specs.Ports.{range_of, ports_of}
+use Rattle.filter_reader.specs.Columns.{behind_at, prefix_set, source_column, destination_column, port_column, protocol_column, flag_of, flags_column, decision_of, decision_column}
+use Rattle.filter_reader.specs.RuleLine.{rule_of_tokens, rule_line}
+use Rattle.filter_reader.proofs.rows.worked_skips.Goals as goal
+
+pub returns : goal.returns
+unfolding number_within short_number address_of length_of hex_number value_and_mask range_of ports_of behind_at prefix_set source_column destination_column port_column protocol_column flag_of flags_column decision_of decision_column rule_of_tokens rule_line
+returns c = refl

@@ -1,0 +1,74 @@
+ghost use Rattle.std.specs.Prelude.{◌≡◌, ◌≢◌, IfOk, OnOk};
+ghost use Rattle.filter_reader.specs.LineRules.{IsLineRule, spelled_line};
+ghost use Rattle.filter_reader.specs.RuleLine.{rule_line, rule_of_tokens};
+ghost use Rattle.filter_reader.specs.Tokens.{tokens};
+
+use crate::address::{destination_column, source_column};
+use crate::decision::{decision_column, end_of_line};
+use crate::flags::flags_column;
+use crate::lines::is_ascii_line;
+use crate::port::port_column;
+use crate::protocol::protocol_column;
+use crate::reason::Reason;
+use field_boxes::{Ports, Span};
+
+/// As many rules as a list may have.
+const MOST_RULES: usize = 65_536;
+
+/// What a rule line spells.
+#[derive(Clone, Copy)]
+pub struct LineRule<'a> {
+    pub source: Span,
+    pub destination: Span,
+    pub ports: [Ports; 2],
+    pub protocol: Span,
+    /// The decision word, where the line has one.
+    pub word: Option<&'a str>,
+    pub flagged: bool,
+}
+
+/// The rule that the columns of the line spell, or the first reason why they are bad.
+#[tactic(auto, unfolding(crate::specs::RuleLine::rule_of_tokens))]
+fn rule_of_columns(line: &[u8]) -> Result<LineRule<'_>, Reason>
+    ensures read { spelled_line result ≡ rule_of_tokens (tokens line.now) }
+    ensures rule { IfOk result IsLineRule }
+{
+    let (source, rest) = source_column(line)?;
+    let (destination, rest) = destination_column(rest)?;
+    let (source_ports, rest) = match port_column(rest) {
+        Ok((ports, rest)) => (ports, rest),
+        Err(reason) => return Err(reason),
+    };
+    let (destination_ports, rest) = match port_column(rest) {
+        Ok((ports, rest)) => (ports, rest),
+        Err(reason) => return Err(reason),
+    };
+    let (protocol, rest) = protocol_column(rest)?;
+    let (flagged, rest) = flags_column(rest)?;
+    let (word, rest) = decision_column(rest)?;
+    end_of_line(rest)?;
+    Ok(LineRule {
+        source: source.span(32),
+        destination: destination.span(32),
+        ports: [source_ports, destination_ports],
+        protocol,
+        word,
+        flagged,
+    })
+}
+
+/// The rule that a line spells that isn't skipped, with so many rules before it.
+#[tactic(auto, unfolding(crate::specs::RuleLine::rule_line))]
+pub fn rule_of_line(line: &[u8], before: usize) -> Result<LineRule<'_>, Reason>
+    ensures read { spelled_line result ≡ rule_line before line.now }
+    ensures rule { IfOk result IsLineRule }
+    ensures room { OnOk result (before ≢ 65536) }
+{
+    if before == MOST_RULES {
+        return Err(Reason::TooManyRules);
+    }
+    if !is_ascii_line(line) {
+        return Err(Reason::NotAscii);
+    }
+    rule_of_columns(line)
+}

@@ -1,0 +1,29 @@
+ghost use Rattle.std.specs.Prelude.{◌≤◌, vec_len, All};
+ghost use Rattle.field_boxes.specs.NamedRules.{IsNumberedBy};
+ghost use Rattle.filter_reader.specs.FilterRules.{IsFilterRule};
+
+use crate::reason::Reason;
+use field_boxes::{Decisions, Rule};
+
+/// The rules of a filter list, the names of their decisions, and how many rules are flagged.
+///
+/// There are at most 65,536 rules. The addresses of a rule are those that agree in some number of their
+/// first bits, its protocols are one or all, and its decision is the number of a name.
+#[derive(Drop)]
+pub struct RuleList {
+    pub rules: Vec<Rule>,
+    pub names: Decisions,
+    pub flagged: u64,
+    pub ghost few: { vec_len rules ≤ 65536 },
+    pub ghost spelled: { All IsFilterRule rules.items },
+    pub ghost numbered: { All (IsNumberedBy names) rules.items },
+}
+
+/// Why the text of a list was refused.
+#[derive(Clone, Copy, Debug, PartialEq, Eq)]
+pub enum ListError {
+    /// The first bad line, counted from 1, and its first reason.
+    BadLine { line: u64, reason: Reason },
+    /// Memory was refused.
+    Memory,
+}

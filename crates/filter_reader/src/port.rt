@@ -1,0 +1,22 @@
+ghost use Rattle.std.specs.Prelude.{◌≡◌, IfOk};
+ghost use Rattle.field_boxes.specs.Ports.{ArePorts};
+ghost use Rattle.filter_reader.specs.Columns.{port_column};
+ghost use Rattle.filter_reader.specs.Tokens.{tokens};
+ghost use Rattle.filter_reader.specs.Views.{column_by};
+
+use crate::ranges::read_ranges;
+use crate::reason::Reason;
+use field_boxes::Ports;
+
+/// The ports in one of the ranges that the line begins with.
+#[tactic(auto, unfolding(crate::specs::Columns::port_column))]
+pub fn port_column(line: &[u8]) -> Result<(Ports, &[u8]), Reason>
+    ensures read { column_by (λ ports. ports) result ≡ port_column (tokens line.now) }
+    ensures ports { IfOk result (λ column. ArePorts column.0) }
+{
+    let Some((ranges, rest)) = read_ranges(line) else {
+        return Err(Reason::PortForm);
+    };
+    let ports = ranges.ports()?;
+    Ok((ports, rest))
+}

@@ -1,0 +1,87 @@
+ghost use Rattle.std.specs.Prelude.{◌≡◌, ℕ, ◌<◌, ◌++◌, ◌∷◌, List, [], length, Some, None, MatchOption, IfOk, IfSome};
+ghost use Rattle.field_boxes.specs.Classifier.{Interval};
+ghost use Rattle.field_boxes.specs.Ports.{ArePorts};
+ghost use Rattle.filter_reader.specs.Ports.{ports_of, ranges_of};
+ghost use Rattle.filter_reader.specs.Ranges.{SumsUp, capped_range, range_view};
+ghost use Rattle.filter_reader.specs.Tokens.{tokens};
+
+use crate::range::{Range, behind_comma, first_range};
+use crate::reason::Reason;
+use field_boxes::{Ports, Span, laws};
+
+/// What is kept of the ranges of a port column.
+#[derive(Clone, Copy)]
+pub struct Ranges {
+    /// The first 16 ranges, each with its lesser number first.
+    spans: [Span; 16],
+    /// How many ranges there are, or 17 where there are more.
+    count: usize,
+    /// Whether a range begins above its end.
+    reversed: bool,
+}
+
+impl Ranges {
+    /// No range.
+    fn new() -> Ranges
+        ensures { SumsUp [] result }
+    {
+        Ranges {
+            spans: [Span { lo: 0, hi: 0 }; 16],
+            count: 0,
+            reversed: false,
+        }
+    }
+
+    /// One more range.
+    fn push(&mut self, range: Range)
+        ensures { (ranges : List Interval) (next : Interval) → SumsUp ranges self.old → range_view range ≡ capped_range next → SumsUp (ranges ++ next ∷ []) self.new }
+    {
+        self.reversed |= range.hi < range.lo;
+        if self.count >= 16 {
+            self.count = 17;
+            return;
+        }
+        self.spans[self.count] = Span {
+            lo: range.lo.min(range.hi),
+            hi: range.lo.max(range.hi),
+        };
+        self.count += 1;
+    }
+
+    /// The ports in one of the ranges.
+    pub fn ports(&self) -> Result<Ports, Reason>
+        ensures read { (ranges : List Interval) → 0 < length ranges → SumsUp ranges self.now → result ≡ ports_of ranges }
+        ensures ports { IfOk result ArePorts }
+    {
+        laws::unions_are_values();
+        if self.count > 16 {
+            return Err(Reason::TooManyRanges);
+        }
+        let Some(ports) = Ports::of(&self.spans[..self.count]) else {
+            return Err(Reason::PortRange);
+        };
+        if self.reversed {
+            return Err(Reason::PortOrder);
+        }
+        Ok(ports)
+    }
+}
+
+/// The ranges that the line begins with, and what stands behind them.
+pub fn read_ranges(line: &[u8]) -> Option<(Ranges, &[u8])>
+    ensures { MatchOption result (ranges_of (tokens line.now) ≡ None)
+        (λ parts. (ranges : List Interval) × SumsUp ranges parts.0 × (0 < length ranges) × (ranges_of (tokens line.now) ≡ Some (ranges, tokens parts.1.now))) }
+{
+    let mut ranges = Ranges::new();
+    let mut rest = line;
+    'columns: loop {
+        let Some((range, after)) = first_range(rest) else {
+            return None;
+        };
+        ranges.push(range);
+        match behind_comma(after) {
+            Some(next) => rest = next,
+            None => return Some((ranges, after)),
+        }
+    }
+}
