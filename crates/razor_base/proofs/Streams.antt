@@ -1,11 +1,8 @@
 -- Calls on a stream that are tried again.
-use Rattle.std.proofs.Common.{◌≡◌, ℕ, ◌+◌, ◌≤◌, List, Option, Some, None, Result, Ok, Err, refl, ap, sym, subst, ◌∙◌, add_assoc, arith, inl, inr}
-use Rattle.std.specs.Prelude.{IfSome, OnOk}
-use Rattle.std.specs.Io.KnownBytes.{Keeps, Consumes, Appends, ReadConsumes, WriteAppends}
-use Rattle.razor_base.specs.declared.failure.Failed.{Failed}
-use Rattle.razor_base.specs.declared.stream.Cut.{Cut}
-use Rattle.razor_base.specs.declared.stream.Cut.TheVariants.{Interrupted, Refused}
-use Rattle.razor_base.specs.Streams.{Calls, with_call, IsCall, Interrupts, Fails, IsTried}
+use Rattle.std.proofs.Common.{ℕ, List, Option, Some, None, Result, Ok, Err, subst}
+use Rattle.std.specs.Prelude.{OnOk}
+use Rattle.std.specs.Io.KnownBytes.{Keeps, ReadConsumes, WriteAppends}
+use Rattle.razor_base.specs.Streams.{Calls, IsCall, Interrupts}
 
 -- after some interruptions a call answered
 pub interrupts-end : (a b c : Option Calls) (k n : ℕ) → Interrupts a b k → IsCall b c (Ok n) → Interrupts a c k

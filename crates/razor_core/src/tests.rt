@@ -18,7 +18,7 @@ const WEB: &[u8] = b"@10.0.0.0/8\t0.0.0.0/0\t0 : 65535\t80 : 80\t0x06/0xFF\tweb\
 
 /// The table of the rule above.
 const WEB_TABLE: &[u8] =
-    b"table 1 slot 144 composed 1 entries 1\n00001010************************************************************************000000000101000000000110**************************************** web\n";
+    b"table 2 slot 144 composed 1 entries 1\n0A000000/FF000000 00000000/00000000 0000/0000 0050/FFFF 06/FF web\n";
 
 /// What a call is tried on: the list under `in`, and what fails.
 #[derive(Clone, Copy)]
@@ -88,14 +88,14 @@ fn expands_thin_lists(rt: HostRuntime) -> Result<(), Fail> {
         &rt,
         calm(ANY_TCP),
         0,
-        b"table 1 slot 144 composed 1 entries 1\n************************************************************************************************00000110**************************************** accept\n",
+        b"table 2 slot 144 composed 1 entries 1\n00000000/00000000 00000000/00000000 0000/0000 0000/0000 06/FF accept\n",
         b"rules 1, flagged 0\n",
     )?;
     check(
         &rt,
         calm(b""),
         0,
-        b"table 1 slot 144 composed 0 entries 0\n",
+        b"table 2 slot 144 composed 0 entries 0\n",
         b"rules 0, flagged 0\n",
     )?;
     check(&rt, calm(WEB), 0, WEB_TABLE, b"rules 1, flagged 0\n")

@@ -1,3 +1,4 @@
+pub mod Columns
 pub mod FirstMatch
 pub mod Fives
 pub mod Joined
@@ -6,4 +7,3 @@ pub mod Matching
 pub mod PrefixHolds
 pub mod PrefixMasks
 pub mod PrefixTrits
-pub mod WordText

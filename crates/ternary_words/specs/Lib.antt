@@ -1,6 +1,7 @@
 pub mod Word
 pub mod Prefixes
 pub mod Table
+pub mod Hexadecimal
 pub mod TableText
 pub mod Views
 pub mod Limits

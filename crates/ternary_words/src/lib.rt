@@ -5,8 +5,8 @@
 //! first matching entry: [`look`] gives its place. [`write_table`] writes the text of a table.
 #![tactic(auto)]
 
-mod characters;
 mod entry;
+mod hexadecimal;
 mod key;
 pub mod laws;
 mod lookup;

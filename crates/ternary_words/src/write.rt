@@ -1,11 +1,15 @@
-ghost use Rattle.std.specs.Prelude.{◌≤◌, length};
+ghost use Rattle.std.specs.Prelude.{◌≤◌, ◌*◌, ◌/◌, ◌^◌, ◌∷◌, [], ◌++◌, length};
 ghost use Rattle.razor_base.specs.Output.{Puts, Writes};
-ghost use Rattle.ternary_words.specs.TableText.{entries_text, entry_line, first_line, table_text};
-ghost use Rattle.ternary_words.specs.Views.{entry_of, table_of};
+ghost use Rattle.field_boxes.specs.Bits.{bits};
+ghost use Rattle.field_boxes.specs.Fields.{stated};
+ghost use Rattle.ternary_words.specs.Hexadecimal.{hex_digits};
+ghost use Rattle.ternary_words.specs.TableText.{columns_text, entries_text, entry_line, first_line, table_text};
+ghost use Rattle.ternary_words.specs.Views.{entry_of, table_of, word_of};
 
-use crate::characters::characters;
 use crate::entry::Entry;
+use crate::hexadecimal::hexadecimal;
 use crate::table::Table;
+use crate::word::Word;
 use field_boxes::Decisions;
 use razor_base::{Failed, Part, Pending, Sink, put_parts};
 
@@ -27,7 +31,7 @@ fn put_first_line<K: Sink>(table: &Table, pending: &mut Pending, out: &mut K) ->
         pending,
         out,
         &[
-            Part::Text("table 1 slot "),
+            Part::Text("table 2 slot "),
             Part::Number(u128::from(table.slot)),
             Part::Text(" composed "),
             Part::Number(u128::from(table.composed)),
@@ -43,33 +47,54 @@ fn put_entries<K: Sink>(table: &Table, pending: &mut Pending, out: &mut K) -> Re
     ensures { Puts K.written K.faults out.old out.new pending.old pending.new (entries_text (table_of table.now)) result }
 {
     for entry in &table.entries {
-        put_entry(entry, table.slot, &table.names, pending, out)?;
+        put_entry(entry, &table.names, pending, out)?;
     }
     Ok(())
 }
 
-/// Puts the line of an entry: its word, as wide as the slot, and the name of its decision.
+/// Puts the line of an entry: a column for each field, and the name of the decision.
 fn put_entry<K: Sink>(
     entry: &Entry,
-    slot: u16,
     names: &Decisions,
     pending: &mut Pending,
     out: &mut K,
 ) -> Result<(), Failed>
-    requires narrowest { 104 ≤ slot }
-    requires widest { slot ≤ 288 }
-    requires number { entry.now.decision ≤ length names.now }
-    ensures { Puts K.written K.faults out.old out.new pending.old pending.new (entry_line slot (entry_of names.now entry.now)) result }
+    requires { entry.now.decision ≤ length names.now }
+    ensures { Puts K.written K.faults out.old out.new pending.old pending.new (entry_line (entry_of names.now entry.now)) result }
 {
-    let characters = characters(&entry.word);
-    pending.put(out, &characters[..slot as usize])?;
-    put_parts(
-        pending,
-        out,
-        &[
-            Part::Text(" "),
-            Part::Text(names.name(entry.decision)),
-            Part::Text("\n"),
-        ],
-    )
+    put_word(&entry.word, pending, out)?;
+    let name = names.name(entry.decision);
+    put_parts(pending, out, &[Part::Text(name), Part::Text("\n")])
+}
+
+/// Puts the five columns of a word, and a space behind each.
+fn put_word<K: Sink>(word: &Word, pending: &mut Pending, out: &mut K) -> Result<(), Failed>
+    ensures { Puts K.written K.faults out.old out.new pending.old pending.new (columns_text stated (word_of word.now)) result }
+{
+    put_column(word, 72, 8, pending, out)?;
+    put_column(word, 40, 8, pending, out)?;
+    put_column(word, 24, 4, pending, out)?;
+    put_column(word, 8, 4, pending, out)?;
+    put_column(word, 0, 2, pending, out)
+}
+
+/// Puts a column and a space: what the word has from the bit `low` on, in so many digits.
+fn put_column<K: Sink>(
+    word: &Word,
+    low: u8,
+    digits: usize,
+    pending: &mut Pending,
+    out: &mut K,
+) -> Result<(), Failed>
+    requires low { low ≤ 72 }
+    requires digits { digits ≤ 8 }
+    ensures { Puts K.written K.faults out.old out.new pending.old pending.new
+        (hex_digits (bits (4 * digits) (word.now.value / 2 ^ low)) ++ 47 ∷ [] ++ hex_digits (bits (4 * digits) (word.now.mask / 2 ^ low)) ++ 32 ∷ []) result }
+{
+    let value = hexadecimal(word.value >> low);
+    let mask = hexadecimal(word.mask >> low);
+    pending.put(out, &value[8 - digits..])?;
+    pending.put(out, b"/")?;
+    pending.put(out, &mask[8 - digits..])?;
+    pending.put(out, b" ")
 }

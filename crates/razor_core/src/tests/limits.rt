@@ -11,7 +11,7 @@ fn meets_the_limit_of_bytes(rt: HostRuntime) -> Result<(), Fail> {
         &rt,
         calm(&list),
         0,
-        b"table 1 slot 144 composed 0 entries 0\n",
+        b"table 2 slot 144 composed 0 entries 0\n",
         b"rules 0, flagged 0\n",
     )?;
     list.push(b'\n')?;

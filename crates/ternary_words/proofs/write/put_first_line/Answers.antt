@@ -1,4 +1,4 @@
-use Rattle.std.proofs.Common.{◌≡◌, append_assoc, length, map, sym, ◌∙◌, rules}
+use Rattle.std.proofs.Common.{◌≡◌, append_assoc, length, sym, ◌∙◌, rules}
 use Rattle.std.proofs.lemmas.List.{length-map}
 use Rattle.razor_base.proofs.Writing.{puts-is}
 use Rattle.ternary_words.specs.Views.{entry_of}
