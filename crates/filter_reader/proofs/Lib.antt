@@ -2,7 +2,9 @@ pub mod AddressTexts
 pub mod Bytes
 pub mod Cuts
 pub mod Decimals
+pub mod FirstNames
 pub mod KeptRanges
+pub mod PortColumns
 pub mod PortTexts
 pub mod LineTexts
 pub mod ListTexts

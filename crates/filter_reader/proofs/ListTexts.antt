@@ -1,5 +1,5 @@
 -- Lists are read as they are written.
-use Rattle.std.proofs.Common.{◌≡◌, ◌∷◌, ◌++◌, ℕ, zero, suc, ◌+◌, ◌-◌, ◌<◌, List, Bool, true, false, cond, [], ap, refl, sym, ◌∙◌, arith, append_assoc, length, drop, Some, None}
+use Rattle.std.proofs.Common.{◌≡◌, ◌∷◌, ◌++◌, ℕ, zero, suc, ◌+◌, ◌-◌, ◌<◌, ◌≤◌, List, Bool, true, false, cond, [], ap, refl, sym, ◌∙◌, arith, append_assoc, length, drop, Some, None}
 use Rattle.std.specs.Prelude.{Option, ◌&&◌, ◌||◌, Ok, Result, map, ◌==◌, nat_eq, unwrap_or, if◌then◌else◌}
 use Rattle.std.specs.List.{list_all}
 use Rattle.std.specs.Cmp.Lexicographic.{pointwise}
@@ -7,16 +7,29 @@ use Rattle.std.specs.Char.{is_ascii}
 use Rattle.std.specs.Str.{bytes_eq}
 use Rattle.std.proofs.lemmas.Bool.{and_parts, ne_eqb, eqb-false, not-true}
 use Rattle.std.proofs.lemmas.Slice.Eq.{bytes_eq-Decides}
-use Rattle.field_boxes.specs.Classifier.{Interval}
-use Rattle.field_boxes.specs.Names.{is_decision_word}
+use Rattle.std.specs.Coded.{le_prop}
+use Rattle.std.specs.List.{AllByRecursion}
+use Rattle.std.specs.Prelude.{All, slice_index_or}
+use Rattle.std.proofs.Math.Logic.{∥∥₁_elim}
+use Rattle.std.proofs.lemmas.List.Elements.{recursion_from_All}
+use Rattle.field_boxes.specs.declared.rule.Rule as code
+use Rattle.field_boxes.specs.Classifier.{Interval, Rule}
+use Rattle.field_boxes.specs.NamedRules.{named_rules}
+use Rattle.field_boxes.specs.Names.{is_decision_word, name_at, text_of}
+use Rattle.field_boxes.specs.Ports.{ArePorts}
+use Rattle.field_boxes.specs.Rules.{sets_of}
+use Rattle.field_boxes.specs.Spans.{interval_of}
+use Rattle.field_boxes.specs.Unions.{RiseApart}
+use Rattle.filter_reader.specs.FilterRules.{IsFilterRule}
+use Rattle.filter_reader.proofs.AddressTexts.{prefix_texts}
 use Rattle.filter_reader.specs.declared.reason.Reason.{Reason}
-use Rattle.filter_reader.specs.FilterList.{in_front, list_from, own_name, text_lines}
+use Rattle.filter_reader.specs.FilterList.{BadLine, FilterList, in_front, list_from, list_of, own_name, text_lines}
 use Rattle.filter_reader.specs.Lines.{without_return}
-use Rattle.filter_reader.specs.ListText.{columns_text, decision_text, rule_text}
-use Rattle.filter_reader.specs.OwnNames.{IsNameOf}
+use Rattle.filter_reader.specs.ListText.{columns_text, decision_text, list_text, rule_text}
+use Rattle.filter_reader.specs.OwnNames.{HaveNames, IsNameOf}
 use Rattle.filter_reader.specs.RuleLine.{SpelledRule, rule_line}
 use Rattle.filter_reader.proofs.Bytes.{is_line_byte, all_wider}
-use Rattle.filter_reader.proofs.LineTexts.{CanSpell, five, line_bytes, rule_of_tokens-text}
+use Rattle.filter_reader.proofs.LineTexts.{ArePortSets, CanSpell, five, line_bytes, rule_of_tokens-text}
 use Rattle.filter_reader.proofs.Spelling.{is_other, lines_of-line}
 use Rattle.filter_reader.proofs.TailTexts.{IsTail, tail_none, tail_word}
 
@@ -84,3 +97,38 @@ list_from-rule number before s d sp dp p name rest h room =
     ap (λ (text : List ℕ). list_from number before (text_lines text)) (append_assoc line (10 ∷ []) rest)
     ∙ ap (list_from number before) (text_lines-line line rest (line_bytes s d sp dp p (decision_text name) (word_of name) h (tail_of name)))
     ∙ ap (λ (spelled : Result SpelledRule Reason). in_front number (before + 1) spelled (list_from (number + 1) (before + 1) (text_lines rest))) (line_read before s d sp dp p name h room)
+
+RiseApart-prop : (low top : ℕ) (set : List Interval) → IsProp (RiseApart low top set)
+RiseApart-prop low top [] = hlevel
+RiseApart-prop low top (i ∷ set) = hlevel (le_prop, RiseApart-prop (i.hi + 2) top set)
+
+-- a set of ports is one to sixteen ranges that rise with gaps
+port_sets : (set : List Interval) → ∥ ArePorts set ∥₁ → ArePortSets set
+port_sets set h = ∥∥₁_elim h (hlevel (le_prop, RiseApart-prop 0 65535 set)) (λ ports. record { some = ports.some; few = ports.few; rise = ports.rise })
+
+can_spell : (r : code.Rule) → IsFilterRule r → CanSpell (interval_of r.source) (interval_of r.destination) (slice_index_or r.ports 0 []) (slice_index_or r.ports 1 []) (interval_of r.protocol)
+can_spell r h = record {
+  source = prefix_texts r.source h.source;
+  destination = prefix_texts r.destination h.destination;
+  source_ports = port_sets (slice_index_or r.ports 0 []) h.source_ports;
+  destination_ports = port_sets (slice_index_or r.ports 1 []) h.destination_ports;
+  protocol = h.protocol;
+}
+
+-- the rules of a list from some rule on
+rules_read : (number before : ℕ) (names : List (List ℕ)) (rules : List code.Rule) → AllByRecursion IsFilterRule rules → HaveNames (before + 1) (named_rules names rules) → before + length rules ≤ 65536 →
+    list_from number before (text_lines (list_text (named_rules names rules))) ≡ Ok (record { rules = named_rules names rules; flagged = 0 })
+rules_read number before names [] spelled named few = refl
+rules_read number before names (r ∷ rules) spelled have few =
+    let name = text_of (name_at names r.decision) in
+    let set = λ (k : ℕ). slice_index_or r.ports k [] in
+    list_from-rule number before (interval_of r.source) (interval_of r.destination) (set 0) (set 1) (interval_of r.protocol) name (list_text (named_rules names rules)) (can_spell r spelled.0) (omega arith)
+    ∙ ap (in_front number (before + 1) (Ok (record { sets = sets_of r; word = word_of name; flagged = false }))) (rules_read (number + 1) (before + 1) names rules spelled.1 have.1 (omega arith))
+    ∙ ap (λ (n : List ℕ). let first : Rule (List ℕ) = record { sets = sets_of r; decision = n } in
+    let list : FilterList = record { rules = first ∷ named_rules names rules; flagged = 0 } in
+    let whole : Result FilterList BadLine = Ok list in whole) (name_read (before + 1) name have.0)
+
+-- the text of rules with names spells them
+pub list_of-text : (names : List (List ℕ)) (rules : List code.Rule) → All IsFilterRule rules → HaveNames 1 (named_rules names rules) → length rules ≤ 65536 →
+    list_of (list_text (named_rules names rules)) ≡ Ok (record { rules = named_rules names rules; flagged = 0 })
+list_of-text names rules spelled named few = rules_read 1 0 names rules (recursion_from_All IsFilterRule rules spelled) named (omega arith)

@@ -34,6 +34,7 @@ source_column tokens = do
   set ← prefix_set text
   Ok (set, token.1)
 
+-- the addresses of the first token
 unfoldable pub destination_column : List (List ℕ) → Result (Interval × List (List ℕ)) Reason
 destination_column tokens = do
   token ← ok_or (first_token tokens) Address

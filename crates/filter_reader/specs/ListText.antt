@@ -14,6 +14,7 @@ address_text v = decimal (v / 2 ^ 24) ++ 46 ∷ decimal (v / 2 ^ 16 % 256) ++ 46
 abbrev pub prefix_text : Interval → List ℕ
 prefix_text i = address_text i.lo ++ 47 ∷ decimal (leading_zeros w32 (i.hi - i.lo))
 
+-- the ends of a range, with ':' and blanks between them
 abbrev pub range_text : Interval → List ℕ
 range_text i = decimal i.lo ++ codes " : " ++ decimal i.hi
 
@@ -48,5 +49,6 @@ columns_text (source ∷ destination ∷ source_ports ∷ destination_ports ∷ 
 abbrev pub rule_text : Rule (List ℕ) → List ℕ
 rule_text rule = columns_text rule.sets ++ decision_text rule.decision ++ 10 ∷ []
 
+-- a line for each rule
 abbrev pub list_text : List (Rule (List ℕ)) → List ℕ
 list_text rules = flat_map rule_text rules

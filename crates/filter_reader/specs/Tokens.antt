@@ -12,6 +12,7 @@ abbrev pub goes_on : List ℕ → Bool
 goes_on [] = false
 goes_on (b ∷ text) = not (is_blank b) && not (is_mark b)
 
+-- the tokens of a line, in order
 abbrev pub tokens : List ℕ → List (List ℕ)
 tokens [] = []
 tokens (b ∷ text) =

@@ -5,24 +5,30 @@ mod address;
 mod decision;
 mod flags;
 mod hexadecimal;
+pub mod laws;
 mod line;
 mod lines;
 mod list;
 mod number;
 mod port;
+mod port_text;
 mod protocol;
+mod protocol_text;
 mod range;
 mod ranges;
 mod reading;
 mod reason;
 pub mod rows;
+mod rule_text;
 mod separator;
 mod take;
 mod token;
+mod write;
 
 pub use list::{ListError, RuleList};
 pub use reading::read_list;
 pub use reason::Reason;
+pub use write::write_list;
 
 #[cfg(test)]
 mod tests;

@@ -1,5 +1,6 @@
 mod limits;
 mod reasons;
+mod writing;
 
 use crate::read_list;
 use field_boxes::Rule;

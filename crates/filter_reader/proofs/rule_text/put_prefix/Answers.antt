@@ -1,0 +1,6 @@
+use Rattle.std.proofs.Common.{append_assoc, append-nil}
+use Rattle.razor_base.proofs.Writing.{puts-is}
+use Rattle.filter_reader.proofs.rule_text.put_prefix.Goals as goal
+
+pub returns : goal.returns
+returns g c = puts-is c.put_parts.ensures (simp (c.from.ensures, c.from-2.ensures, c.from-3.ensures, c.from-4.ensures, c.from-5.ensures, append_assoc, append-nil))

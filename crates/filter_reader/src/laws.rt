@@ -1,0 +1,25 @@
+//! Laws of the definitions, for whoever relies on them. The functions do nothing.
+ghost use Rattle.std.specs.Prelude.{◌≡◌, ◌≤◌, ℕ, List, All, Ok, length, map};
+ghost use Rattle.field_boxes.specs.NamedRules.{named_rules};
+ghost use Rattle.field_boxes.specs.declared.rule.Rule.{Rule};
+ghost use Rattle.filter_reader.specs.FilterList.{list_of};
+ghost use Rattle.filter_reader.specs.FilterRules.{IsFilterRule};
+ghost use Rattle.filter_reader.specs.FirstSeen.{first_seen};
+ghost use Rattle.filter_reader.specs.ListText.{list_text};
+ghost use Rattle.filter_reader.specs.Lists.{filter_list};
+ghost use Rattle.filter_reader.specs.OwnNames.{HaveNames};
+ghost use Rattle.filter_reader.specs.declared.list.RuleList.{RuleList};
+
+/// The text of rules spells the same sets and the same names, and no flags, where each rule is named by a
+/// decision word or by its own number.
+pub fn written_rules_are_read()
+    ensures { (names : List (List ℕ)) (rules : List Rule) → All IsFilterRule rules → length rules ≤ 65536 → HaveNames 1 (named_rules names rules) →
+        list_of (list_text (named_rules names rules)) ≡ Ok (record { rules = named_rules names rules; flagged = 0 }) }
+{}
+
+/// Two lists with the same rules have the same numbers, where in each the names are those of its rules in
+/// the order in which they are first seen.
+pub fn numbers_follow_names()
+    ensures { (a b : RuleList) → a.names ≡ first_seen (filter_list a).rules → b.names ≡ first_seen (filter_list b).rules → (filter_list a).rules ≡ (filter_list b).rules →
+        (a.names ≡ b.names) × (map (λ rule. rule.decision) a.rules.items ≡ map (λ rule. rule.decision) b.rules.items) }
+{}
