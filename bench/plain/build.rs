@@ -1,7 +1,7 @@
-//! The work of `razor_bench build N TIMES` and `razor_bench crossed N TIMES` in plain Rust, as the
-//! measure of its time and room: `build build N TIMES HASH`, `build crossed N TIMES HASH`.
+//! The work of `razor_bench build N TIMES`, `razor_bench unions N TIMES` and `razor_bench crossed N TIMES`
+//! in plain Rust, as the measure of its time and room: `build build N TIMES HASH`, and likewise.
 //!
-//! The same lists and the same steps: a list is halved, a rule becomes the diagram of its box, and a
+//! The same lists and the same steps: a list is halved, a rule becomes the diagram of its sets, and a
 //! diagram is laid over another by one walk over pairs of nodes that keeps what came of each pair. Nodes
 //! are kept once, in a `HashMap` and a `Vec` that share their edges. HASH is `sip`, the default of
 //! `HashMap`, or `multiply`, the hasher below. It prints the line that `razor_bench` prints.
@@ -66,9 +66,29 @@ const OPEN: [Span; 5] = {
     spans
 };
 
+/// A rule: for each field spans that rise, between which a value is missing.
 struct Rule {
-    spans: [Span; 5],
+    sets: [Vec<Span>; 5],
     decision: u32,
+}
+
+impl Rule {
+    fn of(spans: [Span; 5], decision: u32) -> Rule {
+        Rule { sets: spans.map(|span| vec![span]), decision }
+    }
+}
+
+/// The union of the spans.
+fn union(mut spans: Vec<Span>) -> Vec<Span> {
+    spans.sort_by_key(|span| span.lo);
+    let mut united: Vec<Span> = Vec::with_capacity(spans.len());
+    for span in spans {
+        match united.last_mut() {
+            Some(last) if span.lo <= last.hi + 1 => last.hi = last.hi.max(span.hi),
+            _ => united.push(span),
+        }
+    }
+    united
 }
 
 /// The generator splitmix64.
@@ -96,25 +116,49 @@ impl Numbers {
         Span { lo, hi: lo + (size - 1) }
     }
 
-    fn rule(&mut self) -> Rule {
+    fn range(&mut self) -> Span {
+        let lo = self.below(65_536);
+        let hi = (lo + self.below(16)).min(65_535);
+        Span { lo, hi }
+    }
+
+    /// Two or three ranges of ports.
+    fn ranges(&mut self) -> Vec<Span> {
+        let first = self.range();
+        let second = self.range();
+        let third = if self.below(2) == 0 { second } else { self.range() };
+        union(vec![first, second, third])
+    }
+
+    /// One port, or with unions in a quarter of the cases two or three ranges.
+    fn ports(&mut self, unions: bool) -> Vec<Span> {
+        if unions && self.below(4) == 0 {
+            return self.ranges();
+        }
+        let port = self.below(65_536);
+        vec![Span { lo: port, hi: port }]
+    }
+
+    fn rule(&mut self, unions: bool) -> Rule {
         let source = self.prefix();
         let destination = self.prefix();
-        let port = self.below(65_536);
+        let ports = self.ports(unions);
         let protocol = [6, 17][self.below(2) as usize];
         let decision = self.below(2) + 1;
         let mut spans = OPEN;
         spans[0] = source;
         spans[1] = destination;
-        spans[3] = Span { lo: port, hi: port };
         spans[4] = Span { lo: protocol, hi: protocol };
-        Rule { spans, decision }
+        let mut rule = Rule::of(spans, decision);
+        rule.sets[3] = ports;
+        rule
     }
 }
 
-fn access(size: u32) -> Vec<Rule> {
+fn access(size: u32, unions: bool) -> Vec<Rule> {
     let mut numbers = Numbers { state: u64::from(size) };
-    let mut rules: Vec<Rule> = (1..size).map(|_| numbers.rule()).collect();
-    rules.push(Rule { spans: OPEN, decision: 2 });
+    let mut rules: Vec<Rule> = (1..size).map(|_| numbers.rule(unions)).collect();
+    rules.push(Rule::of(OPEN, 2));
     rules
 }
 
@@ -124,10 +168,10 @@ fn crossed(size: u32) -> Vec<Rule> {
         for field in 0..4 {
             let mut spans = OPEN;
             spans[field] = Span { lo: 2 * place, hi: 2 * place };
-            rules.push(Rule { spans, decision: 1 });
+            rules.push(Rule::of(spans, 1));
         }
     }
-    rules.push(Rule { spans: OPEN, decision: 2 });
+    rules.push(Rule::of(OPEN, 2));
     rules
 }
 
@@ -202,14 +246,15 @@ impl<S: BuildHasher + Default> Store<S> {
         let mut inside = self.leaf(rule.decision);
         for field in (0..5u8).rev() {
             let level = usize::from(field);
-            let Span { lo, hi } = rule.spans[level];
             let outside = self.nothing[level + 1];
             let mut edges = Vec::with_capacity(3);
-            if 0 < lo {
-                edges.push(Edge { hi: lo - 1, to: outside });
+            for &Span { lo, hi } in &rule.sets[level] {
+                if 0 < lo {
+                    edges.push(Edge { hi: lo - 1, to: outside });
+                }
+                edges.push(Edge { hi, to: inside });
             }
-            edges.push(Edge { hi, to: inside });
-            if hi < GREATEST[level] {
+            if edges[edges.len() - 1].hi < GREATEST[level] {
                 edges.push(Edge { hi: GREATEST[level], to: outside });
             }
             inside = self.make(field, &edges);
@@ -298,7 +343,9 @@ impl<S: BuildHasher + Default> Store<S> {
 fn checksum<S: BuildHasher + Default>(store: &Store<S>, root: usize, rules: &[Rule]) -> u64 {
     let mut checksum = 0u64;
     for rule in rules {
-        for header in [rule.spans.map(|span| span.lo), rule.spans.map(|span| span.hi)] {
+        let least: [u32; 5] = std::array::from_fn(|field| rule.sets[field][0].lo);
+        let greatest: [u32; 5] = std::array::from_fn(|field| rule.sets[field][rule.sets[field].len() - 1].hi);
+        for header in [least, greatest] {
             checksum = checksum.wrapping_mul(31).wrapping_add(store.answer(root, header).into());
         }
     }
@@ -319,12 +366,13 @@ fn run<S: BuildHasher + Default>(rules: &[Rule], times: u32) {
 fn main() {
     let words: Vec<String> = std::env::args().skip(1).collect();
     let [name, size, times, hash] = &words[..] else {
-        panic!("build or crossed, a size, how often, and sip or multiply");
+        panic!("build, unions or crossed, a size, how often, and sip or multiply");
     };
     let size = size.parse().expect("a size");
     let times = times.parse().expect("how often");
     let rules = match name.as_str() {
-        "build" => access(size),
+        "build" => access(size, false),
+        "unions" => access(size, true),
         "crossed" => crossed(size),
         _ => panic!("no list is named {name:?}"),
     };

@@ -1,8 +1,9 @@
 -- The rules of generated lists, in the classifier model.
-use Rattle.std.specs.Prelude.{◌≡◌, ◌⊎◌, ℕ, zero, suc, ◌*◌, ◌-◌, ◌≤◌, ◌<◌, List, [], ◌∷◌, ◌++◌, length, map, All, nat_eq, if◌then◌else◌}
+use Rattle.std.specs.Prelude.{◌≡◌, ◌⊎◌, Bool, true, false, ℕ, zero, suc, ◌*◌, ◌-◌, ◌≤◌, ◌<◌, List, [], ◌∷◌, ◌++◌, length, map, All, nat_eq, if◌then◌else◌}
 use Rattle.field_boxes.specs.Classifier.{Rule, Interval}
 use Rattle.field_boxes.specs.Fields.{stated, greatest_of}
 use Rattle.field_boxes.specs.Prefix.{FitsWidth, prefix_interval}
+use Rattle.field_boxes.specs.Ports.{ArePorts}
 use Rattle.field_boxes.specs.Rules.{rule_of}
 use Rattle.field_boxes.specs.declared.prefix.Prefix.{Prefix}
 use Rattle.field_boxes.specs.declared.rule.Rule as code
@@ -39,20 +40,25 @@ crossed_list values = crossed_below values ++ everywhere 2 ∷ []
 abbrev pub IsNetwork : Interval → Type 0
 IsNetwork i = (p : Prefix) × FitsWidth 32 p × (16 ≤ p.len) × (i ≡ prefix_interval 32 p)
 
--- a rule from a network to a network and one port, by TCP or UDP, that denies or accepts
-pub record IsAccess (r : Rule ℕ) : Type 0 where
+-- one port, or with unions any set of ports
+abbrev pub HasPorts : Bool → List Interval → Type 0
+HasPorts false set = (port : ℕ) × (port < 65536) × (set ≡ alone port ∷ [])
+HasPorts true set = ArePorts set
+
+-- a rule from a network to a network and its ports, by TCP or UDP, that denies or accepts
+pub record IsAccess (unions : Bool) (r : Rule ℕ) : Type 0 where
   pub source : Interval
   pub destination : Interval
-  pub port : ℕ
+  pub ports : List Interval
   pub protocol : ℕ
   pub from_network : IsNetwork source
   pub to_network : IsNetwork destination
-  pub ports : port < 65536
+  pub some_ports : HasPorts unions ports
   pub protocols : (protocol ≡ 6) ⊎ (protocol ≡ 17)
   pub decides : (r.decision ≡ 1) ⊎ (r.decision ≡ 2)
-  pub sets : r.sets ≡ (source ∷ []) ∷ (destination ∷ []) ∷ (whole 2 ∷ []) ∷ (alone port ∷ []) ∷ (alone protocol ∷ []) ∷ []
+  pub sets : r.sets ≡ (source ∷ []) ∷ (destination ∷ []) ∷ (whole 2 ∷ []) ∷ ports ∷ (alone protocol ∷ []) ∷ []
 
 -- so many access rules, of which the last is open
-abbrev pub IsAccessList : ℕ → List code.Rule → Type 0
-IsAccessList count rules = (front : List code.Rule) × (last : code.Rule) × (rules ≡ front ++ last ∷ []) × (length front ≡ count - 1) ×
-    All (λ r. IsAccess (rule_of r)) front × (rule_of last ≡ everywhere 2)
+abbrev pub IsAccessList : Bool → ℕ → List code.Rule → Type 0
+IsAccessList unions count rules = (front : List code.Rule) × (last : code.Rule) × (rules ≡ front ++ last ∷ []) × (length front ≡ count - 1) ×
+    All (λ r. IsAccess unions (rule_of r)) front × (rule_of last ≡ everywhere 2)

@@ -1,13 +1,14 @@
-//! A generated access list: networks, a port and a protocol in each rule.
-ghost use Rattle.std.specs.Prelude.{◌≤◌, IfOk};
+//! A generated access list: networks, one or more ports and a protocol in each rule.
+ghost use Rattle.std.specs.Prelude.{◌≡◌, ◌≤◌, ◌<◌, ◌∷◌, [], IfOk};
 ghost use Rattle.field_boxes.specs.Prefix.{FitsWidth};
 ghost use Rattle.field_boxes.specs.Rules.{rule_of};
-ghost use Rattle.razor_bench.specs.RuleLists.{IsAccess, IsAccessList};
+ghost use Rattle.field_boxes.specs.Ports.{ArePorts};
+ghost use Rattle.razor_bench.specs.RuleLists.{IsAccess, IsAccessList, HasPorts};
 
 use crate::numbers::Numbers;
-use crate::rules::{only, open, open_rule};
+use crate::rules::{add, only, open, open_rule, ports};
 use anyhow::Result;
-use field_boxes::{Prefix, Rule};
+use field_boxes::{Ports, Prefix, Rule, Span};
 use std::alloc::Global;
 
 const ACCEPT: u32 = 2;
@@ -17,31 +18,73 @@ const ADDRESSES: u64 = 1 << 32;
 const PROTOCOLS: [u32; 2] = [6, 17];
 
 /// So many rules, of which the last is open and accepts; for each count the same.
-pub fn access(alloc: Global, count: u32) -> Result<Vec<Rule>>
-    ensures { IfOk result (λ rules. IsAccessList count rules.items) }
+///
+/// With unions, a quarter of the rules have two or three ranges of destination ports.
+pub fn access(alloc: Global, count: u32, unions: bool) -> Result<Vec<Rule>>
+    ensures { IfOk result (λ rules. IsAccessList unions count rules.items) }
 {
     let mut numbers = Numbers::new(u64::from(count));
     let mut rules = Vec::with_capacity(alloc, count as usize)?;
     for _place in 0..count.saturating_sub(1) {
-        rules.push(access_rule(&mut numbers))?;
+        add(&mut rules, access_rule(&mut numbers, unions))?;
     }
-    rules.push(open_rule(ACCEPT))?;
+    add(&mut rules, open_rule(ACCEPT))?;
     Ok(rules)
 }
 
-/// The next rule: from a network to a network and one port, by TCP or UDP, with a decision of 1 or 2.
-fn access_rule(numbers: &mut Numbers) -> Rule
-    ensures { IsAccess (rule_of result) }
+/// The next rule: from a network to a network and some ports, by TCP or UDP, with a decision of 1 or 2.
+fn access_rule(numbers: &mut Numbers, unions: bool) -> Rule
+    ensures { IsAccess unions (rule_of result) }
 {
     let source = network(numbers).span(32);
     let destination = network(numbers).span(32);
-    let port = only(numbers.below(65_536));
+    let chosen = chosen_ports(numbers, unions);
     let protocol = only(PROTOCOLS[numbers.below(2) as usize]);
     let decision = numbers.below(2) + 1;
     Rule {
-        spans: [source, destination, open(2), port, protocol],
+        source,
+        destination,
+        ports: [ports(open(2)), chosen],
+        protocol,
         decision,
     }
+}
+
+/// One port, or with unions in a quarter of the cases two or three ranges.
+fn chosen_ports(numbers: &mut Numbers, unions: bool) -> Ports
+    ensures { HasPorts unions result }
+{
+    if unions && numbers.below(4) == 0 {
+        ranges(numbers)
+    } else {
+        ports(only(numbers.below(65_536)))
+    }
+}
+
+/// Two or three ranges of ports.
+fn ranges(numbers: &mut Numbers) -> Ports
+    ensures { ArePorts result }
+{
+    let first = range(numbers);
+    let second = range(numbers);
+    let third = if numbers.below(2) == 0 {
+        second
+    } else {
+        range(numbers)
+    };
+    match Ports::of(&[first, second, third]) {
+        Some(ports) => ports,
+        None => unreachable!(),
+    }
+}
+
+/// The next range of at most sixteen ports.
+fn range(numbers: &mut Numbers) -> Span
+    ensures { result.hi ≤ 65535 }
+{
+    let lo = numbers.below(65_536);
+    let hi = (lo + numbers.below(16)).min(65_535);
+    Span { lo, hi }
 }
 
 /// The next network of at most 65,536 addresses.

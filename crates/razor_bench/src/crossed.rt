@@ -3,7 +3,7 @@ ghost use Rattle.std.specs.Prelude.{◌≡◌, ◌≤◌, ◌<◌, ◌++◌, map
 ghost use Rattle.field_boxes.specs.Rules.{rule_of};
 ghost use Rattle.razor_bench.specs.RuleLists.{crossed_at, crossed_list};
 
-use crate::rules::{open_rule, value_rule};
+use crate::rules::{add, open_rule, value_rule};
 use anyhow::{Result, ensure};
 use field_boxes::Rule;
 use std::alloc::Global;
@@ -27,7 +27,7 @@ pub fn crossed(alloc: Global, values: u32) -> Result<Vec<Rule>>
     for place in 0..values {
         deny(&mut rules, 2 * place)?;
     }
-    rules.push(open_rule(ACCEPT))?;
+    add(&mut rules, open_rule(ACCEPT))?;
     Ok(rules)
 }
 

@@ -11,8 +11,10 @@ use std::alloc::Global;
 /// A generated rule list.
 #[derive(Clone, Copy, Debug, PartialEq, Eq)]
 pub enum RuleList {
-    /// So many rules of an access list.
+    /// So many rules of an access list with one port in each.
     Access(u32),
+    /// The same, but for a quarter of the rules with two or three ranges of ports.
+    Unions(u32),
     /// Four rules for each of so many values, and one more.
     Crossed(u32),
 }
@@ -23,7 +25,8 @@ impl RuleList {
         ensures { IfOk result (λ rules. AreRules self rules.items) }
     {
         match self {
-            RuleList::Access(count) => access(alloc, count),
+            RuleList::Access(count) => access(alloc, count, false),
+            RuleList::Unions(count) => access(alloc, count, true),
             RuleList::Crossed(values) => crossed(alloc, values),
         }
     }

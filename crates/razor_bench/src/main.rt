@@ -6,6 +6,7 @@
 //! razor_bench nodes 1000000
 //! razor_bench minimise 100000
 //! razor_bench build 1000 20
+//! razor_bench unions 1000 20
 //! razor_bench crossed 256 20
 //! ```
 #![tactic(auto)]

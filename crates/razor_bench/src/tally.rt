@@ -4,7 +4,7 @@ ghost use Rattle.node_store.specs.Diagram.{level_of};
 
 use anyhow::{Context, Result, anyhow};
 use fdd_build::build;
-use field_boxes::{Header, Rule};
+use field_boxes::{Header, Rule, Span};
 use node_store::{NodeId, Store};
 use std::alloc::Global;
 
@@ -69,10 +69,21 @@ fn checksum(store: &Store, root: NodeId, rules: &[Rule]) -> Result<u64>
 {
     let mut checksum = 0u64;
     for rule in rules {
-        checksum = with_answer(store, root, rule.spans.map(|span| span.lo), checksum)?;
-        checksum = with_answer(store, root, rule.spans.map(|span| span.hi), checksum)?;
+        let sets = rule.sets();
+        checksum = with_answer(store, root, sets.map(least), checksum)?;
+        checksum = with_answer(store, root, sets.map(greatest), checksum)?;
     }
     Ok(checksum)
+}
+
+/// The least value of the set, or 0 where it has none.
+pub fn least(set: &[Span]) -> u32 {
+    set.first().map_or(0, |span| span.lo)
+}
+
+/// The greatest value of the set, or 0 where it has none.
+pub fn greatest(set: &[Span]) -> u32 {
+    set.last().map_or(0, |span| span.hi)
 }
 
 /// The checksum with one more answer.

@@ -5,7 +5,7 @@ use crate::minimise::cheapest;
 use crate::nodes::pass;
 use crate::numbers::Numbers;
 use crate::plan::{Plan, Protocols};
-use crate::tally::Tally;
+use crate::tally::{Tally, greatest, least};
 use crate::work::{Work, number};
 use fdd_build::build;
 use node_store::Store;
@@ -18,6 +18,11 @@ fn words_name_the_work(rt: HostRuntime) -> Result<(), Fail> {
     let list = RuleList::Access(500);
     assert_eq!(rt;
         Work::of("build", 500, 20)?,
+        Work::Build { list, times: 20 }
+    );
+    let list = RuleList::Unions(500);
+    assert_eq!(rt;
+        Work::of("unions", 500, 20)?,
         Work::Build { list, times: 20 }
     );
     let list = RuleList::Crossed(256);
@@ -98,8 +103,8 @@ fn access_lists_follow_from_the_numbers(rt: HostRuntime) -> Result<(), Fail> {
     ];
     assert_eq!(rt; rules.len(), expected.len());
     for (rule, (lo, hi, decision)) in rules.iter().zip(expected) {
-        assert_eq!(rt; rule.spans.map(|span| span.lo), lo);
-        assert_eq!(rt; rule.spans.map(|span| span.hi), hi);
+        assert_eq!(rt; rule.sets().map(least), lo);
+        assert_eq!(rt; rule.sets().map(greatest), hi);
         assert_eq!(rt; rule.decision, decision);
     }
     Ok(())
@@ -131,12 +136,27 @@ fn rules_of_one_decision_may_change_places(rt: HostRuntime) -> Result<(), Fail> 
 #[test]
 fn plain_rust_tells_the_same(rt: HostRuntime) -> Result<(), Fail> {
     // As `bench/plain/build.rs` prints them.
-    let rules = RuleList::Access(100).rules(rt.alloc())?;
-    let expected = Tally {
-        nodes: 636,
-        reached: 132,
-        checksum: 5_936_533_790_419_706_848,
-    };
-    assert_eq!(rt; Tally::of(rt.alloc(), &rules)?, expected);
+    let expected = [
+        (
+            RuleList::Access(100),
+            Tally {
+                nodes: 636,
+                reached: 132,
+                checksum: 5_936_533_790_419_706_848,
+            },
+        ),
+        (
+            RuleList::Unions(100),
+            Tally {
+                nodes: 682,
+                reached: 177,
+                checksum: 14_287_911_977_910_235_648,
+            },
+        ),
+    ];
+    for (list, tally) in expected {
+        let rules = list.rules(rt.alloc())?;
+        assert_eq!(rt; Tally::of(rt.alloc(), &rules)?, tally, "of {list:?}");
+    }
     Ok(())
 }

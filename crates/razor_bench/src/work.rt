@@ -26,6 +26,10 @@ impl Work {
                 list: RuleList::Access(size),
                 times,
             }),
+            "unions" => Ok(Work::Build {
+                list: RuleList::Unions(size),
+                times,
+            }),
             "crossed" => Ok(Work::Build {
                 list: RuleList::Crossed(size),
                 times,
@@ -39,7 +43,7 @@ impl Work {
         let mut words = env::args(rt)?.skip(1);
         let name = words
             .next()
-            .context("nodes, minimise, build or crossed, and a size")?;
+            .context("nodes, minimise, build, unions or crossed, and a size")?;
         let size = words.next().context("a size")?;
         let times = match words.next() {
             Some(word) => number(word.as_str())?,

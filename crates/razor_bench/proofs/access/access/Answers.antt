@@ -7,9 +7,9 @@ use Rattle.razor_bench.proofs.access.access.Goals as goal
 
 pub loop-place-preserved : goal.loop-place-preserved
 loop-place-preserved c = record {
-  rules = rw c.in_ok-push.ensures.items (All-push (λ (r : Rule). IsAccess (rule_of r)) _ _ c.loop-place.invariant.rules c.access_rule.ensures);
-  count = rw (c.in_ok-push.ensures.items, length-append) (omega (arith, c.loop-place.invariant.count));
+  rules = rw c.in_ok-add.ensures (All-push (λ (r : Rule). IsAccess c.args.unions (rule_of r)) _ _ c.loop-place.invariant.rules c.access_rule.ensures);
+  count = rw (c.in_ok-add.ensures, length-append) (omega (arith, c.loop-place.invariant.count));
 }
 
 pub returns : goal.returns
-returns c = (c.loop-place.rules.items, c.open_rule.result, c.in_ok-push-2.ensures.items, omega arith, c.loop-place.invariant.rules, c.open_rule.ensures)
+returns c = (c.loop-place.rules.items, c.open_rule.result, c.in_ok-add-2.ensures, omega arith, c.loop-place.invariant.rules, c.open_rule.ensures)

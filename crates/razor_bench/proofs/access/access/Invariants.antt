@@ -5,6 +5,6 @@ use Rattle.razor_bench.proofs.access.access.Given as goal
 
 abbrev pub invariant-loop-place : goal.invariant-loop-place
 invariant-loop-place l = record {
-  rules : All (λ r. IsAccess (rule_of r)) l.rules.items;
+  rules : All (λ r. IsAccess l.unions (rule_of r)) l.rules.items;
   count : length l.rules.items ≡ l._place;
 }
