@@ -1,5 +1,5 @@
 -- What is kept of the ranges of a port column says what they come to.
-use Rattle.std.proofs.Common.{◌≡◌, ◌∷◌, ℕ, ◌<◌, ◌≤◌, List, Bool, true, false, [], ap, refl, sym, ◌∙◌, arith, min, max, nat_lt, length, take}
+use Rattle.std.proofs.Common.{◌≡◌, ◌∷◌, ℕ, ◌<◌, ◌≤◌, List, Bool, true, false, cond, [], ap, refl, sym, subst, ◌∙◌, arith, min, max, nat_lt, length, take}
 use Rattle.std.specs.Prelude.{◌||◌, ◌&&◌, not, nat_le, map, Ok, Err}
 use Rattle.std.proofs.lemmas.Bool.{ltb-false, lt-ltb, le-ltb, le-leb, or_parts, not-true, not-false}
 use Rattle.std.proofs.lemmas.Bool.Decides.{nat_tests}
@@ -131,3 +131,21 @@ ranges_united ranges r ports sums some few all order values unique =
     let are = are_ranges ranges above ordered in
     let same = unique (union_of-rises ranges are) (λ v. values v ∙ ap (union_holds v) (sums.spans fewer ∙ all_kept ranges are) ∙ sym (union_of-values v ranges are)) in
     rw (e, above, ordered, same) refl
+
+-- the ports that ranges come to
+abbrev pub HasPortsOf : List Interval → List Interval → Type 0
+HasPortsOf ranges set = RiseApart 0 65535 set × ((v : ℕ) → union_holds v set ≡ union_holds v ranges)
+
+ports_by : (ranges set : List Interval) (many above order : Bool) → list_any is_above ranges ≡ above → list_any is_reversed ranges ≡ order →
+    cond many (Err TooManyRanges) (cond above (Err PortRange) (cond order (Err PortOrder) (Ok (union_of ranges)))) ≡ Ok set → HasPortsOf ranges set
+ports_by ranges set true above order p q e = absurd (cc)
+ports_by ranges set false true order p q e = absurd (cc)
+ports_by ranges set false false true p q e = absurd (cc)
+ports_by ranges set false false false p q e =
+    let are = are_ranges ranges p q in
+    let same : union_of ranges ≡ set = cc in
+    subst (HasPortsOf ranges) same (union_of-rises ranges are, λ v. union_of-values v ranges are)
+
+pub ports_are_united : (ranges set : List Interval) → ports_of ranges ≡ Ok set → HasPortsOf ranges set
+unfolding ports_of
+ports_are_united ranges set e = ports_by ranges set (nat_lt 16 (length ranges)) (list_any is_above ranges) (list_any is_reversed ranges) refl refl e

@@ -1,6 +1,8 @@
 //! Laws of the definitions, for whoever relies on them. The functions do nothing.
 ghost use Rattle.std.specs.Prelude.{◌≡◌, ◌≤◌, ℕ, List, All, Ok, length, map};
+ghost use Rattle.field_boxes.specs.Classifier.{Interval, union_holds};
 ghost use Rattle.field_boxes.specs.NamedRules.{named_rules};
+ghost use Rattle.field_boxes.specs.Unions.{RiseApart};
 ghost use Rattle.field_boxes.specs.declared.rule.Rule.{Rule};
 ghost use Rattle.filter_reader.specs.FilterList.{list_of};
 ghost use Rattle.filter_reader.specs.FilterRules.{IsFilterRule};
@@ -8,7 +10,14 @@ ghost use Rattle.filter_reader.specs.FirstSeen.{first_seen};
 ghost use Rattle.filter_reader.specs.ListText.{list_text};
 ghost use Rattle.filter_reader.specs.Lists.{filter_list};
 ghost use Rattle.filter_reader.specs.OwnNames.{HaveNames};
+ghost use Rattle.filter_reader.specs.Ports.{ports_of};
 ghost use Rattle.filter_reader.specs.declared.list.RuleList.{RuleList};
+
+/// The ports that ranges come to are those in one of the ranges, as intervals between which ports are
+/// missing.
+pub fn ports_are_those_of_the_ranges()
+    ensures { (ranges set : List Interval) → ports_of ranges ≡ Ok set → RiseApart 0 65535 set × ((v : ℕ) → union_holds v set ≡ union_holds v ranges) }
+{}
 
 /// The text of rules spells the same sets and the same names, and no flags, where each rule is named by a
 /// decision word or by its own number.

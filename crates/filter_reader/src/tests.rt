@@ -10,10 +10,10 @@ use std::test::Fail;
 /// One destination port and one protocol, flags, a tab at the end, and no decision word.
 const FLAGGED: &[u8] = b"@10.0.0.0/8\t0.0.0.0/0\t0 : 65535\t80 : 80\t0x06/0xFF\t0x0000/0x0200\t";
 
-/// A list in the form of the ClassBench tools, with comments, blanks at the ends, and line ends of two
-/// bytes.
+/// The list `examples/tools.list`, in the form of the ClassBench tools: comments, flags, blanks at the ends,
+/// and line ends of two bytes.
 const TOOL_LIST: &[u8] =
-    b"# four filters\r\n@10.1.0.0/16\t192.168.1.10/32\t0 : 65535\t443 : 443\t0x06/0xFF\t0x0000/0x0200\t\r\n@10.1.0.0/16\t192.168.1.10/32\t0 : 65535\t80 : 80\t0x06/0xFF\t0x1000/0x1000\t\r\n  \t\r\n@0.0.0.0/0\t192.168.1.53/32\t1024 : 65535\t53 : 53\t0x11/0xFF\t0x0000/0x0000\t\r\n@0.0.0.0/0 0.0.0.0/0 0 : 65535 0 : 65535 0x00/0x00 0x0000/0x0000 \r\n";
+    b"# A filter list in the form in which the tools of ClassBench (Taylor and Turner) write one:\r\n# tabs between the columns, a flags column, and blanks at the ends of lines, which end with CR LF.\r\n@10.1.0.0/16\t192.168.1.10/32\t0 : 65535\t443 : 443\t0x06/0xFF\t0x0000/0x0200\t\r\n@10.1.0.0/16\t192.168.1.10/32\t0 : 65535\t80 : 80\t0x06/0xFF\t0x0000/0x0200\t\r\n\r\n# Name servers answer from port 53 to any port that a client may have.\r\n@192.168.1.53/32\t0.0.0.0/0\t53 : 53\t1024 : 65535\t0x11/0xFF\t0x0000/0x0000\t\r\n@10.2.7.9/24\t192.168.1.0/24\t1024 : 65535\t22 : 22\t0x06/0xFF\t0x1000/0x1000\t \r\n\t\r\n@0.0.0.0/0\t192.168.0.0/16\t0 : 65535\t0 : 65535\t0x01/0xFF\t0x0000/0x0000\t\r\n@0.0.0.0/0\t0.0.0.0/0\t0 : 65535\t0 : 65535\t0x00/0x00\t0x0000/0x0000\t\r\n";
 
 /// Two names, three ranges that become two, two ranges that become one, and numbers with leading zeros.
 const NAMED: &[u8] =
@@ -56,10 +56,10 @@ fn reads_the_form_of_the_tools(rt: HostRuntime) -> Result<(), Fail> {
     let Ok(list) = read_list(rt.alloc(), TOOL_LIST) else {
         panic!(rt);
     };
-    assert!(rt; list.rules.len() == 4);
-    assert!(rt; list.names.count() == 4);
-    assert!(rt; list.names.number("#4") == Some(4));
-    assert!(rt; list.flagged == 2);
+    assert!(rt; list.rules.len() == 6);
+    assert!(rt; list.names.count() == 6);
+    assert!(rt; list.names.number("#6") == Some(6));
+    assert!(rt; list.flagged == 3);
     Ok(())
 }
 
