@@ -1,28 +1,29 @@
--- What the words of the command line spell.
-use Rattle.std.specs.Prelude.{ℕ, Bool, true, not, ◌&&◌, ◌==◌, List, [], ◌∷◌, Option, Some, None, if◌then◌else◌}
-use Rattle.std.specs.Str.{bytes_eq}
+-- The commands, and which one the words of the command line spell.
+use Rattle.std.specs.Prelude.{ℕ, List, [], ◌∷◌, Option, Some, None, option_and_then, unwrap_or}
+use Rattle.command_words.specs.declared.form.CommandName.{CommandName}
+use Rattle.command_words.specs.declared.form.CommandName.TheVariants as names
+use Rattle.command_words.specs.Built.{built_forms}
+use Rattle.command_words.specs.Commands as words
 
--- a command, with its file words
+-- the greatest number of entries, and the width of a slot
+pub record Sizes : Type 0 where
+  pub limit : ℕ
+  pub slot : ℕ
+
+-- a command, with its numbers and file words
 pub data Command : Type 0 where
-  Expand : List ℕ → Command
+  Expand : Sizes → List ℕ → Command
 
--- '-' alone, or a word that doesn't begin with '-'
-abbrev pub is_file_word : List ℕ → Bool
-is_file_word [] = true
-is_file_word (b ∷ []) = true
-is_file_word (b ∷ c ∷ word) = not (b == 45)
+-- the sizes of a table where these options are given or left out
+abbrev pub sizes_given : Option ℕ → Option ℕ → Sizes
+sizes_given limit slot = record { limit = unwrap_or limit 262144; slot = unwrap_or slot 144 }
 
--- the name of the command that expands a list: "expand"
-abbrev pub expand_name : List ℕ
-expand_name = 101 ∷ 120 ∷ 112 ∷ 97 ∷ 110 ∷ 100 ∷ []
+-- a command by its name, its sizes and its file words
+abbrev pub command_named : CommandName → Sizes → List (List ℕ) → Option Command
+command_named names.Expand sizes [] = None
+command_named names.Expand sizes (list ∷ []) = Some (Expand sizes list)
+command_named names.Expand sizes (list ∷ other ∷ files) = None
 
 -- the command that the words spell, or none
 abbrev pub command_of : List (List ℕ) → Option Command
-command_of [] = None
-command_of (name ∷ []) = None
-command_of (name ∷ file ∷ []) = if bytes_eq name expand_name && is_file_word file then Some (Expand file) else None
-command_of (name ∷ file ∷ more ∷ words) = None
-
--- the file words of a command, in the order in which the files are read
-abbrev pub inputs : Command → List (List ℕ)
-inputs (Expand list) = list ∷ []
+command_of texts = option_and_then (λ spelled. command_named spelled.command (sizes_given spelled.limit spelled.slot) spelled.files) (words.command_of built_forms texts)

@@ -1,7 +1,11 @@
 -- The commands of the code, without where their words lie.
 use Rattle.razor_core.specs.declared.command.Command as code
 use Rattle.razor_core.specs.declared.command.Command.TheVariants as code_variants
-use Rattle.razor_core.specs.Command.{Command, Expand}
+use Rattle.razor_core.specs.declared.sizes.Sizes as code_sizes
+use Rattle.razor_core.specs.Command.{Command, Sizes, Expand}
+
+abbrev pub sizes_of : code_sizes.Sizes → Sizes
+sizes_of s = record { limit = s.limit; slot = s.slot }
 
 abbrev pub spelled : code.Command → Command
-spelled (code_variants.Expand list) = Expand list.now
+spelled (code_variants.Expand sizes list) = Expand (sizes_of sizes) list.now

@@ -1,54 +1,92 @@
 -- How a command ends, and what stands then.
-use Rattle.std.specs.Prelude.{◌≡◌, ℕ, List, length, Ok, Err}
+use Rattle.std.specs.Prelude.{◌≡◌, ℕ, ◌⊎◌, Bool, true, false, List, [], ◌∷◌, Some, Ok}
 use Rattle.std.specs.Io.KnownBytes.{Appends, Keeps}
 use Rattle.razor_base.specs.Faults.{Rose}
 use Rattle.razor_base.specs.Output.{AppendsFront}
-use Rattle.field_boxes.specs.Classifier.{Rule}
 use Rattle.razor_core.specs.declared.ending.Ending.{Ending}
-use Rattle.razor_core.specs.declared.ending.Ending.TheVariants.{Done, BadLine as Bad, TooLong, ReadFault, WriteFault, Memory}
+use Rattle.razor_core.specs.declared.ending.Ending.TheVariants.{Done, No, BadLine as Bad, TooLong, TooMany, ReadFault, WriteFault, Memory}
+use Rattle.razor_core.specs.declared.ending.Summary.{Summary}
+use Rattle.razor_core.specs.declared.ending.Summary.TheVariants.{Nothing, Rules}
+use Rattle.razor_core.specs.declared.making.CompileError.{CompileError}
+use Rattle.razor_core.specs.declared.making.CompileError.TheVariants as errors
 use Rattle.razor_core.specs.Command.{Command}
+use Rattle.razor_core.specs.Inputs.{Input, Value, inputs}
 use Rattle.razor_core.specs.Outside.{Outside, Tells, IsReadThrough}
-use Rattle.razor_core.specs.Turns.{Stop, bad_line, too_long, most_bytes, turns_of}
-use Rattle.razor_core.specs.Expansion.{Gives}
-use Rattle.razor_core.specs.Messages.{summary_line, bad_line_line, too_long_line, read_fault_line, write_fault_line, memory_line}
+use Rattle.razor_core.specs.Turns.{Pass, IsStopped, bad_line, too_long, too_many, turn}
+use Rattle.razor_core.specs.Outcome.{Outcome, Gives}
+use Rattle.razor_core.specs.Messages.{rules_line, bad_line_line, too_long_line, too_many_line, read_fault_line, write_fault_line, memory_line}
+
+-- all turns passed, all that the command defines was written, and every input was read to its end
+pub record IsDone (command : Command) (before after : Outside) (answer : Bool) (line : List ℕ) : Type 0 where
+  pub values : List Value
+  pub outcome : Outcome
+  pub pass : Pass command before values
+  pub gives : Gives command values outcome
+  pub answered : outcome.yes ≡ answer
+  pub lined : outcome.line ≡ line
+  pub written : Appends before.written after.written outcome.text
+  pub read : IsReadThrough after command
+
+-- all turns passed, and a front of what the command defines was written
+pub record IsCutOff (command : Command) (before after : Outside) : Type 0 where
+  pub values : List Value
+  pub outcome : Outcome
+  pub pass : Pass command before values
+  pub gives : Gives command values outcome
+  pub written : AppendsFront before.written after.written outcome.text
+
+-- the turn of the input passes, where the desk tells its bytes
+abbrev pub PassesTurn : Outside → Input → Type 0
+PassesTurn before input = (text : List ℕ) → before.remaining input.name ≡ Some text → (value : Value) × (turn input text ≡ Ok value)
+
+-- the file is the first of these inputs, or one after inputs whose turns pass, and its count of faults rose
+abbrev pub FailsToRead : Outside → Outside → List ℕ → List Input → Type 0
+FailsToRead before after file [] = ⊥
+FailsToRead before after file (input ∷ others) =
+    ((file ≡ input.name) × Rose (before.read_faults file) (after.read_faults file)) ⊎ (PassesTurn before input × FailsToRead before after file others)
 
 abbrev pub status_of : Ending → ℕ
-status_of (Done rules) = 0
-status_of (Bad line reason) = 3
-status_of TooLong = 4
-status_of ReadFault = 5
+status_of (Done summary) = 0
+status_of No = 1
+status_of (Bad file line reason) = 3
+status_of (TooLong file limit) = 4
+status_of (TooMany needed limit) = 4
+status_of (ReadFault file) = 5
 status_of WriteFault = 6
 status_of Memory = 7
 
--- the line of an ending of a command with one input
-abbrev pub ending_line : List ℕ → Ending → List ℕ
-ending_line file (Done rules) = summary_line rules
-ending_line file (Bad line reason) = bad_line_line file line reason
-ending_line file TooLong = too_long_line file most_bytes
-ending_line file ReadFault = read_fault_line file
-ending_line file WriteFault = write_fault_line
-ending_line file Memory = memory_line
+abbrev pub summary_text : Summary → List ℕ
+summary_text Nothing = []
+summary_text (Rules rules flagged) = rules_line rules flagged
 
--- all turns passed, and all that the command defines was written
-abbrev pub IsDone : Command → Outside → Outside → ℕ → Type 0
-IsDone command before after count =
-    (rules : List (Rule (List ℕ))) × (turns_of command before ≡ Ok rules) × (count ≡ length rules)
-    × (text : List ℕ) × Gives command rules text × Appends before.written after.written text × IsReadThrough after command
+-- the line of an ending
+abbrev pub ending_line : Ending → List ℕ
+ending_line (Done summary) = summary_text summary
+ending_line No = []
+ending_line (Bad file line reason) = bad_line_line file.now line reason
+ending_line (TooLong file limit) = too_long_line file.now limit
+ending_line (TooMany needed limit) = too_many_line needed limit
+ending_line (ReadFault file) = read_fault_line file.now
+ending_line WriteFault = write_fault_line
+ending_line Memory = memory_line
 
--- all turns passed, and a front of what the command defines was written before a write failed
-abbrev pub IsCutOff : Command → Outside → Outside → Type 0
-IsCutOff command before after =
-    (rules : List (Rule (List ℕ))) × (turns_of command before ≡ Ok rules)
-    × (text : List ℕ) × Gives command rules text × AppendsFront before.written after.written text
+-- nothing was written, and where the desk tells, the turns are ended by this
+pub record Stops (command : Command) (before after : Outside) (Stopped : Type 0) : Type 0 where
+  pub unchanged : Keeps before.written after.written
+  pub stopped : Tells before command → Stopped
 
-abbrev pub IsStopped : Command → Outside → Stop → Type 0
-IsStopped command before stop = turns_of command before ≡ Err stop
+-- what stands when a command ends so
+abbrev pub Ends : Command → Outside → Outside → Ending → Type 0
+Ends command before after (Done summary) = Tells before command → IsDone command before after true (summary_text summary)
+Ends command before after No = Tells before command → IsDone command before after false []
+Ends command before after (Bad file line reason) = Stops command before after (IsStopped command before (bad_line file.now (record { line = line; reason = reason })))
+Ends command before after (TooLong file limit) = Stops command before after (IsStopped command before (too_long file.now limit))
+Ends command before after (TooMany needed limit) = Stops command before after (IsStopped command before (too_many needed limit))
+Ends command before after (ReadFault file) = Keeps before.written after.written × FailsToRead before after file.now (inputs command)
+Ends command before after WriteFault = Rose before.write_faults after.write_faults × (Tells before command → IsCutOff command before after)
+Ends command before after Memory = Keeps before.written after.written
 
--- what stands when a command with one input ends so
-abbrev pub Ends : Command → List ℕ → Outside → Outside → Ending → Type 0
-Ends command file before after (Done rules) = Tells before command → IsDone command before after rules
-Ends command file before after (Bad line reason) = Keeps before.written after.written × (Tells before command → IsStopped command before (bad_line file (record { line = line; reason = reason })))
-Ends command file before after TooLong = Keeps before.written after.written × (Tells before command → IsStopped command before (too_long file most_bytes))
-Ends command file before after ReadFault = Keeps before.written after.written × Rose (before.read_faults file) (after.read_faults file)
-Ends command file before after WriteFault = Rose before.write_faults after.write_faults × (Tells before command → IsCutOff command before after)
-Ends command file before after Memory = Keeps before.written after.written
+-- the ending of a command whose table wasn't made for this reason
+abbrev pub IsEndingOf : CompileError → Ending → Type 0
+IsEndingOf errors.Memory ending = ending ≡ Memory
+IsEndingOf (errors.TooMany needed limit) ending = ending ≡ TooMany needed limit

@@ -1,35 +1,36 @@
--- What reading the list of a command comes to.
-use Rattle.std.specs.Prelude.{◌≡◌, ℕ, List, [], Option, Some, IfSome, Ok, Err}
-use Rattle.razor_base.specs.Faults.{Rose}
-use Rattle.field_boxes.specs.Classifier.{Rule}
-use Rattle.razor_core.specs.declared.ending.Ending.{Ending}
-use Rattle.razor_core.specs.declared.ending.Ending.TheVariants.{Done, BadLine as Bad, TooLong, ReadFault, WriteFault, Memory}
-use Rattle.razor_core.specs.declared.list.ListError.{ListError}
-use Rattle.razor_core.specs.declared.list.ListError.TheVariants as errors
-use Rattle.razor_base.specs.declared.read.ReadError.{ReadError}
-use Rattle.razor_base.specs.declared.read.ReadError.TheVariants as reads
-use Rattle.razor_core.specs.Turns.{list_turn, bad_line, too_long, most_bytes}
+-- The inputs of a command, in the order in which they are read, and what their texts come to.
+use Rattle.std.specs.Prelude.{ℕ, List, [], ◌∷◌, Result, Ok, Err}
+use Rattle.filter_reader.specs.FilterList.{FilterList, BadLine, list_of}
+use Rattle.razor_core.specs.Command.{Command, Expand}
 
--- the ending that the error of a list brings
-abbrev pub ending_of : ListError → Ending
-ending_of errors.Memory = Memory
-ending_of (errors.BadLine line reason) = Bad line reason
+-- the kinds of texts that are read whole
+pub data Kind : Type 0 where
+  list_text : Kind
 
--- the ending that a failed reading brings
-abbrev pub ending_of_read : ReadError → Ending
-ending_of_read reads.Fault = ReadFault
-ending_of_read reads.TooLong = TooLong
-ending_of_read reads.Memory = Memory
+-- an input: its file word, and the kind of its text
+pub record Input : Type 0 where
+  pub name : List ℕ
+  pub kind : Kind
 
--- the turn passed with these rules, and the input was read to its end, where the desk tells it
-abbrev pub PassesTurn : List ℕ → Option (List ℕ) → Option (List ℕ) → List (Rule (List ℕ)) → Type 0
-PassesTurn file before after rules = IfSome before (λ text. (list_turn file text ≡ Ok rules) × (after ≡ Some []))
+abbrev pub list_input : List ℕ → Input
+list_input name = record { name = name; kind = list_text }
 
--- the turn was ended so
-abbrev pub EndsTurn : List ℕ → Option (List ℕ) → ℕ → ℕ → Ending → Type 0
-EndsTurn file before faults_before faults_after (Done rules) = ⊥
-EndsTurn file before faults_before faults_after (Bad line reason) = IfSome before (λ text. list_turn file text ≡ Err (bad_line file (record { line = line; reason = reason })))
-EndsTurn file before faults_before faults_after TooLong = IfSome before (λ text. list_turn file text ≡ Err (too_long file most_bytes))
-EndsTurn file before faults_before faults_after ReadFault = Rose faults_before faults_after
-EndsTurn file before faults_before faults_after WriteFault = ⊥
-EndsTurn file before faults_before faults_after Memory = Unit {0}
+-- the inputs of a command
+abbrev pub inputs : Command → List Input
+inputs (Expand sizes list) = list_input list ∷ []
+
+-- the greatest number of bytes of a text
+abbrev pub most_bytes : Kind → ℕ
+most_bytes list_text = 16777216
+
+-- what a text without a bad line comes to
+pub data Value : Type 0 where
+  list_value : FilterList → Value
+
+abbrev pub as_list : Result FilterList BadLine → Result Value BadLine
+as_list (Ok list) = Ok (list_value list)
+as_list (Err bad) = Err bad
+
+-- what a text spells, or its first bad line
+abbrev pub spelled_by : Kind → List ℕ → Result Value BadLine
+spelled_by list_text text = as_list (list_of text)

@@ -1,20 +1,35 @@
 -- The lines on standard error.
 use Rattle.std.specs.Prelude.{ℕ, List, [], ◌∷◌, ◌++◌, codes}
 use Rattle.std.specs.Fmt.{decimal}
-use Rattle.razor_core.specs.declared.reason.Reason.{Reason}
-use Rattle.razor_core.specs.declared.reason.Reason.TheVariants.{TooManyRules, NotBuilt}
-use Rattle.razor_core.specs.Turns.{Stop, bad_line, too_long}
+use Rattle.command_words.specs.Built.{built_forms}
+use Rattle.command_words.specs.Usage.{usage_of}
+use Rattle.filter_reader.specs.declared.reason.Reason.{Reason}
+use Rattle.filter_reader.specs.declared.reason.Reason.TheVariants.{NoAt, Address, Length, PortForm, PortOrder, PortRange, ProtocolForm, ProtocolMask, FlagsForm, DecisionForm, Reserved, Extra, TooManyRules, NotAscii, TooManyRanges}
+use Rattle.razor_core.specs.Turns.{Stop, bad_line, too_long, too_many}
 
 abbrev pub line_end : List ℕ
 line_end = 10 ∷ []
 
 -- the commands that are built
 abbrev pub usage_text : List ℕ
-usage_text = codes "usage: razor COMMAND" ++ line_end ++ codes "  expand LIST" ++ line_end
+usage_text = usage_of built_forms
 
 abbrev pub reason_text : Reason → List ℕ
+reason_text NoAt = codes "no @"
+reason_text Address = codes "address"
+reason_text Length = codes "length"
+reason_text PortForm = codes "port form"
+reason_text PortOrder = codes "port order"
+reason_text PortRange = codes "port range"
+reason_text ProtocolForm = codes "protocol form"
+reason_text ProtocolMask = codes "protocol mask"
+reason_text FlagsForm = codes "flags form"
+reason_text DecisionForm = codes "decision form"
+reason_text Reserved = codes "reserved word"
+reason_text Extra = codes "extra column"
 reason_text TooManyRules = codes "one rule too many"
-reason_text NotBuilt = codes "form not built yet"
+reason_text NotAscii = codes "byte not ASCII"
+reason_text TooManyRanges = codes "too many ranges"
 
 abbrev pub bad_line_line : List ℕ → ℕ → Reason → List ℕ
 bad_line_line file line reason = file ++ codes ": line " ++ decimal line ++ codes ": " ++ reason_text reason ++ line_end
@@ -22,14 +37,18 @@ bad_line_line file line reason = file ++ codes ": line " ++ decimal line ++ code
 abbrev pub too_long_line : List ℕ → ℕ → List ℕ
 too_long_line file limit = file ++ codes ": more than " ++ decimal limit ++ codes " bytes" ++ line_end
 
--- the line of what ends a turn
+abbrev pub too_many_line : ℕ → ℕ → List ℕ
+too_many_line needed limit = decimal needed ++ codes " entries needed, limit " ++ decimal limit ++ line_end
+
+-- the line of what ends the turns
 abbrev pub stop_line : Stop → List ℕ
 stop_line (bad_line file bad) = bad_line_line file bad.line bad.reason
 stop_line (too_long file limit) = too_long_line file limit
+stop_line (too_many needed limit) = too_many_line needed limit
 
--- how many rules were read, and how many of them were flagged: none in a thin list
-abbrev pub summary_line : ℕ → List ℕ
-summary_line rules = codes "rules " ++ decimal rules ++ codes ", flagged 0" ++ line_end
+-- how many rules a list has, and how many of them are flagged
+abbrev pub rules_line : ℕ → ℕ → List ℕ
+rules_line rules flagged = codes "rules " ++ decimal rules ++ codes ", flagged " ++ decimal flagged ++ line_end
 
 abbrev pub read_fault_line : List ℕ → List ℕ
 read_fault_line file = file ++ codes ": read fault" ++ line_end

@@ -1,7 +1,8 @@
 -- What a call sees of the desk and of the output.
-use Rattle.std.specs.Prelude.{◌≡◌, ℕ, List, [], Option, Some, IsSome, unwrap_or}
+use Rattle.std.specs.Prelude.{◌≡◌, ◌≢◌, ℕ, List, [], Option, Some, None, IsSome, unwrap_or}
 use Rattle.std.specs.List.{AllByRecursion}
-use Rattle.razor_core.specs.Command.{Command, inputs}
+use Rattle.razor_core.specs.Command.{Command}
+use Rattle.razor_core.specs.Inputs.{inputs}
 
 -- the bytes left under each name and the bytes written, where they are told, and the counts of faults
 pub record Outside : Type 0 where
@@ -10,16 +11,22 @@ pub record Outside : Type 0 where
   pub written : Option (List ℕ)
   pub write_faults : ℕ
 
-abbrev pub seen : (List ℕ → Option (List ℕ)) → (List ℕ → ℕ) → Option (List ℕ) → ℕ → Outside
-seen remaining read_faults written write_faults = record { remaining = remaining; read_faults = read_faults; written = written; write_faults = write_faults }
+-- what the desk and the output tell
+abbrev pub seen : {D K : Type 0} → (D → List ℕ → Option (List ℕ)) → (D → List ℕ → ℕ) → (K → Option (List ℕ)) → (K → ℕ) → D → K → Outside
+seen remaining read_faults written write_faults desk out = record { remaining = remaining desk; read_faults = read_faults desk; written = written out; write_faults = write_faults out }
 
 -- the desk tells the bytes of each input of the command
 abbrev pub Tells : Outside → Command → Type 0
-Tells outside command = AllByRecursion (λ name. IsSome (outside.remaining name)) (inputs command)
+Tells outside command = AllByRecursion (λ input. IsSome (outside.remaining input.name)) (inputs command)
 
 -- each input of the command was read to its end
 abbrev pub IsReadThrough : Outside → Command → Type 0
-IsReadThrough outside command = AllByRecursion (λ name. outside.remaining name ≡ Some []) (inputs command)
+IsReadThrough outside command = AllByRecursion (λ input. outside.remaining input.name ≡ Some []) (inputs command)
+
+-- the name is that of no input
+abbrev pub IsNoInput : Option Command → List ℕ → Type 0
+IsNoInput None name = Unit {0}
+IsNoInput (Some command) name = AllByRecursion (λ input. name ≢ input.name) (inputs command)
 
 -- the bytes under a name
 abbrev pub bytes_at : Outside → List ℕ → List ℕ

@@ -1,28 +1,21 @@
 -- What the top call promises of each status.
-use Rattle.std.specs.Prelude.{◌≡◌, ℕ, ◌⊎◌, List, Option, Some, None, length, Result, Ok, Err}
-use Rattle.std.specs.List.{Any}
+use Rattle.std.specs.Prelude.{◌≡◌, ◌≢◌, ℕ, ◌⊎◌, true, false, List, [], Option, Some, None}
+use Rattle.std.specs.Io.KnownBytes.{Keeps}
 use Rattle.razor_base.specs.Faults.{Rose}
-use Rattle.field_boxes.specs.Classifier.{Rule}
-use Rattle.razor_core.specs.Command.{Command, inputs}
-use Rattle.razor_core.specs.Outside.{Outside, Tells}
-use Rattle.razor_core.specs.Turns.{Stop, bad_line, too_long, turns_of}
-use Rattle.razor_core.specs.Messages.{usage_text, summary_line, stop_line, read_fault_line, write_fault_line, memory_line}
-
--- some input's count of faults rose
-abbrev pub SomeReadFails : Command → Outside → Outside → Type 0
-SomeReadFails command before after = Any (λ file. Rose (before.read_faults file) (after.read_faults file)) (inputs command)
-
--- the statuses that a command may have by what its turns come to, where reading, writing and memory allow it
-abbrev pub IsStatusOf : Result (List (Rule (List ℕ))) Stop → ℕ → Type 0
-IsStatusOf (Ok rules) status = (status ≡ 0) ⊎ (status ≡ 5) ⊎ (status ≡ 6) ⊎ (status ≡ 7)
-IsStatusOf (Err (bad_line file bad)) status = (status ≡ 3) ⊎ (status ≡ 5) ⊎ (status ≡ 7)
-IsStatusOf (Err (too_long file limit)) status = (status ≡ 4) ⊎ (status ≡ 5) ⊎ (status ≡ 7)
+use Rattle.razor_core.specs.Command.{Command, command_of}
+use Rattle.razor_core.specs.Inputs.{Value, inputs}
+use Rattle.razor_core.specs.Outside.{Outside, Tells, IsNoInput}
+use Rattle.razor_core.specs.Turns.{Stop, bad_line, too_long, too_many, stop_status, Pass, IsStopped}
+use Rattle.razor_core.specs.Ending.{IsDone, IsCutOff, FailsToRead}
+use Rattle.razor_core.specs.Messages.{usage_text, stop_line, read_fault_line, write_fault_line, memory_line}
+use Rattle.filter_reader.specs.FilterList.{BadLine}
 
 -- the line of the status of a command
 pub record IsLineOf (command : Command) (before after : Outside) (status : ℕ) (line : List ℕ) : Type 0 where
-  pub done : status ≡ 0 → Tells before command → (rules : List (Rule (List ℕ))) × (turns_of command before ≡ Ok rules) × (line ≡ summary_line (length rules))
-  pub stopped : (status ≡ 3) ⊎ (status ≡ 4) → Tells before command → (stop : Stop) × (turns_of command before ≡ Err stop) × (line ≡ stop_line stop)
-  pub read_fault : status ≡ 5 → Any (λ file. Rose (before.read_faults file) (after.read_faults file) × (line ≡ read_fault_line file)) (inputs command)
+  pub done : status ≡ 0 → Tells before command → IsDone command before after true line
+  pub answered_no : status ≡ 1 → line ≡ []
+  pub stopped : (status ≡ 3) ⊎ (status ≡ 4) → Tells before command → (stop : Stop) × IsStopped command before stop × (line ≡ stop_line stop)
+  pub read_fault : status ≡ 5 → (file : List ℕ) × FailsToRead before after file (inputs command) × (line ≡ read_fault_line file)
   pub write_fault : status ≡ 6 → line ≡ write_fault_line
   pub memory : status ≡ 7 → line ≡ memory_line
 
@@ -30,3 +23,47 @@ pub record IsLineOf (command : Command) (before after : Outside) (status : ℕ) 
 abbrev pub IsLine : Option Command → Outside → Outside → ℕ → List ℕ → Type 0
 IsLine None before after status line = line ≡ usage_text
 IsLine (Some command) before after status line = IsLineOf command before after status line
+
+-- the status where all turns pass, where reading, writing and memory allow it
+abbrev pub IsStatusOfPass : ℕ → Type 0
+IsStatusOfPass status = (status ≡ 0) ⊎ (status ≡ 1) ⊎ (status ≡ 5) ⊎ (status ≡ 6) ⊎ (status ≡ 7)
+
+-- the status where this ends the turns, where reading and memory allow it
+abbrev pub IsStatusOfStop : Stop → ℕ → Type 0
+IsStatusOfStop stop status = (status ≡ stop_status stop) ⊎ (status ≡ 5) ⊎ (status ≡ 7)
+
+-- the promise for a command
+pub record KeepsPromise (command : Command) (before after : Outside) (status : ℕ) : Type 0 where
+  -- 0: all turns pass, all that the command defines was written, and every input was read to its end
+  pub done : status ≡ 0 → Tells before command → (line : List ℕ) × IsDone command before after true line
+  -- 1: likewise, and the answer is no
+  pub answered_no : status ≡ 1 → Tells before command → IsDone command before after false []
+  -- 3: the first turn that doesn't pass is ended by a bad line
+  pub bad_line : status ≡ 3 → Tells before command → (file : List ℕ) × (bad : BadLine) × IsStopped command before (bad_line file bad)
+  -- 4: it is ended by a byte after the limit, or more entries are needed than the limit
+  pub too_much : status ≡ 4 → Tells before command →
+      ((file : List ℕ) × (limit : ℕ) × IsStopped command before (too_long file limit)) ⊎ ((needed : ℕ) × (limit : ℕ) × IsStopped command before (too_many needed limit))
+  -- 5: the count of faults rose under a file word in front of which all turns pass
+  pub read_fault : status ≡ 5 → (file : List ℕ) × FailsToRead before after file (inputs command)
+  -- 6: the output's count of faults rose, and a front of what 0 would have added was written
+  pub write_fault : status ≡ 6 → Rose before.write_faults after.write_faults
+  pub cut_off : status ≡ 6 → Tells before command → IsCutOff command before after
+  -- no other status than those that the turns allow
+  pub complete : Tells before command → (values : List Value) → Pass command before values → IsStatusOfPass status
+  pub stopped : Tells before command → (stop : Stop) → IsStopped command before stop → IsStatusOfStop stop status
+
+-- the promise of a call with these words
+abbrev pub KeepsPromiseOf : Option Command → Outside → Outside → ℕ → Type 0
+KeepsPromiseOf None before after status = status ≡ 2
+KeepsPromiseOf (Some command) before after status = KeepsPromise command before after status × (status ≢ 2)
+
+-- what the top call promises, where Heard tells what was said on standard error
+pub record Promise (words : List (List ℕ)) (before after : Outside) (Heard : List ℕ → Type 0) (status : ℕ) : Type 0 where
+  -- 2 exactly where the words spell no command; the other statuses are those of the command
+  pub command : KeepsPromiseOf (command_of words) before after status
+  -- nothing was written but with 0, 1 and 6
+  pub unchanged : status ≢ 0 → status ≢ 1 → status ≢ 6 → Keeps before.written after.written
+  -- no input was touched but those that the command names
+  pub untouched : (name : List ℕ) → IsNoInput (command_of words) name → Keeps (before.remaining name) (after.remaining name)
+  -- what was said is the line of the status, or a front of it where the count of faults rose
+  pub message : (line : List ℕ) × IsLine (command_of words) before after status line × Heard line

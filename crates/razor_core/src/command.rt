@@ -1,57 +1,49 @@
-ghost use Rattle.std.specs.Prelude.{◌≡◌, List, ℕ};
+ghost use Rattle.std.specs.Prelude.{◌≡◌, ◌≤◌, List, ℕ, IfSome, map};
 ghost use Rattle.std.specs.Option.{option_map};
-ghost use Rattle.razor_core.specs.Command.{Expand, command_of, expand_name, is_file_word};
-ghost use Rattle.razor_core.specs.Commands.{spelled};
-ghost use Rattle.std.specs.Str.{bytes_eq};
+ghost use Rattle.command_words.specs.Options.{Takes};
+ghost use Rattle.command_words.specs.declared.option.OptionName.TheVariants as options;
+ghost use Rattle.razor_core.specs.Command.{command_named, command_of, sizes_given};
+ghost use Rattle.razor_core.specs.Commands.{sizes_of, spelled};
 
-use crate::words::Words;
+use crate::sizes::Sizes;
+use command_words::{CommandName, Words, built_command};
 
-/// A command with its file words.
+/// A command with its numbers and file words.
 #[derive(Clone, Copy)]
 pub enum Command<'a> {
     /// Writes the direct expansion of the list.
-    Expand { list: &'a str },
+    Expand { sizes: Sizes, list: &'a str },
 }
 
-impl<'a> Command<'a> {
-    /// The file word of the list that is expanded.
-    pub fn list(self) -> &'a str
-        ensures { spelled self.entry ≡ Expand result.now }
-    {
-        match self {
-            Command::Expand { list } => list,
-        }
+/// The sizes of a table where these options are given or left out.
+fn sizes_with(limit: Option<u32>, slot: Option<u32>) -> Sizes
+    requires limit { IfSome limit (Takes options.Limit) }
+    requires slot { IfSome slot (Takes options.Slot) }
+    ensures { sizes_of result ≡ sizes_given limit slot }
+{
+    Sizes {
+        limit: limit.unwrap_or(262_144),
+        slot: slot.unwrap_or(144) as u16,
     }
 }
 
-/// Whether the word names a file: `-` alone, or a word that doesn't begin with `-`.
-fn file_word(word: &str) -> bool
-    ensures { result ≡ is_file_word word.now }
+/// The command of the name, with these sizes and file words.
+fn named<'a>(name: CommandName, sizes: Sizes, files: &[&'a str]) -> Option<Command<'a>>
+    ensures { option_map spelled result ≡ command_named name (sizes_of sizes) (map (λ word. word.now) files.now) }
 {
-    match word.as_bytes() {
-        [b'-', _, ..] => false,
-        _ => true,
+    match name {
+        CommandName::Expand => match files {
+            [list] => Some(Command::Expand { sizes, list }),
+            _ => None,
+        },
     }
-}
-
-/// Whether the word is the name of the command that expands a list.
-fn names_expand(word: &str) -> bool
-    ensures { result ≡ bytes_eq word.now expand_name }
-{
-    word == "expand"
 }
 
 /// The command that the words spell; none where they spell none.
 pub fn spelled_command(words: &Words) -> Option<Command<'_>>
     ensures { option_map spelled result ≡ command_of words.now }
 {
-    let [name, file] = words.texts() else {
-        return None;
-    };
-    let list = file.as_str();
-    if names_expand(name.as_str()) && file_word(list) {
-        Some(Command::Expand { list })
-    } else {
-        None
-    }
+    let spelled = built_command(words)?;
+    let sizes = sizes_with(spelled.limit, spelled.slot);
+    named(spelled.command, sizes, spelled.files())
 }

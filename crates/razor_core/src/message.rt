@@ -2,11 +2,10 @@ ghost use Rattle.std.specs.Prelude.{◌≡◌};
 ghost use Rattle.razor_base.specs.Parts.{parts_text};
 ghost use Rattle.razor_core.specs.Says.{Says};
 ghost use Rattle.razor_core.specs.Messages.{reason_text, usage_text};
-ghost use Rattle.razor_core.specs.Ending.{ending_line};
+ghost use Rattle.razor_core.specs.Ending.{ending_line, summary_text};
 
-use crate::ending::Ending;
-use crate::input::MOST_BYTES;
-use crate::reason::Reason;
+use crate::ending::{Ending, Summary};
+use filter_reader::Reason;
 use razor_base::{Part, Sink, write_parts};
 
 /// Writes the parts as far as the sink lets them.
@@ -20,7 +19,10 @@ fn say<E: Sink>(err: &mut E, parts: &[Part<'_>])
 pub fn say_usage<E: Sink>(err: &mut E)
     ensures { Says E.written E.faults err.old err.new usage_text }
 {
-    say(err, &[Part::Text("usage: razor COMMAND\n  expand LIST\n")])
+    say(
+        err,
+        &[Part::Text("usage: razor COMMAND\n  expand [--limit N] [--slot W] LIST\n")],
+    )
 }
 
 /// What is wrong with a line, in words.
@@ -28,29 +30,35 @@ fn reason_words(reason: Reason) -> &'static str
     ensures { result.now ≡ reason_text reason }
 {
     match reason {
+        Reason::NoAt => "no @",
+        Reason::Address => "address",
+        Reason::Length => "length",
+        Reason::PortForm => "port form",
+        Reason::PortOrder => "port order",
+        Reason::PortRange => "port range",
+        Reason::ProtocolForm => "protocol form",
+        Reason::ProtocolMask => "protocol mask",
+        Reason::FlagsForm => "flags form",
+        Reason::DecisionForm => "decision form",
+        Reason::Reserved => "reserved word",
+        Reason::Extra => "extra column",
         Reason::TooManyRules => "one rule too many",
-        Reason::NotBuilt => "form not built yet",
+        Reason::NotAscii => "byte not ASCII",
+        Reason::TooManyRanges => "too many ranges",
     }
 }
 
-/// Says how the command with this input ended.
-pub fn say_ending<E: Sink>(err: &mut E, file: &str, ending: Ending)
-    ensures { Says E.written E.faults err.old err.new (ending_line file.now ending) }
+/// Says how the command ended.
+pub fn say_ending<E: Sink>(err: &mut E, ending: Ending<'_>)
+    ensures { Says E.written E.faults err.old err.new (ending_line ending.entry) }
 {
-    let file = Part::Text(file);
     match ending {
-        Ending::Done { rules } => say(
+        Ending::Done(summary) => say_summary(err, summary),
+        Ending::No => {}
+        Ending::BadLine { file, line, reason } => say(
             err,
             &[
-                Part::Text("rules "),
-                Part::Number(u128::from(rules)),
-                Part::Text(", flagged 0\n"),
-            ],
-        ),
-        Ending::BadLine { line, reason } => say(
-            err,
-            &[
-                file,
+                Part::Text(file),
                 Part::Text(": line "),
                 Part::Number(u128::from(line)),
                 Part::Text(": "),
@@ -58,17 +66,45 @@ pub fn say_ending<E: Sink>(err: &mut E, file: &str, ending: Ending)
                 Part::Text("\n"),
             ],
         ),
-        Ending::TooLong => say(
+        Ending::TooLong { file, limit } => say(
             err,
             &[
-                file,
+                Part::Text(file),
                 Part::Text(": more than "),
-                Part::Number(u128::from(MOST_BYTES)),
+                Part::Number(u128::from(limit)),
                 Part::Text(" bytes\n"),
             ],
         ),
-        Ending::ReadFault => say(err, &[file, Part::Text(": read fault\n")]),
+        Ending::TooMany { needed, limit } => say(
+            err,
+            &[
+                Part::Number(needed),
+                Part::Text(" entries needed, limit "),
+                Part::Number(u128::from(limit)),
+                Part::Text("\n"),
+            ],
+        ),
+        Ending::ReadFault { file } => say(err, &[Part::Text(file), Part::Text(": read fault\n")]),
         Ending::WriteFault => say(err, &[Part::Text("write fault\n")]),
         Ending::Memory => say(err, &[Part::Text("out of memory\n")]),
+    }
+}
+
+/// Says what a command that is done says of itself.
+fn say_summary<E: Sink>(err: &mut E, summary: Summary)
+    ensures { Says E.written E.faults err.old err.new (summary_text summary) }
+{
+    match summary {
+        Summary::Nothing => {}
+        Summary::Rules { rules, flagged } => say(
+            err,
+            &[
+                Part::Text("rules "),
+                Part::Number(u128::from(rules)),
+                Part::Text(", flagged "),
+                Part::Number(u128::from(flagged)),
+                Part::Text("\n"),
+            ],
+        ),
     }
 }

@@ -1,32 +1,84 @@
+ghost use Rattle.std.specs.Prelude.{◌≡◌, ◌≢◌, ℕ, List, Some, length};
+ghost use Rattle.std.specs.Io.KnownBytes.{Keeps};
 ghost use Rattle.razor_core.specs.Command.{Expand};
-ghost use Rattle.razor_core.specs.Outside.{seen};
-ghost use Rattle.razor_core.specs.Ending.{Ends};
+ghost use Rattle.razor_core.specs.Commands.{sizes_of, spelled};
+ghost use Rattle.razor_core.specs.Outside.{seen, IsNoInput};
+ghost use Rattle.filter_reader.specs.Lists.{filter_list};
+ghost use Rattle.razor_core.specs.Ending.{Ends, IsEndingOf, summary_text};
+ghost use Rattle.razor_core.specs.Messages.{rules_line};
 
-use crate::ending::Ending;
-use crate::expansion::expanded;
+use crate::command::Command;
+use crate::ending::{Ending, Summary};
 use crate::input::take_list;
+use crate::making::{CompileError, expand};
+use crate::sizes::Sizes;
+use filter_reader::RuleList;
 use razor_base::{Desk, Sink};
 use std::alloc::Global;
 use ternary_words::write_table;
 
-/// Writes the direct expansion of the list.
-pub fn expand_list<D: Desk, K: Sink>(alloc: Global, file: &str, desk: &mut D, out: &mut K) -> Ending
-    ensures { Ends (Expand file.now) file.now
-        (seen (D.remaining desk.old) (D.faults desk.old) (K.written out.old) (K.faults out.old))
-        (seen (D.remaining desk.new) (D.faults desk.new) (K.written out.new) (K.faults out.new))
+/// Does what the command says.
+pub fn run<'a, D: Desk, K: Sink>(
+    alloc: Global,
+    command: Command<'a>,
+    desk: &mut D,
+    out: &mut K,
+) -> Ending<'a>
+    ensures ends { Ends (spelled command.entry)
+        (seen D.remaining D.faults K.written K.faults desk.old out.old)
+        (seen D.remaining D.faults K.written K.faults desk.new out.new)
         result }
+    ensures others { (other : List ℕ) → IsNoInput (Some (spelled command.entry)) other → Keeps (D.remaining desk.old other) (D.remaining desk.new other) }
+{
+    match command {
+        Command::Expand { sizes, list } => expand_list(alloc, sizes, list, desk, out),
+    }
+}
+
+/// Writes the direct expansion of the list.
+fn expand_list<'a, D: Desk, K: Sink>(
+    alloc: Global,
+    sizes: Sizes,
+    file: &'a str,
+    desk: &mut D,
+    out: &mut K,
+) -> Ending<'a>
+    ensures ends { Ends (Expand (sizes_of sizes) file.now)
+        (seen D.remaining D.faults K.written K.faults desk.old out.old)
+        (seen D.remaining D.faults K.written K.faults desk.new out.new)
+        result }
+    ensures others { (other : List ℕ) → other ≢ file.now → Keeps (D.remaining desk.old other) (D.remaining desk.new other) }
 {
     let list = match take_list(alloc, file, desk) {
         Ok(list) => list,
         Err(ending) => return ending,
     };
-    let rules = list.rules.len() as u64;
-    let table = match expanded(alloc, list) {
+    let table = match expand(alloc, &list, sizes.limit, sizes.slot) {
         Ok(table) => table,
-        Err(_) => return Ending::Memory,
+        Err(error) => return not_made(error),
     };
     match write_table(&table, out) {
-        Ok(()) => Ending::Done { rules },
+        Ok(()) => Ending::Done(summary(&list)),
         Err(_) => Ending::WriteFault,
+    }
+}
+
+/// The ending of a command whose table wasn't made.
+fn not_made<'a>(error: CompileError) -> Ending<'a>
+    ensures { IsEndingOf error result }
+{
+    match error {
+        CompileError::TooMany { needed, limit } => Ending::TooMany { needed, limit },
+        CompileError::Memory => Ending::Memory,
+    }
+}
+
+/// What is said of a list of which a table was made.
+fn summary(list: &RuleList) -> Summary
+    ensures { summary_text result ≡ rules_line (length (filter_list list.now).rules) list.now.flagged }
+{
+    Summary::Rules {
+        rules: list.rules.len() as u64,
+        flagged: list.flagged,
     }
 }

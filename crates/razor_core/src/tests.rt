@@ -13,6 +13,20 @@ const ROOM: usize = 1 << 20;
 /// The rule of the whole field but for the protocol.
 const ANY_TCP: &[u8] = b"@0.0.0.0/0\t0.0.0.0/0\t0 : 65535\t0 : 65535\t0x06/0xFF\taccept\n";
 
+/// The table of this rule.
+const ANY_TCP_TABLE: &[u8] =
+    b"table 2 slot 144 composed 1 entries 1\n00000000/00000000 00000000/00000000 0000/0000 0000/0000 06/FF accept\n";
+
+/// The same for slots of 104 trits.
+const NARROW_TABLE: &[u8] =
+    b"table 2 slot 104 composed 1 entries 1\n00000000/00000000 00000000/00000000 0000/0000 0000/0000 06/FF accept\n";
+
+/// All source ports but the first.
+const ONE_RANGE: &[u8] = b"@0.0.0.0/0\t0.0.0.0/0\t1 : 65535\t0 : 65535\t0x00/0x00\taccept\n";
+
+/// All ports but the first and the last, twice.
+const RANGES: &[u8] = b"@0.0.0.0/0\t0.0.0.0/0\t1 : 65534\t1 : 65534\t0x00/0x00\taccept\n";
+
 /// One source, one destination port, one protocol.
 const WEB: &[u8] = b"@10.0.0.0/8\t0.0.0.0/0\t0 : 65535\t80 : 80\t0x06/0xFF\tweb\n";
 
@@ -67,98 +81,171 @@ fn call(alloc: Global, words: &[&str], setting: Setting<'_>) -> Result<Outcome, 
     Ok(Outcome { status, out, err })
 }
 
-/// Expands the list, and compares the status, the output and the line on standard error.
+/// Calls the program with the words, and compares the status, the output and the line on standard error.
 fn check(
     rt: &(impl Abort + AllocGlobal),
+    words: &[&str],
     setting: Setting<'_>,
     status: u8,
     out: &[u8],
     err: &[u8],
 ) -> Result<(), Fail> {
-    let outcome = call(rt.alloc(), &["expand", "in"], setting)?;
+    let outcome = call(rt.alloc(), words, setting)?;
     assert!(rt; outcome.status == status);
     assert!(rt; outcome.out.bytes() == out);
     assert!(rt; outcome.err.bytes() == err);
     Ok(())
 }
 
+/// Expands the list.
+fn check_expand(
+    rt: &(impl Abort + AllocGlobal),
+    list: &[u8],
+    out: &[u8],
+    err: &[u8],
+) -> Result<(), Fail> {
+    check(rt, &["expand", "in"], calm(list), 0, out, err)
+}
+
 #[test]
-fn expands_thin_lists(rt: HostRuntime) -> Result<(), Fail> {
-    check(
+fn expands_lists(rt: HostRuntime) -> Result<(), Fail> {
+    check_expand(&rt, ANY_TCP, ANY_TCP_TABLE, b"rules 1, flagged 0\n")?;
+    check_expand(
         &rt,
-        calm(ANY_TCP),
-        0,
-        b"table 2 slot 144 composed 1 entries 1\n00000000/00000000 00000000/00000000 0000/0000 0000/0000 06/FF accept\n",
-        b"rules 1, flagged 0\n",
-    )?;
-    check(
-        &rt,
-        calm(b""),
-        0,
+        b"",
         b"table 2 slot 144 composed 0 entries 0\n",
         b"rules 0, flagged 0\n",
     )?;
-    check(&rt, calm(WEB), 0, WEB_TABLE, b"rules 1, flagged 0\n")
+    check_expand(&rt, WEB, WEB_TABLE, b"rules 1, flagged 0\n")?;
+    check_expand(
+        &rt,
+        b"@10.0.0.0/8\t0.0.0.0/0\t0 : 65535\t80 : 80\t0x06/0xFF\t0x0000/0x0200\t\n",
+        b"table 2 slot 144 composed 1 entries 1\n0A000000/FF000000 00000000/00000000 0000/0000 0050/FFFF 06/FF #1\n",
+        b"rules 1, flagged 1\n",
+    )?;
+    check_expand(
+        &rt,
+        b"@0.0.0.0/0 0.0.0.0/0 0 : 65535 80 : 80,443 : 443 0x06/0xFF accept",
+        b"table 2 slot 144 composed 2 entries 2\n00000000/00000000 00000000/00000000 0000/0000 0050/FFFF 06/FF accept\n00000000/00000000 00000000/00000000 0000/0000 01BB/FFFF 06/FF accept\n",
+        b"rules 1, flagged 0\n",
+    )
 }
 
 #[test]
-fn refuses_what_is_not_thin(rt: HostRuntime) -> Result<(), Fail> {
-    let not_thin: [&[u8]; 9] = [
-        b"@10.0.0.0/8\t0.0.0.0/0\t1 : 65535\t80 : 80\t0x06/0xFF\tweb\n",
-        b"@10.0.0.0/8\t0.0.0.0/0\t0 : 65534\t80 : 80\t0x06/0xFF\tweb\n",
-        b"10.0.0.0/8\t0.0.0.0/0\t0 : 65535\t80 : 80\t0x06/0xFF\tweb\n",
-        b"@10.0.0.256/8\t0.0.0.0/0\t0 : 65535\t80 : 80\t0x06/0xFF\tweb\n",
-        b"@10.0.0.0/33\t0.0.0.0/0\t0 : 65535\t80 : 80\t0x06/0xFF\tweb\n",
-        b"@10.0.0.0/8\t0.0.0.0/0\t0 : 65535\t80 : 80\t0x06/0xFE\tweb\n",
-        b"@10.0.0.0/8\t0.0.0.0/0\t0 : 65535\t80 : 80\t0x06/0xFF\tmiss\n",
-        b"@10.0.0.0/8\t0.0.0.0/0\t0 : 65535\t80 : 80\t0x06/0xFF\tweb\r\n",
-        b"# a comment\n",
-    ];
-    for line in not_thin {
-        check(&rt, calm(line), 3, b"", b"in: line 1: form not built yet\n")?;
-    }
-    let last = b"\n@10.0.0.0/8\t0.0.0.0/0\t65535 : 65535\t080 : 80\t0x6/0x0\tweb\n\nno rule";
-    check(&rt, calm(last), 3, b"", b"in: line 4: form not built yet\n")
-}
-
-#[test]
-fn knows_its_words(rt: HostRuntime) -> Result<(), Fail> {
-    let none: [&[&str]; 7] = [
-        &[],
-        &["expand"],
-        &["compile", "in"],
-        &["expand", "-x"],
-        &["expand", "--help"],
-        &["expand", "in", "in"],
-        &["--help"],
-    ];
-    for words in none {
-        let outcome = call(rt.alloc(), words, calm(WEB))?;
-        assert!(rt; outcome.status == 2);
-        assert!(rt; outcome.out.bytes().is_empty());
-        assert!(rt; outcome.err.bytes() == b"usage: razor COMMAND\n  expand LIST\n".as_slice());
-    }
-    let unknown = call(rt.alloc(), &["expand", ""], calm(WEB))?;
-    assert!(rt; unknown.status == 5);
-    assert!(rt; unknown.err.bytes() == b": read fault\n".as_slice());
+fn expands_ranges_in_the_order_of_an_odometer(rt: HostRuntime) -> Result<(), Fail> {
+    let most = call(
+        rt.alloc(),
+        &["expand", "--limit", "900", "in"],
+        calm(RANGES),
+    )?;
+    assert!(rt; most.status == 0);
+    assert!(rt;
+        most.out
+            .bytes()
+            .starts_with(b"table 2 slot 144 composed 900 entries 900\n\
+        00000000/00000000 00000000/00000000 0001/FFFF 0001/FFFF 00/00 accept\n\
+        00000000/00000000 00000000/00000000 0001/FFFF 0002/FFFE 00/00 accept\n"
+                .as_slice())
+    );
+    assert!(rt;
+        most.out.bytes().ends_with(
+            b"\n00000000/00000000 00000000/00000000 FFFE/FFFF FFFE/FFFF 00/00 accept\n".as_slice()
+        )
+    );
+    let fewer = ["expand", "--limit", "899", "in"];
+    check(
+        &rt,
+        &fewer,
+        calm(RANGES),
+        4,
+        b"",
+        b"900 entries needed, limit 899\n",
+    )?;
+    let open = call(rt.alloc(), &["expand", "in"], calm(ONE_RANGE))?;
+    assert!(rt; open.status == 0);
+    assert!(rt;
+        open.out
+            .bytes()
+            .starts_with(b"table 2 slot 144 composed 16 entries 16\n".as_slice())
+    );
     Ok(())
 }
 
 #[test]
+fn refuses_the_first_bad_line(rt: HostRuntime) -> Result<(), Fail> {
+    let list =
+        b"@0.0.0.0/0\t0.0.0.0/0\t0 : 65535\t0 : 65535\t0x06/0xFF\taccept\n@0.0.0.0/0\t0.0.0.0/0\t80 : 79\t0 : 65535\t0x06/0xFF\taccept\nno rule\n";
+    check(
+        &rt,
+        &["expand", "in"],
+        calm(list),
+        3,
+        b"",
+        b"in: line 2: port order\n",
+    )
+}
+
+#[test]
+fn knows_its_words(rt: HostRuntime) -> Result<(), Fail> {
+    let none: [&[&str]; 10] = [
+        &[],
+        &["expand"],
+        &["compile", "in"],
+        &["expand", "--limit", "0", "in"],
+        &["expand", "--limit", "5", "--limit", "5", "in"],
+        &["expand", "--slot", "100", "in"],
+        &["expand", "--lim", "5", "in"],
+        &["expand", "-x", "in"],
+        &["expand", "in", "in"],
+        &["--help"],
+    ];
+    for words in none {
+        let usage = b"usage: razor COMMAND\n  expand [--limit N] [--slot W] LIST\n";
+        check(&rt, words, calm(WEB), 2, b"", usage)?;
+    }
+    let limits: [&[&str]; 3] = [
+        &["expand", "--limit=5", "in"],
+        &["expand", "in", "--limit", "5"],
+        &["expand", "--limit", "005", "--", "in"],
+    ];
+    for words in limits {
+        check(
+            &rt,
+            words,
+            calm(RANGES),
+            4,
+            b"",
+            b"900 entries needed, limit 5\n",
+        )?;
+    }
+    let narrow = ["expand", "--slot", "104", "in"];
+    check(
+        &rt,
+        &narrow,
+        calm(ANY_TCP),
+        0,
+        NARROW_TABLE,
+        b"rules 1, flagged 0\n",
+    )?;
+    check(&rt, &["expand", ""], calm(WEB), 5, b"", b": read fault\n")
+}
+
+#[test]
 fn names_each_fault(rt: HostRuntime) -> Result<(), Fail> {
+    let words = ["expand", "in"];
     let failing_read = Setting {
         failing_read: 1,
         ..calm(WEB)
     };
-    check(&rt, failing_read, 5, b"", b"in: read fault\n")?;
+    check(&rt, &words, failing_read, 5, b"", b"in: read fault\n")?;
     let failing_write = Setting {
         failing_write: 1,
         ..calm(WEB)
     };
-    check(&rt, failing_write, 6, b"", b"write fault\n")?;
+    check(&rt, &words, failing_write, 6, b"", b"write fault\n")?;
     let failing_line = Setting {
         failing_line: 1,
         ..calm(WEB)
     };
-    check(&rt, failing_line, 0, WEB_TABLE, b"")
+    check(&rt, &words, failing_line, 0, WEB_TABLE, b"")
 }

@@ -1,6 +1,9 @@
 use super::{Setting, WEB, calm, check};
 use std::test::Fail;
 
+/// The words of all calls here.
+const EXPAND: [&str; 2] = ["expand", "in"];
+
 /// As many bytes as a list may have.
 const MOST_BYTES: usize = 16_777_216;
 
@@ -9,13 +12,21 @@ fn meets_the_limit_of_bytes(rt: HostRuntime) -> Result<(), Fail> {
     let mut list = vec![in rt.alloc(); b'\n'; MOST_BYTES]?;
     check(
         &rt,
+        &EXPAND,
         calm(&list),
         0,
         b"table 2 slot 144 composed 0 entries 0\n",
         b"rules 0, flagged 0\n",
     )?;
     list.push(b'\n')?;
-    check(&rt, calm(&list), 4, b"", b"in: more than 16777216 bytes\n")
+    check(
+        &rt,
+        &EXPAND,
+        calm(&list),
+        4,
+        b"",
+        b"in: more than 16777216 bytes\n",
+    )
 }
 
 #[test]
@@ -30,6 +41,7 @@ fn meets_the_limit_of_rules(rt: HostRuntime) -> Result<(), Fail> {
     };
     check(
         &rt,
+        &EXPAND,
         too_many,
         3,
         b"",
@@ -38,6 +50,7 @@ fn meets_the_limit_of_rules(rt: HostRuntime) -> Result<(), Fail> {
     list.extend_from_slice(b"no rule\n")?;
     check(
         &rt,
+        &EXPAND,
         calm(&list),
         3,
         b"",

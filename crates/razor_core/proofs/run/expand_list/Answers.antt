@@ -1,25 +1,41 @@
-use Rattle.std.proofs.Common.{◌≡◌, ℕ, List, [], Some, None, refl}
-use Rattle.std.specs.Prelude.{Option, IsSome, unwrap_or, Ok}
-use Rattle.field_boxes.specs.Classifier.{Rule}
+use Rattle.std.proofs.Common.{◌≤◌, ℕ, subst, sym, refl}
 use Rattle.ternary_words.specs.Views.{table_of}
-use Rattle.ternary_words.specs.TableText.{table_text}
-use Rattle.razor_core.specs.Turns.{list_turn}
-use Rattle.razor_core.specs.Inputs.{PassesTurn}
-use Rattle.razor_core.specs.Lists.{rules_of}
+use Rattle.razor_core.specs.Command.{Expand}
+use Rattle.razor_core.specs.Commands.{sizes_of}
+use Rattle.razor_core.specs.Outside.{seen}
+use Rattle.razor_core.proofs.Tables.{Reads, kept, not_made_ends, done_ends, cut_off_ends}
 use Rattle.razor_core.proofs.run.expand_list.Goals as goal
 
-passed : (file : List ℕ) (before after : Option (List ℕ)) (rules : List (Rule (List ℕ))) → PassesTurn file before after rules → IsSome before → list_turn file (unwrap_or before []) ≡ Ok rules
-passed file None after rules h some = absurd cc
-passed file (Some text) after rules h some = h.0
+pub returns-in-Err-expand-clause-ends : goal.returns-in-Err-expand-clause-ends
+returns-in-Err-expand-clause-ends g c =
+    let file = c.args.file.now in
+    let before = seen g.D.Desk.remaining g.D.Desk.faults g.K.Sink.written g.K.Sink.faults c.args.desk.now c.args.out.now in
+    let after = seen g.D.Desk.remaining g.D.Desk.faults g.K.Sink.written g.K.Sink.faults c.take_list.new.desk c.args.out.now in
+    let reads : Reads (Expand (sizes_of c.args.sizes) file) before after file c.in-Ok.list = record { inputs_are = refl; taken = c.in-Ok.ensures.turn } in
+    not_made_ends (Expand (sizes_of c.args.sizes) file) before after file c.in-Ok.list c.in-Err-expand.error c.not_made.result reads c.in-Err-expand.ensures.table c.not_made.ensures (kept (g.K.Sink.written c.args.out.now))
 
-pub returns : goal.returns
-returns g c = (
-  c.in-Err-write_table.ensures.failed,
-  (λ tells. (
-    rules_of c.in-Ok.list,
-    passed c.args.file.now (g.D.Desk.remaining c.args.desk.now c.args.file.now) (g.D.Desk.remaining c.take_list.new.desk c.args.file.now) (rules_of c.in-Ok.list) c.in-Ok.ensures tells.0,
-    table_text (table_of c.in-Ok-expanded.table),
-    (table_of c.in-Ok-expanded.table, c.in-Ok-expanded.ensures, refl),
-    c.in-Err-write_table.ensures.err,
-  )),
-)
+pub returns-in-Ok-write_table-clause-ends : goal.returns-in-Ok-write_table-clause-ends
+returns-in-Ok-write_table-clause-ends g c =
+    let file = c.args.file.now in
+    let before = seen g.D.Desk.remaining g.D.Desk.faults g.K.Sink.written g.K.Sink.faults c.args.desk.now c.args.out.now in
+    let after = seen g.D.Desk.remaining g.D.Desk.faults g.K.Sink.written g.K.Sink.faults c.take_list.new.desk c.write_table.new.out in
+    let reads : Reads (Expand (sizes_of c.args.sizes) file) before after file c.in-Ok.list = record { inputs_are = refl; taken = c.in-Ok.ensures.turn } in
+    let table = table_of c.in-Ok-expand.table in
+    done_ends (Expand (sizes_of c.args.sizes) file) before after file c.in-Ok.list table _ reads
+    (λ needed needs. subst (λ (n : ℕ). n ≤ c.args.sizes.limit) (sym needs) c.in-Ok-expand.ensures.room)
+    (record { table = table; meets = c.in-Ok-expand.ensures.table; yes = refl; text = refl; line = refl })
+    c.summary.ensures
+    c.in-Ok-write_table.ensures.ok
+
+pub returns-clause-ends : goal.returns-clause-ends
+returns-clause-ends g c =
+    let file = c.args.file.now in
+    let before = seen g.D.Desk.remaining g.D.Desk.faults g.K.Sink.written g.K.Sink.faults c.args.desk.now c.args.out.now in
+    let after = seen g.D.Desk.remaining g.D.Desk.faults g.K.Sink.written g.K.Sink.faults c.take_list.new.desk c.write_table.new.out in
+    let reads : Reads (Expand (sizes_of c.args.sizes) file) before after file c.in-Ok.list = record { inputs_are = refl; taken = c.in-Ok.ensures.turn } in
+    let table = table_of c.in-Ok-expand.table in
+    cut_off_ends (Expand (sizes_of c.args.sizes) file) before after file c.in-Ok.list table reads
+    (λ needed needs. subst (λ (n : ℕ). n ≤ c.args.sizes.limit) (sym needs) c.in-Ok-expand.ensures.room)
+    (record { table = table; meets = c.in-Ok-expand.ensures.table; yes = refl; text = refl; line = refl })
+    c.in-Err-write_table.ensures.failed
+    c.in-Err-write_table.ensures.err

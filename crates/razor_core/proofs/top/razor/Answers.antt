@@ -1,59 +1,33 @@
-use Rattle.std.proofs.Common.{◌≡◌, ℕ, List, Some, sym, ap, subst, ◌∙◌}
+use Rattle.std.proofs.Common.{◌≡◌, ◌≢◌, ℕ, List, Some, sym, subst}
 use Rattle.std.specs.Prelude.{Option}
-use Rattle.razor_core.specs.Command.{Command, Expand, command_of}
-use Rattle.razor_core.specs.Outside.{Tells, seen}
-use Rattle.razor_core.specs.ThinList.{BadLine}
-use Rattle.razor_core.specs.Turns.{bad_line, too_long}
-use Rattle.razor_core.specs.Ending.{ending_line, IsDone, IsStopped}
-use Rattle.razor_core.specs.Promise.{IsLine, SomeReadFails}
-use Rattle.razor_core.proofs.Endings.{done_by, bad_line_by, too_long_by, read_fails_by, line_by, same_command}
+use Rattle.std.specs.Io.KnownBytes.{Keeps}
+use Rattle.razor_core.specs.Command.{Command, command_of}
+use Rattle.razor_core.specs.Commands.{spelled}
+use Rattle.razor_core.specs.Outside.{seen, IsNoInput}
+use Rattle.razor_core.specs.Ending.{ending_line}
+use Rattle.razor_core.specs.Promise.{IsLine, KeepsPromiseOf}
+use Rattle.razor_core.proofs.Endings.{kept_by, unchanged_by, line_by}
 use Rattle.razor_core.proofs.top.razor.Goals as goal
-use Rattle.razor_core.proofs.top.razor.Goals.{After-status}
 
 abbrev some_command : Command → Option Command
 some_command command = Some command
 
--- the words spell the command that was run
-spelled_as : (g : _) (c : After-status g) → Some (Expand c.list-list.result.now) ≡ command_of c.args.words.now
-spelled_as g c = ap (λ (x : Command). let o : Option Command = Some x in o) (sym c.list-list.ensures) ∙ c.in-Some.ensures
-
--- the command of a clause is the one that was run
-the_command : (g : _) (c : After-status g) (command : Command) → command_of c.args.words.now ≡ Some command → Expand c.list-list.result.now ≡ command
-the_command g c command h = same_command (Expand c.list-list.result.now) command (command_of c.args.words.now) (spelled_as g c) h
-
-pub returns-clause-done : goal.returns-clause-done
-returns-clause-done g c = λ zero command h.
-    let before = seen (g.D.Desk.remaining c.args.desk.now) (g.D.Desk.faults c.args.desk.now) (g.K.Sink.written c.args.out.now) (g.K.Sink.faults c.args.out.now) in
-    let after = seen (g.D.Desk.remaining c.expand_list-ending.new.desk) (g.D.Desk.faults c.expand_list-ending.new.desk) (g.K.Sink.written c.expand_list-ending.new.out) (g.K.Sink.faults c.expand_list-ending.new.out) in
-    subst (λ (x : Command). Tells before x → (rules : ℕ) × IsDone x before after rules) (the_command g c command h)
-    (done_by c.list-list.result.now before after c.expand_list-ending.result c.expand_list-ending.ensures (sym c.status.ensures ∙ zero))
-
-pub returns-clause-bad_line : goal.returns-clause-bad_line
-returns-clause-bad_line g c = λ three command h.
-    let before = seen (g.D.Desk.remaining c.args.desk.now) (g.D.Desk.faults c.args.desk.now) (g.K.Sink.written c.args.out.now) (g.K.Sink.faults c.args.out.now) in
-    let after = seen (g.D.Desk.remaining c.expand_list-ending.new.desk) (g.D.Desk.faults c.expand_list-ending.new.desk) (g.K.Sink.written c.expand_list-ending.new.out) (g.K.Sink.faults c.expand_list-ending.new.out) in
-    subst (λ (x : Command). Tells before x → (file : List ℕ) × (bad : BadLine) × IsStopped x before (bad_line file bad)) (the_command g c command h)
-    (bad_line_by c.list-list.result.now before after c.expand_list-ending.result c.expand_list-ending.ensures (sym c.status.ensures ∙ three))
-
-pub returns-clause-too_much : goal.returns-clause-too_much
-returns-clause-too_much g c = λ four command h.
-    let before = seen (g.D.Desk.remaining c.args.desk.now) (g.D.Desk.faults c.args.desk.now) (g.K.Sink.written c.args.out.now) (g.K.Sink.faults c.args.out.now) in
-    let after = seen (g.D.Desk.remaining c.expand_list-ending.new.desk) (g.D.Desk.faults c.expand_list-ending.new.desk) (g.K.Sink.written c.expand_list-ending.new.out) (g.K.Sink.faults c.expand_list-ending.new.out) in
-    subst (λ (x : Command). Tells before x → (file : List ℕ) × (limit : ℕ) × IsStopped x before (too_long file limit)) (the_command g c command h)
-    (too_long_by c.list-list.result.now before after c.expand_list-ending.result c.expand_list-ending.ensures (sym c.status.ensures ∙ four))
-
-pub returns-clause-read_fault : goal.returns-clause-read_fault
-returns-clause-read_fault g c = λ five command h.
-    let before = seen (g.D.Desk.remaining c.args.desk.now) (g.D.Desk.faults c.args.desk.now) (g.K.Sink.written c.args.out.now) (g.K.Sink.faults c.args.out.now) in
-    let after = seen (g.D.Desk.remaining c.expand_list-ending.new.desk) (g.D.Desk.faults c.expand_list-ending.new.desk) (g.K.Sink.written c.expand_list-ending.new.out) (g.K.Sink.faults c.expand_list-ending.new.out) in
-    subst (λ (x : Command). SomeReadFails x before after) (the_command g c command h)
-    (read_fails_by c.list-list.result.now before after c.expand_list-ending.result c.expand_list-ending.ensures (sym c.status.ensures ∙ five))
-
-pub returns-clause-message : goal.returns-clause-message
-returns-clause-message g c =
-    let before = seen (g.D.Desk.remaining c.args.desk.now) (g.D.Desk.faults c.args.desk.now) (g.K.Sink.written c.args.out.now) (g.K.Sink.faults c.args.out.now) in
-    let after = seen (g.D.Desk.remaining c.expand_list-ending.new.desk) (g.D.Desk.faults c.expand_list-ending.new.desk) (g.K.Sink.written c.expand_list-ending.new.out) (g.K.Sink.faults c.expand_list-ending.new.out) in
-    let line = ending_line c.list-list.result.now c.expand_list-ending.result in
-    let by_ending = line_by c.list-list.result.now before after c.expand_list-ending.result c.expand_list-ending.ensures in
-    let by_status = subst (λ (s : ℕ). IsLine (some_command (Expand c.list-list.result.now)) before after s line) (sym c.status.ensures) by_ending in
-    (line, subst (λ (o : Option Command). IsLine o before after c.status.result line) (spelled_as g c) by_status, c.say_ending.ensures)
+pub returns : goal.returns
+returns g c =
+    let before = seen g.D.Desk.remaining g.D.Desk.faults g.K.Sink.written g.K.Sink.faults c.args.desk.now c.args.out.now in
+    let after = seen g.D.Desk.remaining g.D.Desk.faults g.K.Sink.written g.K.Sink.faults c.run-ending.new.desk c.run-ending.new.out in
+    let command = spelled c.in-Some.command in
+    let ending = c.run-ending.result in
+    let ends = c.run-ending.ensures.ends in
+    let words : some_command command ≡ command_of c.args.words.now = c.in-Some.ensures in
+    let same = sym c.status.ensures in
+    record {
+      command = subst (λ (o : Option Command). KeepsPromiseOf o before after c.status.result) words (subst (λ (s : ℕ). KeepsPromiseOf (some_command command) before after s) same (kept_by command before after ending ends));
+      unchanged = subst (λ (s : ℕ). s ≢ 0 → s ≢ 1 → s ≢ 6 → Keeps before.written after.written) same (unchanged_by command before after ending ends);
+      untouched = subst (λ (o : Option Command). (name : List ℕ) → IsNoInput o name → Keeps (before.remaining name) (after.remaining name)) words c.run-ending.ensures.others;
+      message = (
+        ending_line ending,
+        subst (λ (o : Option Command). IsLine o before after c.status.result (ending_line ending)) words (subst (λ (s : ℕ). IsLine (some_command command) before after s (ending_line ending)) same (line_by command before after ending ends)),
+        c.say_ending.ensures,
+      );
+    }

@@ -1,0 +1,28 @@
+-- What each command defines for what its inputs come to.
+use Rattle.std.specs.Prelude.{◌≡◌, ℕ, Bool, true, List, [], ◌∷◌, length}
+use Rattle.ternary_words.specs.Table.{Table}
+use Rattle.ternary_words.specs.TableText.{table_text}
+use Rattle.razor_core.specs.Command.{Command, Expand}
+use Rattle.razor_core.specs.Inputs.{Value, list_value}
+use Rattle.razor_core.specs.Messages.{rules_line}
+use Rattle.filter_reader.specs.FilterList.{FilterList}
+use Rattle.rule_expansion.specs.Tables.{IsExpansion}
+
+-- whether the answer is yes, the output, and the line on standard error
+pub record Outcome : Type 0 where
+  pub yes : Bool
+  pub text : List ℕ
+  pub line : List ℕ
+
+-- the text of a table that meets this, and the line on the rules of its list
+pub record IsTableOf (list : FilterList) (Meets : Table → Type 0) (outcome : Outcome) : Type 0 where
+  pub table : Table
+  pub meets : Meets table
+  pub yes : outcome.yes ≡ true
+  pub text : outcome.text ≡ table_text table
+  pub line : outcome.line ≡ rules_line (length list.rules) list.flagged
+
+-- the outcome is one that the command defines for these values
+abbrev pub Gives : Command → List Value → Outcome → Type 0
+Gives (Expand sizes file) [] outcome = ⊥
+Gives (Expand sizes file) (list_value list ∷ values) outcome = IsTableOf list (IsExpansion list.rules sizes.slot) outcome

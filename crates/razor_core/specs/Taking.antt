@@ -1,0 +1,46 @@
+-- What taking the turn of one input comes to.
+use Rattle.std.specs.Prelude.{◌≡◌, ℕ, List, [], Option, Some, IfSome, Ok, Err}
+use Rattle.razor_base.specs.Faults.{Rose}
+use Rattle.razor_base.specs.declared.read.ReadError.{ReadError}
+use Rattle.razor_base.specs.declared.read.ReadError.TheVariants as reads
+use Rattle.razor_core.specs.declared.ending.Ending.{Ending}
+use Rattle.razor_core.specs.declared.ending.Ending.TheVariants.{Done, No, BadLine as Bad, TooLong, TooMany, ReadFault, WriteFault, Memory}
+use Rattle.filter_reader.specs.declared.list.ListError.{ListError}
+use Rattle.filter_reader.specs.declared.list.ListError.TheVariants as errors
+use Rattle.filter_reader.specs.declared.list.RuleList.{RuleList}
+use Rattle.filter_reader.specs.Lists.{filter_list}
+use Rattle.razor_core.specs.Inputs.{Input, Value, list_value}
+use Rattle.razor_core.specs.Turns.{turn, bad_line, too_long}
+
+-- the value of a list of the code
+abbrev pub value_of : RuleList → Value
+value_of list = list_value (filter_list list)
+
+-- the turn passed with this value, and the input was read to its end, where the desk tells it
+abbrev pub TakesTurn : Input → Option (List ℕ) → Option (List ℕ) → Value → Type 0
+TakesTurn input before after value = IfSome before (λ text. (turn input text ≡ Ok value) × (after ≡ Some []))
+
+-- the turn was ended so
+abbrev pub EndsTurn : Input → Option (List ℕ) → ℕ → ℕ → Ending → Type 0
+EndsTurn input before faults_before faults_after (Done summary) = ⊥
+EndsTurn input before faults_before faults_after No = ⊥
+EndsTurn input before faults_before faults_after (Bad file line reason) = IfSome before (λ text. turn input text ≡ Err (bad_line file.now (record { line = line; reason = reason })))
+EndsTurn input before faults_before faults_after (TooLong file limit) = IfSome before (λ text. turn input text ≡ Err (too_long file.now limit))
+EndsTurn input before faults_before faults_after (TooMany needed limit) = ⊥
+EndsTurn input before faults_before faults_after (ReadFault file) = (file.now ≡ input.name) × Rose faults_before faults_after
+EndsTurn input before faults_before faults_after WriteFault = ⊥
+EndsTurn input before faults_before faults_after Memory = Unit {0}
+
+-- the ending of a command whose list was refused with this error
+abbrev pub IsRefusalOf : List ℕ → ListError → Ending → Type 0
+IsRefusalOf name errors.Memory ending = ending ≡ Memory
+IsRefusalOf name (errors.BadLine line reason) (Bad file at why) = (file.now ≡ name) × (at ≡ line) × (why ≡ reason)
+IsRefusalOf name (errors.BadLine line reason) _ = ⊥
+
+-- the ending of a command whose input couldn't be read whole, with this error
+abbrev pub IsFaultOf : List ℕ → ℕ → ReadError → Ending → Type 0
+IsFaultOf name limit reads.Memory ending = ending ≡ Memory
+IsFaultOf name limit reads.Fault (ReadFault file) = file.now ≡ name
+IsFaultOf name limit reads.Fault _ = ⊥
+IsFaultOf name limit reads.TooLong (TooLong file most) = (file.now ≡ name) × (most ≡ limit)
+IsFaultOf name limit reads.TooLong _ = ⊥

@@ -1,0 +1,45 @@
+ghost use Rattle.std.specs.Prelude.{◌≡◌, ◌≤◌, IfOk, MatchResult};
+ghost use Rattle.filter_reader.specs.Lists.{filter_list};
+ghost use Rattle.rule_expansion.specs.Expansion.{expanded_count};
+ghost use Rattle.rule_expansion.specs.Tables.{IsExpansion};
+ghost use Rattle.ternary_words.specs.Limits.{IsSlotWidth};
+ghost use Rattle.ternary_words.specs.Views.{table_of};
+ghost use Rattle.razor_core.specs.Making.{IsRefused};
+ghost use Rattle.razor_core.specs.declared.making.CompileError.{CompileError};
+ghost use Rattle.razor_core.specs.declared.making.CompileError.TheVariants as errors;
+
+use filter_reader::RuleList;
+use rule_expansion::ExpandError;
+use std::alloc::Global;
+use ternary_words::Table;
+use thiserror::Error;
+
+/// Why no table was made of a list.
+#[derive(Clone, Copy, Debug, PartialEq, Eq, Error)]
+pub enum CompileError {
+    /// More entries are needed than the limit.
+    #[error("{needed} entries needed, limit {limit}")]
+    TooMany { needed: u128, limit: u32 },
+    /// Memory was refused.
+    #[error("out of memory")]
+    Memory,
+}
+
+/// The direct expansion of the list: rule by rule one entry for each combination of the shortest covers
+/// of its five sets by prefixes, the source slowest and the protocol fastest.
+///
+/// `limit` is the greatest number of entries, 1 to 262,144, and `slot` the width of the table's slots.
+pub fn expand(alloc: Global, list: &RuleList, limit: u32, slot: u16) -> Result<Table, CompileError>
+    requires limit { limit ≤ 262144 }
+    requires slot { ∥ IsSlotWidth slot ∥₁ }
+    ensures table { MatchResult result
+        (λ table. IsExpansion (filter_list list.now).rules slot (table_of table))
+        (λ e. IsRefused (λ needed. needed ≡ expanded_count (filter_list list.now).rules) limit e) }
+    ensures room { IfOk result (λ table. expanded_count (filter_list list.now).rules ≤ limit) }
+{
+    match rule_expansion::expand(alloc, &list.rules, &list.names, limit, slot) {
+        Ok(table) => Ok(table),
+        Err(ExpandError::TooMany { needed, limit }) => Err(CompileError::TooMany { needed, limit }),
+        Err(ExpandError::Memory) => Err(CompileError::Memory),
+    }
+}

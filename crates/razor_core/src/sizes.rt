@@ -1,0 +1,13 @@
+ghost use Rattle.std.specs.Prelude.{◌≤◌};
+ghost use Rattle.ternary_words.specs.Limits.{IsSlotWidth};
+
+/// The greatest number of entries of a table, 1 to 262,144, and the width of its slots: 104, 144 or
+/// 288.
+#[derive(Clone, Copy, Debug, PartialEq, Eq)]
+pub struct Sizes {
+    pub limit: u32,
+    pub slot: u16,
+    pub ghost some: { 1 ≤ limit },
+    pub ghost few: { limit ≤ 262144 },
+    pub ghost width: { ∥ IsSlotWidth slot ∥₁ },
+}

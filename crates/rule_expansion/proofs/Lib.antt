@@ -1,0 +1,5 @@
+pub mod Combinations
+pub mod Adding
+pub mod Deciding
+pub mod Naming
+pub mod Places
