@@ -2,11 +2,12 @@
 use Rattle.std.proofs.Common.{◌≡◌, ℕ, List, ◌+◌, ◌^◌, ◌<◌, ◌≤◌, ap, arith, sym, ◌∙◌, inl, inr, length, get_or, subst}
 use Rattle.std.specs.Prelude.{◌⊎◌, min, slice_index}
 use Rattle.std.specs.List.{All}
+use Rattle.std.proofs.lemmas.Bool.{cases_lt}
 use Rattle.prefix_min.specs.declared.costs.LabelCost.{LabelCost}
 use Rattle.prefix_min.specs.declared.costs.Costs.{Costs}
 use Rattle.prefix_min.specs.declared.merge.Rest.{Rest}
 use Rattle.prefix_min.specs.Costs.{Lists, RisesFrom, IsMerge, IsSplit, IsCheapest, AreLabels, cost_in, least_cost, without_row, with_row, rest_of}
-use Rattle.prefix_min.proofs.Listed.{cost-at, listed-at, place_of, unlisted}
+use Rattle.prefix_min.proofs.Listed.{cost-at, label_least, listed-at, place_of, unlisted}
 
 pub merge_of : (a c b d : Rest) (es : List LabelCost) → a ≡ c → b ≡ d → IsMerge a b es → IsMerge c d es
 merge_of a c b d es e f m = subst (λ x. IsMerge x d es) e (subst (λ x. IsMerge a x es) f m)
@@ -72,6 +73,18 @@ module _ (weights : List ℕ) (low high : Costs) (es : List LabelCost)
       let w : cost_in c.split.now c.other d ≡ cost_in es c.other e.label = ap (λ xs. cost_in xs c.other d) j.0 ∙ ap (λ x. cost_in es c.other x) (sym same) in
       omega (arith, at, w, ap (slice_index weights) same, j.2, r.least p.0 best p.1)
 
+  row_first : (c : Costs) (best : LabelCost) → IsCheapest weights es (length es) best → joined c es best → (d : ℕ) → Lists c.split.now d → d < c.label → c.row < slice_index weights d + without_row c d
+  row_first c best r j d l less =
+      let p = place_of es d (subst (λ xs. Lists xs d) j.0 l) in
+      let e = get_or es p.0 best in
+      let same : e.label ≡ d = p.2 best in
+      let at = cost-at 0 p.0 c.other best es m.rise p.1 in
+      let w : cost_in c.split.now c.other d ≡ cost_in es c.other e.label = ap (λ xs. cost_in xs c.other d) j.0 ∙ ap (λ x. cost_in es c.other x) (sym same) in
+      elim (cases_lt p.0 r.place) [
+        | inl before ↦ omega (arith, at, w, ap (slice_index weights) same, j.2, r.first p.0 best before)
+        | inr from ↦ absurd (omega (arith, label_least 0 r.place p.0 best es m.rise from p.1, same, j.3, r.label, less))
+      ]
+
   pub joined-split : (c : Costs) (best : LabelCost) → IsCheapest weights es (length es) best → joined c es best → IsSplit weights low high c
   joined-split c best r j = record {
     place = merged_within c.label (subst (λ x. Lists es x) (sym j.3) (own_listed best r));
@@ -81,6 +94,7 @@ module _ (weights : List ℕ) (low high : Costs) (es : List LabelCost)
     without = joined_without c best j;
     with_row = own_row c best r j;
     cheapest = row_least c best r j;
+    first = row_first c best r j;
   }
 
   pub joined-labels : (c : Costs) (best : LabelCost) → IsCheapest weights es (length es) best → joined c es best → AreLabels weights c

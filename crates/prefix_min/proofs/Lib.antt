@@ -15,3 +15,9 @@ pub mod Written
 pub mod Ordered
 pub mod FieldRows
 pub mod Growing
+pub mod Below
+pub mod Rootless
+pub mod Chosen
+pub mod PartRows
+pub mod Sifted
+pub mod FieldChoice

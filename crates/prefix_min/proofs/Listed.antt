@@ -121,6 +121,14 @@ label_later low zero d (e ∷ es) r h = r.0
 label_later low (suc k) d (e ∷ es) r h = omega (arith, r.0, label_later (e.label + 1) k d es r.1 (omega (arith, h)))
 
 -- each entry's cost is the one that is listed for its label
+-- of two entries the first has no greater label
+pub label_least : (low j k : ℕ) (d : LabelCost) (es : List LabelCost) → RisesFrom low es → j ≤ k → k < length es → (get_or es j d).label ≤ (get_or es k d).label
+label_least low j k d [] r le h = absurd (omega (arith, h))
+label_least low zero zero d (e ∷ es) r le h = omega arith
+label_least low zero (suc k) d (e ∷ es) r le h = omega (arith, label_later (e.label + 1) k d es r.1 (omega (arith, h)))
+label_least low (suc j) zero d (e ∷ es) r le h = absurd (omega (arith, le))
+label_least low (suc j) (suc k) d (e ∷ es) r le h = label_least (e.label + 1) j k d es r.1 (omega (arith, le)) (omega (arith, h))
+
 pub cost-at : (low k o : ℕ) (d : LabelCost) (es : List LabelCost) → RisesFrom low es → k < length es → cost_in es o (get_or es k d).label ≡ (get_or es k d).cost
 cost-at low k o d [] r h = absurd (omega (arith, h))
 cost-at low zero o d (e ∷ es) r h = let same : e.label == e.label ≡ true = eq-eqb e.label e.label refl in rw same refl

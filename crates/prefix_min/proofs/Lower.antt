@@ -20,10 +20,10 @@ abbrev pub IsRightWith : ℕ → ℕ → (ℕ → ℕ) → ℕ → List (Row ℕ
 IsRightWith n low f d rows = (b : List Bool) → length b ≡ n → unwrap_or (front rows b) d ≡ f (value n low b)
 
 -- a right list falls into right lists of the halves
-right_low : (n low : ℕ) (f : ℕ → ℕ) (d : ℕ) (rows : List (Row ℕ)) → IsRootless rows → IsRightWith (suc n) low f d rows → IsRightWith n low f d (half false rows)
+pub right_low : (n low : ℕ) (f : ℕ → ℕ) (d : ℕ) (rows : List (Row ℕ)) → IsRootless rows → IsRightWith (suc n) low f d rows → IsRightWith n low f d (half false rows)
 right_low n low f d rows rootless h b at = ap (λ o. unwrap_or o d) (sym (front-half false b rows rootless)) ∙ h (false ∷ b) (ap suc at)
 
-right_high : (n low : ℕ) (f : ℕ → ℕ) (d : ℕ) (rows : List (Row ℕ)) → IsRootless rows → IsRightWith (suc n) low f d rows → IsRightWith n (low + 2 ^ n) f d (half true rows)
+pub right_high : (n low : ℕ) (f : ℕ → ℕ) (d : ℕ) (rows : List (Row ℕ)) → IsRootless rows → IsRightWith (suc n) low f d rows → IsRightWith n (low + 2 ^ n) f d (half true rows)
 right_high n low f d rows rootless h b at = ap (λ o. unwrap_or o d) (sym (front-half true b rows rootless)) ∙ h (true ∷ b) (ap suc at)
 
 pub same_or_not : (e x : ℕ) → (e ≡ x) ⊎ (e ≢ x)

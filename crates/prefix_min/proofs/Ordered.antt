@@ -29,15 +29,15 @@ always None x h = absurd (omega (arith, h (x + 1)))
 always (Some y) x h = ap Some (h 0)
 
 -- no other row that holds the value is as long
-abbrev IsLongest : ℕ → ℕ → PrefixRow → PrefixRow → Type 0
+abbrev pub IsLongest : ℕ → ℕ → PrefixRow → PrefixRow → Type 0
 IsLongest width v r s = holds width v s ≡ true → (s ≡ r) ⊎ (s.prefix.len < r.prefix.len)
 
-record IsFound (width v : ℕ) (r : PrefixRow) (rows : List PrefixRow) : Type 0 where
-  held : holds width v r ≡ true
-  there : Contains rows r
-  longest : AllByRecursion (IsLongest width v r) rows
+pub record IsFound (width v : ℕ) (r : PrefixRow) (rows : List PrefixRow) : Type 0 where
+  pub held : holds width v r ≡ true
+  pub there : Contains rows r
+  pub longest : AllByRecursion (IsLongest width v r) rows
 
-later_there : (x r : PrefixRow) (rows : List PrefixRow) → Contains rows r → Contains (x ∷ rows) r
+pub later_there : (x r : PrefixRow) (rows : List PrefixRow) → Contains rows r → Contains (x ∷ rows) r
 later_there x r rows h = (suc h.0, omega (arith, h.1), h.2)
 
 found_step : (width v : ℕ) (t : Bool) (x r : PrefixRow) (rows : List PrefixRow) → holds width v x ≡ t → AllByRecursion (Nests width x) rows →
@@ -51,7 +51,7 @@ found_step width v false x r rows e nests h k =
     record { held = f.held; there = later_there x r rows f.there; longest = ((λ held. absurd (false≢true (sym e ∙ held))), f.longest) }
 
 -- the first row that holds a value is the longest that does
-found : (width v : ℕ) (r : PrefixRow) (rows : List PrefixRow) → AreNested width rows → find (holds width v) rows ≡ Some r → IsFound width v r rows
+pub found : (width v : ℕ) (r : PrefixRow) (rows : List PrefixRow) → AreNested width rows → find (holds width v) rows ≡ Some r → IsFound width v r rows
 found width v r [] nested h = absurd (none-some r h)
 found width v r (x ∷ rows) nested h = found_step width v (holds width v x) x r rows refl nested.0 h (found width v r rows nested.1)
 
@@ -65,7 +65,7 @@ there_at : (x r : PrefixRow) (rows : List PrefixRow) (k : ℕ) → k < length (x
 there_at x r rows zero lt e = inl e
 there_at x r rows (suc k) lt e = inr (k, omega (arith, lt), e)
 
-there_cases : (x r : PrefixRow) (rows : List PrefixRow) → Contains (x ∷ rows) r → (x ≡ r) ⊎ Contains rows r
+pub there_cases : (x r : PrefixRow) (rows : List PrefixRow) → Contains (x ∷ rows) r → (x ≡ r) ⊎ Contains rows r
 there_cases x r rows h = there_at x r rows h.0 h.1 h.2
 
 not_longer : (x r : PrefixRow) (rows : List PrefixRow) → IsNonDecreasingBy short (x ∷ rows) → r.prefix.len ≤ 32 → x.prefix.len < r.prefix.len → Contains (x ∷ rows) r → ⊥
@@ -86,14 +86,14 @@ first_step width v false x r rows e held sorted small longest there k = elim (th
 ]
 
 -- where the longest come first, the longest that holds a value is the first that does
-longest_first : (width v : ℕ) (r : PrefixRow) (rows : List PrefixRow) → holds width v r ≡ true → IsNonDecreasingBy short rows → r.prefix.len ≤ 32 →
+pub longest_first : (width v : ℕ) (r : PrefixRow) (rows : List PrefixRow) → holds width v r ≡ true → IsNonDecreasingBy short rows → r.prefix.len ≤ 32 →
     All (IsLongest width v r) rows → Contains rows r → find (holds width v) rows ≡ Some r
 longest_first width v r [] held sorted small longest there = absurd (omega (arith, there.1))
 longest_first width v r (x ∷ rows) held sorted small longest there =
     first_step width v (holds width v x) x r rows refl held sorted small (All-head (IsLongest width v r) x rows longest) there
     (λ later. longest_first width v r rows held (short_tail x rows sorted) small (All-tail (IsLongest width v r) x rows longest) later)
 
-label_of : (o : Option PrefixRow) (x : ℕ) → option_map (λ r. r.label) o ≡ Some x → (r : PrefixRow) × (o ≡ Some r) × (r.label ≡ x)
+pub label_of : (o : Option PrefixRow) (x : ℕ) → option_map (λ r. r.label) o ≡ Some x → (r : PrefixRow) × (o ≡ Some r) × (r.label ≡ x)
 label_of None x h = absurd (none-some x h)
 label_of (Some r) x h = (r, refl, ap (λ o. unwrap_or o 0) h)
 

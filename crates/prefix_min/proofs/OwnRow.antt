@@ -19,6 +19,7 @@ first_cheapest weights es x best h is l c =
       label = ap (λ e. e.label) at ∙ sym l;
       cost = ap (with_row weights) at ∙ sym c;
       least = λ k d lt. absurd (omega arith);
+      first = λ k d lt. absurd (omega arith);
     }
 
 pub other_cheapest : (weights : List ℕ) (es : List LabelCost) (i : ℕ) (x best next : LabelCost) → IsCheapest weights es i best → i < length es → x ≡ get_or es i x →
@@ -31,6 +32,7 @@ other_cheapest weights es i x best next b h is l c lt =
       label = ap (λ e. e.label) (at next) ∙ sym l;
       cost = ap (with_row weights) (at next) ∙ sym c;
       least = λ k d. below_more (λ k. next.cost ≤ with_row weights (get_or es k d)) i (λ k lk. omega (arith, b.least k d lk, lt)) (omega (arith, ap (with_row weights) (at d), c)) k;
+      first = λ k d lk. omega (arith, b.least k d lk, lt);
     }
 
 pub same_cheapest : (weights : List ℕ) (es : List LabelCost) (i : ℕ) (x best : LabelCost) → IsCheapest weights es i best → i < length es → x ≡ get_or es i x →
@@ -43,4 +45,5 @@ same_cheapest weights es i x best b h is le =
       label = b.label;
       cost = b.cost;
       least = λ k d. below_more (λ k. best.cost ≤ with_row weights (get_or es k d)) i (λ k lk. b.least k d lk) (omega (arith, ap (with_row weights) (at d), le)) k;
+      first = λ k d lk. b.first k d lk;
     }

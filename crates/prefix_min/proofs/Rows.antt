@@ -1,16 +1,15 @@
 -- Rows of a part and of its halves.
-use Rattle.std.proofs.Common.{◌≡◌, ◌∷◌, ◌++◌, ℕ, suc, List, [], ◌+◌, ◌-◌, ◌%◌, ◌^◌, ◌<◌, ◌≤◌, Bool, true, false, refl, ap, arith, sym, ◌∙◌, inl, inr, subst, length}
-use Rattle.std.specs.Prelude.{◌⊎◌, ◌&&◌, cond, find, Option, Some, None, option_map, unwrap_or, nat_le, slice_index}
+use Rattle.std.proofs.Common.{◌≡◌, ◌∷◌, ◌++◌, ℕ, suc, List, [], ◌+◌, ◌-◌, ◌%◌, ◌^◌, ◌<◌, ◌≤◌, Bool, true, false, refl, ap, arith, sym, ◌∙◌, inl, inr, subst}
+use Rattle.std.specs.Prelude.{◌⊎◌, ◌&&◌, cond, find, Option, Some, None, option_map, unwrap_or, nat_le}
 use Rattle.std.specs.List.{AllByRecursion}
 use Rattle.std.proofs.lemmas.Bool.{false≢true, leb-true, le-leb}
-use Rattle.std.proofs.lemmas.List.Sums.{sum_by-append}
 use Rattle.std.proofs.lemmas.Nat.{pow_pos}
 use Rattle.std.proofs.lemmas.Bool.{cases_lt}
 use Rattle.field_boxes.specs.Prefix.{FitsWidth, prefix_holds}
 use Rattle.field_boxes.proofs.Prefixes.{interval-prefix}
 use Rattle.prefix_min.specs.declared.row.PrefixRow.{PrefixRow}
 use Rattle.prefix_min.specs.PrefixList.{front}
-use Rattle.prefix_min.specs.Rows.{IsPart, IsInside, Nests, AreNested, ArePartRows, row_of}
+use Rattle.prefix_min.specs.Rows.{IsPart, IsInside, Nests, AreNested, row_of}
 use Rattle.field_boxes.proofs.Powers.{double}
 
 both : (a b : Bool) → (a && b) ≡ true → (a ≡ true) × (b ≡ true)
@@ -87,26 +86,26 @@ pub all_weaker : (P Q : PrefixRow → Type 0) (xs : List PrefixRow) → ((r : Pr
 all_weaker P Q [] f g = tt
 all_weaker P Q (x ∷ xs) f g = (f x g.0, all_weaker P Q xs f g.1)
 
-nested_append : (width : ℕ) (P Q : PrefixRow → Type 0) (xs ys : List PrefixRow) → ((r s : PrefixRow) → P r → Q s → Nests width r s) →
+pub nested_append : (width : ℕ) (P Q : PrefixRow → Type 0) (xs ys : List PrefixRow) → ((r s : PrefixRow) → P r → Q s → Nests width r s) →
     AllByRecursion P xs → AllByRecursion Q ys → AreNested width xs → AreNested width ys → AreNested width (xs ++ ys)
 nested_append width P Q [] ys f p q g h = h
 nested_append width P Q (x ∷ xs) ys f p q g h =
     (all_append (Nests width x) xs ys g.0 (all_weaker Q (Nests width x) ys (λ s. f x s p.0) q), nested_append width P Q xs ys f p.1 q g.1 h)
 
-inside_low : (width n low : ℕ) (r : PrefixRow) → IsInside width n low r → IsInside width (suc n) low r
+pub inside_low : (width n low : ℕ) (r : PrefixRow) → IsInside width n low r → IsInside width (suc n) low r
 inside_low width n low r i = record { fits = i.fits; len = omega (arith, i.len); from = i.from; below = omega (arith, i.below, double n) }
 
-inside_high : (width n low : ℕ) (r : PrefixRow) → IsInside width n (low + 2 ^ n) r → IsInside width (suc n) low r
+pub inside_high : (width n low : ℕ) (r : PrefixRow) → IsInside width n (low + 2 ^ n) r → IsInside width (suc n) low r
 inside_high width n low r i = record { fits = i.fits; len = omega (arith, i.len); from = omega (arith, i.from); below = omega (arith, i.below, double n) }
 
 -- rows of different halves hold no value together
-apart : (width n low : ℕ) (r s : PrefixRow) → IsInside width n low r → IsInside width n (low + 2 ^ n) s → Nests width r s
+pub apart : (width n low : ℕ) (r s : PrefixRow) → IsInside width n low r → IsInside width n (low + 2 ^ n) s → Nests width r s
 apart width n low r s i j v h k =
     let a = held_within width r v i.fits h in
     let b = held_within width s v j.fits k in
     absurd (omega (arith, a.1, i.below, b.0, j.from))
 
-halves_answer : (width n low v d : ℕ) (xs ys : List PrefixRow) (x : ℕ) → AllByRecursion (IsInside width n low) xs → AllByRecursion (IsInside width n (low + 2 ^ n)) ys →
+pub halves_answer : (width n low v d : ℕ) (xs ys : List PrefixRow) (x : ℕ) → AllByRecursion (IsInside width n low) xs → AllByRecursion (IsInside width n (low + 2 ^ n)) ys →
     (v < low + 2 ^ n → unwrap_or (front width xs v) d ≡ x) → (low + 2 ^ n ≤ v → unwrap_or (front width ys v) d ≡ x) →
     unwrap_or (front width (xs ++ ys) v) d ≡ x
 halves_answer width n low v d xs ys x p q f g = elim (cases_lt v (low + 2 ^ n)) [
@@ -114,52 +113,6 @@ halves_answer width n low v d xs ys x p q f g = elim (cases_lt v (low + 2 ^ n)) 
   | inr ge ↦ front-append width xs ys v d ∙ ap (λ o. unwrap_or o (unwrap_or (front width ys v) d)) (front-outside width n low v xs p (inr ge)) ∙ g ge
 ]
 
--- rows of the halves of a part, none of the part itself
-pub record AreHalfRows (weights : List ℕ) (f : ℕ → ℕ) (width bits low d cost : ℕ) (rows : List PrefixRow) : Type 0 where
-  pub part : ArePartRows weights f width bits low d cost rows
-  pub longer : AllByRecursion (λ r. width < bits + r.prefix.len) rows
-
--- the rows of two halves are rows of the part
-pub half-rows : (weights : List ℕ) (f : ℕ → ℕ) (width n low d a b : ℕ) (xs ys : List PrefixRow) →
-    ArePartRows weights f width n low d a xs → ArePartRows weights f width n (low + 2 ^ n) d b ys → AreHalfRows weights f width (suc n) low d (a + b) (xs ++ ys)
-half-rows weights f width n low d a b xs ys g h = record {
-  part = record {
-    inside = all_append (IsInside width (suc n) low) xs ys
-        (all_weaker (IsInside width n low) (IsInside width (suc n) low) xs (inside_low width n low) g.inside)
-        (all_weaker (IsInside width n (low + 2 ^ n)) (IsInside width (suc n) low) ys (inside_high width n low) h.inside);
-    nested = nested_append width (IsInside width n low) (IsInside width n (low + 2 ^ n)) xs ys (apart width n low) g.inside h.inside g.nested h.nested;
-    labels = all_append (λ r. r.label < length weights) xs ys g.labels h.labels;
-    weighs = sum_by-append (λ r. slice_index weights r.label) xs ys ∙ omega (arith, g.weighs, h.weighs);
-    answers = λ v from below. halves_answer width n low v d xs ys (f v) g.inside h.inside (λ lt. g.answers v from lt) (λ ge. h.answers v ge (omega (arith, below, double n)));
-  };
-  longer = all_append (λ r. width < suc n + r.prefix.len) xs ys
-      (all_weaker (IsInside width n low) (λ r. width < suc n + r.prefix.len) xs (λ r i. omega (arith, i.len)) g.inside)
-      (all_weaker (IsInside width n (low + 2 ^ n)) (λ r. width < suc n + r.prefix.len) ys (λ r i. omega (arith, i.len)) h.inside);
-}
-
--- no rows at all
-pub no-rows : (weights : List ℕ) (f : ℕ → ℕ) (width bits low d : ℕ) → ((v : ℕ) → low ≤ v → v < low + 2 ^ bits → f v ≡ d) → ArePartRows weights f width bits low d 0 []
-no-rows weights f width bits low d h = record { inside = tt; nested = tt; labels = tt; weighs = refl; answers = λ v from below. sym (h v from below) }
-
-front_one : (t : Bool) (r : PrefixRow) (d : ℕ) → t ≡ true → unwrap_or (option_map (λ x. x.label) (cond t (Some r) None)) d ≡ r.label
+pub front_one : (t : Bool) (r : PrefixRow) (d : ℕ) → t ≡ true → unwrap_or (option_map (λ x. x.label) (cond t (Some r) None)) d ≡ r.label
 front_one true r d h = refl
 front_one false r d h = absurd (false≢true h)
-
--- the row of a part after rows that answer where its label is inherited
-pub with-own-row : (weights : List ℕ) (f : ℕ → ℕ) (width bits low label d cost : ℕ) (rows : List PrefixRow) → label < length weights → IsPart width bits low →
-    ArePartRows weights f width bits low label cost rows → AllByRecursion (λ r. width < bits + r.prefix.len) rows →
-    ArePartRows weights f width bits low d (cost + slice_index weights label) (rows ++ row_of width bits low label ∷ [])
-with-own-row weights f width bits low label d cost rows place p g longer =
-    let own = row_of width bits low label in
-    let inside = row-inside width bits low label p in
-    record {
-      inside = all_append (IsInside width bits low) rows (own ∷ []) g.inside (inside, tt);
-      nested = nested_append width (λ r. width < bits + r.prefix.len) (λ s. s ≡ own) rows (own ∷ [])
-          (λ r s l e v h k. omega (arith, ap (λ x. x.prefix.len) e, l, p.len)) longer (refl, tt) g.nested (tt, tt);
-      labels = all_append (λ r. r.label < length weights) rows (own ∷ []) g.labels (place, tt);
-      weighs = sum_by-append (λ r. slice_index weights r.label) rows (own ∷ []) ∙ omega (arith, g.weighs);
-      answers = λ v from below.
-          front-append width rows (own ∷ []) v d
-          ∙ ap (unwrap_or (front width rows v)) (front_one (prefix_holds width own.prefix v) own d (row-holds width bits low label v p from below))
-          ∙ g.answers v from below;
-    }

@@ -84,7 +84,7 @@ row_pays weights f (suc n) low (Halves' c p lo q hi) h d fresh =
     omega (arith, split_pays weights f n low c lo hi h.0 h.2 d fresh best)
 
 -- a row as the bits of its prefix
-abbrev row_bits : ℕ → PrefixRow → Row ℕ
+abbrev pub row_bits : ℕ → PrefixRow → Row ℕ
 row_bits width r = record { bits = prefix_bits width r.prefix; payload = r.label }
 
 begins_bits : (width : ℕ) (r : PrefixRow) (v : ℕ) → FitsWidth width r.prefix → v < 2 ^ width →
@@ -102,7 +102,7 @@ front_step false false r x o q e l h = h
 front_step true false r x o q e l h = cc
 front_step false true r x o q e l h = cc
 
-front_bits : (width : ℕ) (rows : List PrefixRow) (v : ℕ) → All (λ r. FitsWidth width r.prefix) rows → v < 2 ^ width →
+pub front_bits : (width : ℕ) (rows : List PrefixRow) (v : ℕ) → All (λ r. FitsWidth width r.prefix) rows → v < 2 ^ width →
     list.front width rows v ≡ front (map (row_bits width) rows) (bits width v)
 front_bits width [] v fits small = refl
 front_bits width (r ∷ rows) v fits small =
@@ -111,7 +111,7 @@ front_bits width (r ∷ rows) v fits small =
     (begins_bits width r v (All-head (λ x. FitsWidth width x.prefix) r rows fits) small) refl
     (front_bits width rows v (All-tail (λ x. FitsWidth width x.prefix) r rows fits) small)
 
-weight_bits : (width : ℕ) (weights : List ℕ) (rows : List PrefixRow) → weigh (weight_of weights) (map (row_bits width) rows) ≡ list.weight weights rows
+pub weight_bits : (width : ℕ) (weights : List ℕ) (rows : List PrefixRow) → weigh (weight_of weights) (map (row_bits width) rows) ≡ list.weight weights rows
 weight_bits width weights [] = refl
 weight_bits width weights (r ∷ rows) =
     sum_by-cons (λ x. slice_index weights x.payload) (row_bits width r) (map (row_bits width) rows)

@@ -61,7 +61,7 @@ pub record IsConstant (weights : List ℕ) (c : Costs) : Type 0 where
   pub with_row : c.row ≡ slice_index weights c.label
 
 -- a part whose halves cost so much: without a row both halves inherit what it inherits, with the
--- cheapest row they inherit the row's label
+-- cheapest row they inherit the row's label, which is the least of those that make it cheapest
 pub record IsSplit (weights : List ℕ) (low high c : Costs) : Type 0 where
   pub place : c.label < length weights
   pub listed : Lists c.split.now c.label
@@ -70,6 +70,7 @@ pub record IsSplit (weights : List ℕ) (low high c : Costs) : Type 0 where
   pub without : (d : ℕ) → without_row c d ≡ least_cost low d + least_cost high d
   pub with_row : c.row ≡ slice_index weights c.label + without_row c c.label
   pub cheapest : (d : ℕ) → Lists c.split.now d → c.row ≤ slice_index weights d + without_row c d
+  pub first : (d : ℕ) → Lists c.split.now d → d < c.label → c.row < slice_index weights d + without_row c d
 
 -- the labels rise and are places of the weights, and none weighs more than 2^104
 pub record AreLabels (weights : List ℕ) (c : Costs) : Type 0 where
@@ -82,10 +83,11 @@ pub record AreLabels (weights : List ℕ) (c : Costs) : Type 0 where
 abbrev pub with_row : List ℕ → LabelCost → ℕ
 with_row weights e = slice_index weights e.label + e.cost
 
--- the label of a row that makes the part cheapest among the first entries, and what the part costs with it
+-- the first label whose row makes the part cheapest among the first entries, and what the part costs with it
 pub record IsCheapest (weights : List ℕ) (split : List LabelCost) (count : ℕ) (best : LabelCost) : Type 0 where
   pub place : ℕ
   pub inside : place < length split
   pub label : (slice_index_or split place best).label ≡ best.label
   pub cost : with_row weights (slice_index_or split place best) ≡ best.cost
   pub least : (k : ℕ) (d : LabelCost) → k < count → best.cost ≤ with_row weights (slice_index_or split k d)
+  pub first : (k : ℕ) (d : LabelCost) → k < place → best.cost < with_row weights (slice_index_or split k d)

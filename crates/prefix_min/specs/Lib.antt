@@ -4,4 +4,5 @@ pub mod PrefixList
 pub mod Order
 pub mod Costs
 pub mod Trie
+pub mod Choice
 pub mod Rows

@@ -5,6 +5,7 @@ use Rattle.field_boxes.specs.Prefix.{FitsWidth, prefix_holds}
 use Rattle.prefix_min.specs.declared.row.PrefixRow.{PrefixRow}
 use Rattle.prefix_min.specs.declared.trie.Node.{Node, Constant, Halves'}
 use Rattle.prefix_min.specs.PrefixList.{front, weight}
+use Rattle.prefix_min.specs.Choice.{IsWorthIn}
 use Rattle.prefix_min.specs.Costs.{least_cost}
 use Rattle.prefix_min.specs.Trie.{StandsFor, costs_of}
 
@@ -41,12 +42,13 @@ abbrev pub AreNested : ℕ → List PrefixRow → Type 0
 AreNested width [] = Unit {0}
 AreNested width (r ∷ rows) = AllByRecursion (Nests width r) rows × AreNested width rows
 
--- rows of a part that answer as f where d is inherited, and weigh so much
+-- rows of a part that answer as f where d is inherited, each worth its weight, and weigh so much
 pub record ArePartRows (weights : List ℕ) (f : ℕ → ℕ) (width bits low d cost : ℕ) (rows : List PrefixRow) : Type 0 where
   pub inside : AllByRecursion (IsInside width bits low) rows
   pub nested : AreNested width rows
   pub labels : AllByRecursion (λ r. r.label < length weights) rows
   pub weighs : weight weights rows ≡ cost
+  pub worth : AllByRecursion (IsWorthIn weights f width d rows) rows
   pub answers : (v : ℕ) → low ≤ v → v < low + 2 ^ bits → unwrap_or (front width rows v) d ≡ f v
 
 -- rows of the field, with one of the field itself

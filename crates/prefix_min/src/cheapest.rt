@@ -1,7 +1,8 @@
-ghost use Rattle.std.specs.Prelude.{◌≡◌, ◌≤◌, ◌<◌, ◌^◌, ℕ, List, IfOk, length};
+ghost use Rattle.std.specs.Prelude.{◌≡◌, ◌≤◌, ◌<◌, ◌^◌, ℕ, List, IfOk, length, slice_index};
 ghost use Rattle.std.specs.List.{All};
 ghost use Rattle.prefix_min.specs.Pieces.{Follow, label_at, reach, weight_from};
 ghost use Rattle.prefix_min.specs.PrefixList.{IsRight, weight};
+ghost use Rattle.prefix_min.specs.Choice.{IsChosen};
 ghost use Rattle.prefix_min.specs.Order.{InOrder};
 ghost use Rattle.prefix_min.specs.declared.row.PrefixRow.{PrefixRow};
 
@@ -25,7 +26,8 @@ pub struct Cheapest {
 ///
 /// The weight of label `k` is the `k`-th of `weights`; a label that isn't there weighs nothing. Of several
 /// cheapest lists this is chosen, from the field down: no row is written where it saves nothing, and a row
-/// has the least label that makes it cheapest. The field itself always has a row.
+/// has the least label of the pieces that makes it cheapest. The field itself always has a row, and so has a
+/// part of one label that doesn't inherit it, even where the label weighs nothing.
 ///
 /// Time and room are in the order of the pieces times the width, however many labels there are. The trie on
 /// which the rows are chosen lies in one arena, which is given up at the end.
@@ -51,6 +53,10 @@ pub fn minimise(
     // No right list weighs less, whatever its order, its repeats and its rows that are never first.
     ensures least { IfOk result (λ c. (rows : List PrefixRow) → IsRight width (label_at pieces.now) rows → c.cost ≤ weight weights.now rows) }
     ensures order { IfOk result (λ c. InOrder c.rows.items) }
+
+    // Of the lists that weigh least this one is chosen: a row that weighs something saves something, and has
+    // the least label with which it does.
+    ensures chosen { IfOk result (λ c. All (λ r. 0 < slice_index weights.now r.label → IsChosen weights.now (label_at pieces.now) width c.rows.items r) c.rows.items) }
 {
     let arena = Bump::new(alloc);
     let field = Field {

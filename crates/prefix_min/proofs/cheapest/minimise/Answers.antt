@@ -3,6 +3,7 @@ use Rattle.prefix_min.specs.Pieces.{label_at}
 use Rattle.prefix_min.specs.PrefixList.{weight}
 use Rattle.prefix_min.specs.Trie.{costs_of}
 use Rattle.prefix_min.specs.Costs.{Lists}
+use Rattle.prefix_min.proofs.FieldChoice.{chosen}
 use Rattle.prefix_min.proofs.Shapes.{stands-fits}
 use Rattle.prefix_min.proofs.Whole.{least}
 use Rattle.prefix_min.proofs.FieldRows.{right, labels, weighs, in-order}
@@ -62,3 +63,13 @@ returns-clause-order c =
     let node = c.in_ok-root.field-0.node.now in
     let rows = c.in_ok-rows.ensures weights f built.stands in
     in-order weights f width (costs_of node).row c.in_ok-rows.rows.items c.sort.new.rows.items rows c.requires.wide c.in_ok-sort.ensures.same c.in_ok-sort.ensures.longest_first c.in_ok-sort.ensures.values_rise
+
+pub returns-clause-chosen : goal.returns-clause-chosen
+returns-clause-chosen c =
+    let weights = c.args.weights.now in
+    let f = label_at c.args.pieces.now in
+    let width = c.args.width in
+    let built = c.in_ok-root.ensures in
+    let node = c.in_ok-root.field-0.node.now in
+    let rows = c.in_ok-rows.ensures weights f built.stands in
+    chosen weights f width (costs_of node).row c.in_ok-rows.rows.items c.sort.new.rows.items rows c.requires.wide c.in_ok-sort.ensures.same c.in_ok-sort.ensures.longest_first

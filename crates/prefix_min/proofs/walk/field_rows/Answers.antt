@@ -41,5 +41,5 @@ returns c = λ weights f s.
           let kept_width = w.in_ok-part-in-Halves-2.ensures.width ∙ w.in_ok-part-in-Halves.ensures.width in
           let own = subst (λ x. new ≡ mid ++ row_of x width 0 label ∷ []) kept_width w.in_ok-row-in-Halves.ensures.rows in
           subst (λ x. Rows x.rows.items) (sym w.writer-is)
-          (field-halves weights f width (low_cost + high_cost) label node costs p q lo.now hi.now mid new w.in-Halves.is refl place halves.0 refl rows own)
+          (field-halves weights f width (width - 1) (low_cost + high_cost) label node costs p q lo.now hi.now mid new (omega (arith, shape.0)) halves.1 halves.2 w.in-Halves.is refl place halves.0 refl rows own)
     ]

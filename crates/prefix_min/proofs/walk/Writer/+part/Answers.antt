@@ -4,7 +4,7 @@ use Rattle.std.proofs.lemmas.Result.{on_ok_weaker}
 use Rattle.prefix_min.specs.Rows.{Appends, IsPart, FitsBits, row_of}
 use Rattle.prefix_min.specs.Trie.{StandsFor, costs_of}
 use Rattle.prefix_min.specs.Costs.{least_cost}
-use Rattle.prefix_min.proofs.Rows.{AreHalfRows}
+use Rattle.prefix_min.proofs.PartRows.{AreHalfRows}
 use Rattle.prefix_min.proofs.Shapes.{stands-halves, fits-halves, low-part, high-part}
 use Rattle.prefix_min.proofs.Written.{constant-written, halves-written, halves-inherit, halves-own}
 use Rattle.prefix_min.proofs.walk.Writer.+part.Goals as goal
@@ -98,7 +98,7 @@ returns-in-Some-clause-rows t c =
     let all = c.row-in-Some.new.self.rows.items in
     let kept_width = c.in_ok-part-in-Halves-2.ensures.width ∙ c.in_ok-part-in-Halves.ensures.width in
     let row = subst (λ x. all ≡ new ++ row_of x bits low d ∷ []) kept_width added in
-    halves-own weights f width bits low c.args.inherited (least_cost (costs_of lo.now) d + least_cost (costs_of hi.now) d) d
-    c.args.node.now costs p q lo.now hi.now old new all
+    halves-own weights f width (bits - 1) bits low c.args.inherited (least_cost (costs_of lo.now) d + least_cost (costs_of hi.now) d) d
+    c.args.node.now costs p q lo.now hi.now old new all (omega (arith, shape.0)) halves.1 halves.2
     c.in-Halves.is c.in-Some.ensures.0 c.in-Some.ensures.1 c.requires.place halves.0 refl kept row)
     c.row-in-Some.ensures.rows
