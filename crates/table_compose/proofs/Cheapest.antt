@@ -47,4 +47,4 @@ module _ {A : Type 0} (f : ℕ) (fields : List ℕ) (R : List (Rule A)) (lab : �
 
   pub cheapest-list : IsLeastCost (f ∷ fields) R n
   unfolding IsLeastCost
-  cheapest-list = (reached, least)
+  cheapest-list = record { reached = reached; least = least }

@@ -42,9 +42,9 @@ pub few : {A : Type 0} (fields : List ℕ) (R : List (Rule A)) (n : ℕ) → IsL
 unfolding IsLeastCost
 few [] R n h = omega (arith, h)
 few (f ∷ fields) R n h =
-    let there = h.0 in
+    let there = h.reached in
     let Costs : ℕ → ℕ → Type 0 = λ v c. IsLeastCost fields (residue f v R) c in
     let all = singles (width f) Costs (2 ^ bits_of fields) (narrow f)
     (λ v small. let c = residue_cost f fields R there.0 there.1 there.2 v small in (c.0, c.1, few fields (residue f v R) c.0 c.1)) (2 ^ width f) (omega arith) in
-    let bound = h.1 all.0 (singles_plan f fields R Costs (2 ^ bits_of fields) all.0 all.1) all.1.costs in
+    let bound = h.least all.0 (singles_plan f fields R Costs (2 ^ bits_of fields) all.0 all.1) all.1.costs in
     rw (pow-add 2 (width f) (bits_of fields)) (omega (arith, bound, all.1.few))

@@ -10,3 +10,7 @@ pub mod NodeCost
 pub mod Planned
 pub mod Inputs
 pub mod Later
+pub mod Boxes
+pub mod Gaining
+pub mod Tables
+pub mod Naming

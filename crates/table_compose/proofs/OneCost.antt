@@ -10,7 +10,7 @@ pub cost-unique : {A : Type 0} (fields : List ℕ) (R : List (Rule A)) (m n : �
 unfolding IsLeastCost
 cost-unique [] R m n c d = c ∙ sym d
 cost-unique (f ∷ fields) R m n c d =
-    let a = c.0 in let b = d.0 in omega (arith, a.3, b.3, c.1 b.0 b.1 b.2, d.1 a.0 a.1 a.2)
+    let a = c.reached in let b = d.reached in omega (arith, a.3, b.3, c.least b.0 b.1 b.2, d.least a.0 a.1 a.2)
 
 pub alike-sym : {A : Type 0} (fields : List ℕ) (R S : List (Rule A)) → AreAlike fields R S → AreAlike fields S R
 alike-sym fields R S h values ok = sym (h values ok)
@@ -42,16 +42,16 @@ pub alike-cost : {A : Type 0} (fields : List ℕ) (R S : List (Rule A)) (n : ℕ
 unfolding IsLeastCost
 alike-cost [] R S n h c = c
 alike-cost (f ∷ fields) R S n h c =
-    let there = c.0 in
-    let back = alike-sym (f ∷ fields) R S h in (
-      (
+    let there = c.reached in
+    let back = alike-sym (f ∷ fields) R S h in record {
+      reached = (
         there.0,
         plan-alike f fields R S there.0 h there.1,
         (λ k d small. let x = slice_index_or there.0 k d in
             alike-cost fields (residue f x.value R) (residue f x.value S) x.cost (alike-residue f fields R S h x.value (there.1.in_field k d small)) (there.2 k d small)),
         there.3,
-      ),
-      (λ plan p costs. c.1 plan (plan-alike f fields S R plan back p)
+      );
+      least = λ plan p costs. c.least plan (plan-alike f fields S R plan back p)
           (λ k d small. let x = slice_index_or plan k d in
-          alike-cost fields (residue f x.value S) (residue f x.value R) x.cost (alike-residue f fields S R back x.value (p.in_field k d small)) (costs k d small))),
-    )
+          alike-cost fields (residue f x.value S) (residue f x.value R) x.cost (alike-residue f fields S R back x.value (p.in_field k d small)) (costs k d small));
+    }

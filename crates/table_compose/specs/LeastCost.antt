@@ -34,13 +34,15 @@ pub record IsPlan {A : Type 0} (f : ℕ) (fields : List ℕ) (R : List (Rule A))
   pub alike : (v : ℕ) → v < 2 ^ width f →
       (c : Choice) × (first_choice (width f) plan v ≡ Some c) × (c.value < 2 ^ width f) × AreAlike fields (residue f v R) (residue f c.value R)
 
--- n is the least cost of the rules over these fields: 1 where none is left, and else what some plan costs
--- and no plan costs less, where each pair has the least cost of its residue
+-- some plan costs n and no plan costs less, where each pair has a cost of its residue
+pub record IsLeastOfPlans {A : Type 0} (f : ℕ) (fields : List ℕ) (Costs : List (Rule A) → ℕ → Type 0) (R : List (Rule A)) (n : ℕ) : Type 0 where
+  pub reached : (plan : List Choice) × IsPlan f fields R plan × All (λ c. Costs (residue f c.value R) c.cost) plan × (plan_cost plan ≡ n)
+  pub least : (plan : List Choice) → IsPlan f fields R plan → All (λ c. Costs (residue f c.value R) c.cost) plan → n ≤ plan_cost plan
+
+-- n is the least cost of the rules over these fields: 1 where none is left, and else the least of their plans
 unfoldable pub IsLeastCost : {A : Type 0} → List ℕ → List (Rule A) → ℕ → Type 0
 IsLeastCost [] R n = n ≡ 1
-IsLeastCost (f ∷ fields) R n =
-    ((plan : List Choice) × IsPlan f fields R plan × All (λ c. IsLeastCost fields (residue f c.value R) c.cost) plan × (plan_cost plan ≡ n))
-    × ((plan : List Choice) → IsPlan f fields R plan → All (λ c. IsLeastCost fields (residue f c.value R) c.cost) plan → n ≤ plan_cost plan)
+IsLeastCost (f ∷ fields) R n = IsLeastOfPlans f fields (IsLeastCost fields) R n
 
 -- the bits of these fields together
 abbrev pub bits_of : List ℕ → ℕ

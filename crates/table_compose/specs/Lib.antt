@@ -3,3 +3,4 @@ pub mod Diagrams
 pub mod Labels
 pub mod Plans
 pub mod Rows
+pub mod Composed

@@ -1,5 +1,5 @@
 //! The plans of all nodes of a diagram.
-ghost use Rattle.std.specs.Prelude.{◌<◌, length, IfOk};
+ghost use Rattle.std.specs.Prelude.{◌≡◌, ◌<◌, length, slice_index, IfOk};
 ghost use Rattle.table_compose.specs.Plans.{ArePlans};
 
 use crate::node_plan::NodePlan;
@@ -36,5 +36,13 @@ impl Plans {
             lists.push(rows)?;
         }
         Ok(Plans { costs, lists })
+    }
+
+    /// What the node under the number costs.
+    pub fn cost(&self, id: NodeId) -> u128
+        requires { id.0 < length self.now.costs.items }
+        ensures { result ≡ slice_index self.now.costs.items id.0 }
+    {
+        self.costs[id.0]
     }
 }

@@ -1,7 +1,15 @@
-//! Laws of the least cost, for whoever relies on it. The functions do nothing.
-ghost use Rattle.std.specs.Prelude.{◌≡◌, ◌≤◌, ◌^◌, ℕ, List};
+//! Laws of the definitions, for whoever relies on them. The functions do nothing.
+ghost use Rattle.std.specs.Prelude.{◌≡◌, ◌≤◌, ◌^◌, ℕ, List, Some, length, map, slice_get};
 ghost use Rattle.field_boxes.specs.Classifier.{Rule};
+ghost use Rattle.field_boxes.specs.Fields.{AreValues};
+ghost use Rattle.field_boxes.specs.Names.{name_at};
+ghost use Rattle.node_store.specs.Diagram.{Node, answer};
+ghost use Rattle.ternary_words.specs.declared.entry.Entry.{Entry};
+ghost use Rattle.ternary_words.specs.Table.{answer as table_answer};
+ghost use Rattle.ternary_words.specs.Views.{entry_of};
 ghost use Rattle.table_compose.specs.LeastCost.{AreAlike, IsLeastCost, bits_of};
+ghost use Rattle.table_compose.specs.Diagrams.{NamesApart};
+ghost use Rattle.table_compose.specs.Composed.{decided};
 
 /// No two numbers are the least cost of one list.
 pub fn one_least_cost()
@@ -18,4 +26,18 @@ pub fn alike_lists_cost_alike()
 /// The least cost is at most the number of headers, which is 2 to the bits of the fields.
 pub fn at_most_one_entry_a_header()
     ensures { (fields : List ℕ) (R : List (Rule (List ℕ))) (n : ℕ) → IsLeastCost fields R n → n ≤ 2 ^ bits_of fields }
+{}
+
+/// Names of which none stands twice tell the answers of a diagram apart, where each answer is 0 or the
+/// number of a name.
+pub fn distinct_names_tell_apart()
+    ensures { (nodes : List Node) (fields : List ℕ) (id : ℕ) (names : List (List ℕ)) →
+        ((i j : ℕ) (name : List ℕ) → slice_get names i ≡ Some name → slice_get names j ≡ Some name → i ≡ j) →
+        ((values : List ℕ) → AreValues fields values → answer nodes id values ≤ length names) → NamesApart nodes fields id (name_at names) }
+{}
+
+/// A table answers by name what its first match decides by number.
+pub fn decisions_have_names()
+    ensures { (names : List (List ℕ)) (entries : List Entry) (header : List ℕ) (n : ℕ) →
+        decided entries header ≡ Some n → table_answer (map (entry_of names) entries) header ≡ name_at names n }
 {}

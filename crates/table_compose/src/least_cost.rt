@@ -18,5 +18,5 @@ pub fn cost(alloc: Global, store: &Store, root: NodeId) -> Result<u128, Memory>
     ensures { IfOk result (λ n. IsCostOf store.now stated root.0 n) }
 {
     let plans = Plans::of(alloc, store, root)?;
-    Ok(plans.costs[root.0])
+    Ok(plans.cost(root))
 }

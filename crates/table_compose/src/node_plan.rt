@@ -8,7 +8,7 @@ ghost use Rattle.table_compose.specs.Rows.{rows_of, led};
 
 use crate::labels::Labelling;
 use crate::row::Row;
-use field_boxes::WIDTHS;
+use field_boxes::width;
 use node_store::{NodeId, Store};
 use prefix_min::{PrefixRow, minimise};
 use razor_base::Memory;
@@ -40,8 +40,8 @@ impl NodePlan {
         store.same_answers();
         let labels = Labelling::of(alloc, store.edges(id))?;
         let weights = weights(alloc, labels.children.as_slice(), costs)?;
-        let width = WIDTHS[level as usize];
-        let cheapest = minimise(alloc, labels.pieces.as_slice(), weights.as_slice(), width)?;
+        let bits = width(level as usize);
+        let cheapest = minimise(alloc, labels.pieces.as_slice(), weights.as_slice(), bits)?;
         let rows = leading(alloc, cheapest.rows.as_slice(), labels.children.as_slice())?;
         Ok(NodePlan {
             cost: cheapest.cost,

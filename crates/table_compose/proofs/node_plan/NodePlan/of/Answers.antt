@@ -35,7 +35,7 @@ minimise-requires-clause-whole c =
     let given = inputs nodes id c.args.costs.now c.edges.result.now c.in_ok-labels.labels.children.keys c.as_slice.result.now c.in_ok-labels.labels.pieces.items c.as_slice-2.result.now
     c.in_ok-weights.weights.items c.as_slice-3.result.now c.same_answers.ensures.store five c.edges.ensures.edges (c.edges.ensures.inner five) c.in_ok-labels.ensures.children c.in_ok-labels.ensures.pieces
     c.as_slice.ensures.keys c.as_slice-2.ensures.value c.in_ok-weights.ensures c.as_slice-3.ensures.value in
-    wholes nodes id c.args.costs.now c.as_slice.result.now c.as_slice-2.result.now c.as_slice-3.result.now given ∙ ap (λ k. 2 ^ width k) (sym c.level-level.ensures.level)
+    wholes nodes id c.args.costs.now c.as_slice.result.now c.as_slice-2.result.now c.as_slice-3.result.now given ∙ ap (λ w. 2 ^ w) (sym (c.width-bits.ensures ∙ ap width c.level-level.ensures.level))
 
 pub minimise-requires-clause-light : goal.minimise-requires-clause-light
 minimise-requires-clause-light c =
@@ -67,11 +67,11 @@ returns c =
     let given = inputs nodes id c.args.costs.now c.edges.result.now c.in_ok-labels.labels.children.keys c.as_slice.result.now c.in_ok-labels.labels.pieces.items c.as_slice-2.result.now
     c.in_ok-weights.weights.items c.as_slice-3.result.now c.same_answers.ensures.store five c.edges.ensures.edges (c.edges.ensures.inner five) c.in_ok-labels.ensures.children c.in_ok-labels.ensures.pieces
     c.as_slice.ensures.keys c.as_slice-2.ensures.value c.in_ok-weights.ensures c.as_slice-3.ensures.value in
-    let w = ap width c.level-level.ensures.level in
+    let w = c.width-bits.ensures ∙ ap width c.level-level.ensures.level in
     let e = c.in_ok-cheapest.ensures in
     let rows = c.in_ok-cheapest.cheapest.rows.items in
     planned nodes id c.args.costs.now c.as_slice.result.now c.as_slice-2.result.now c.as_slice-3.result.now given c.requires.children rows (rows_of c.in_ok-rows.rows.items) c.in_ok-cheapest.cheapest.cost
-    (minimal (width c.level-level.result) (width (level_of nodes id)) w c.as_slice-2.result.now c.as_slice-3.result.now rows c.in_ok-cheapest.cheapest.cost e.right e.labels e.weighs e.least) e.order
+    (minimal c.width-bits.result (width (level_of nodes id)) w c.as_slice-2.result.now c.as_slice-3.result.now rows c.in_ok-cheapest.cheapest.cost e.right e.labels e.weighs e.least) e.order
     (c.in_ok-rows.ensures ∙ ap (map (led c.as_slice-5.result.now)) c.as_slice-4.ensures.value ∙ ap (λ cs. map (led cs) rows) (c.as_slice-5.ensures.keys ∙ sym c.as_slice.ensures.keys))
 
 pub returns-then-level-eq5 : goal.returns-then-level-eq5

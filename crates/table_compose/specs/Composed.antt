@@ -1,0 +1,73 @@
+-- Composed tables: the order of their entries, and what each is.
+use Rattle.std.specs.Prelude.{◌≡◌, ℕ, ◌<◌, List, [], ◌∷◌, ◌++◌, Option, All, find, length, map, option_map}
+use Rattle.std.specs.List.{AllZip, flat_map}
+use Rattle.field_boxes.specs.declared.prefix.Prefix.{Prefix}
+use Rattle.field_boxes.specs.Fields.{stated, IsHeader}
+use Rattle.ternary_words.specs.declared.entry.Entry.{Entry}
+use Rattle.ternary_words.specs.declared.word.Word.{Word}
+use Rattle.ternary_words.specs.Word.{agrees, header_bits}
+use Rattle.ternary_words.specs.Prefixes.{FitFields, all_hold, fields_trits}
+use Rattle.ternary_words.specs.Views.{word_of}
+use Rattle.node_store.specs.Diagram.{Node, answer}
+use Rattle.prefix_min.specs.declared.row.PrefixRow.{PrefixRow}
+use Rattle.table_compose.specs.Diagrams.{IsCostOf}
+use Rattle.table_compose.specs.Plans.{IsListOf}
+use Rattle.table_compose.specs.declared.composition.ComposeError.{ComposeError}
+use Rattle.table_compose.specs.declared.composition.ComposeError.TheVariants.{Memory, TooMany}
+
+-- prefixes of some fields, one each, and the decision of the values that all of them hold
+pub record Box : Type 0 where
+  pub prefixes : List Prefix
+  pub decision : ℕ
+
+-- the box with prefixes of the fields before it in front
+abbrev pub behind : List Prefix → Box → Box
+behind ps b = record { prefixes = ps ++ b.prefixes; decision = b.decision }
+
+-- for each row, in the order of the rows, the boxes of its child, in their order, each with the row's prefix in front
+abbrev pub in_turn : (ℕ → List Box) → List PrefixRow → List Box
+in_turn tables rows = flat_map (λ r. map (behind (r.prefix ∷ [])) (tables r.label)) rows
+
+-- the table of a node over these fields: the boxes of the children of its list in turn, and one at a leaf
+abbrev pub boxes : List Node → (ℕ → List PrefixRow) → List ℕ → ℕ → List Box
+boxes nodes lists [] id = record { prefixes = []; decision = answer nodes id [] } ∷ []
+boxes nodes lists (f ∷ fields) id = in_turn (boxes nodes lists fields) (lists id)
+
+-- each node of the diagram over these fields has a prefix list of its field
+abbrev pub HaveLists : List Node → (ℕ → List PrefixRow) → List ℕ → ℕ → Type 0
+HaveLists nodes lists [] id = Unit {0}
+HaveLists nodes lists (f ∷ fields) id = IsListOf nodes id (lists id) × All (λ r. HaveLists nodes lists fields r.label) (lists id)
+
+-- the entry's word is that of a prefix in each field
+pub record IsWordOf (word : Word) (prefixes : List Prefix) : Type 0 where
+  pub five : length prefixes ≡ 5
+  pub fit : FitFields stated prefixes
+  pub trits : word_of word ≡ fields_trits stated prefixes
+  pub holds : (header : List ℕ) → IsHeader header → agrees (word_of word) (header_bits header) ≡ all_hold stated prefixes header
+
+-- the entry is the box
+abbrev pub IsEntry : Box → Entry → Type 0
+IsEntry box entry = IsWordOf entry.word box.prefixes × (entry.decision ≡ box.decision)
+
+-- the entries are the table of the diagram, by prefix lists of its nodes
+pub record AreComposed (nodes : List Node) (root : ℕ) (entries : List Entry) : Type 0 where
+  pub lists : ℕ → List PrefixRow
+  pub have : HaveLists nodes lists stated root
+  pub entries_are : AllZip IsEntry (boxes nodes lists stated root) entries
+
+-- what the first entry that matches the header decides
+abbrev pub decided : List Entry → List ℕ → Option ℕ
+decided entries header = option_map (λ e. e.decision) (find (λ e. agrees (word_of e.word) (header_bits header)) entries)
+
+-- the word is a prefix in each field
+abbrev pub IsPrefixWord : Word → Type 0
+IsPrefixWord word = (prefixes : List Prefix) × IsWordOf word prefixes
+
+-- entries of these boxes were added
+abbrev pub Gains : List Entry → List Entry → List Box → Type 0
+Gains old new bs = (more : List Entry) × (new ≡ old ++ more) × AllZip IsEntry bs more
+
+-- what a refusal says: the least cost, where it is above the limit
+abbrev pub IsRefusal : List Node → ℕ → ℕ → ComposeError → Type 0
+IsRefusal nodes root most Memory = Unit {0}
+IsRefusal nodes root most (TooMany needed limit) = IsCostOf nodes stated root needed × (limit ≡ most) × (most < needed)

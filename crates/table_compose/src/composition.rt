@@ -1,0 +1,90 @@
+//! The composed table of a diagram.
+ghost use Rattle.std.specs.Prelude.{◌≡◌, ◌≤◌, ℕ, List, Some, All, vec_len, IfOk, IfErr};
+ghost use Rattle.std.specs.List.{AllZip};
+ghost use Rattle.field_boxes.specs.Fields.{stated, IsHeader};
+ghost use Rattle.node_store.specs.Diagram.{level_of, answer};
+ghost use Rattle.table_compose.specs.declared.composition.ComposeError.TheVariants.{Memory as OutOfMemory};
+ghost use Rattle.table_compose.specs.Diagrams.{IsCostOf};
+ghost use Rattle.table_compose.specs.Rows.{rows_at};
+ghost use Rattle.table_compose.specs.Composed.{HaveLists, IsEntry, boxes, AreComposed, decided, IsPrefixWord, IsRefusal};
+
+use crate::diagram_plans::Plans;
+use crate::entries::add_table;
+use field_boxes::Prefix;
+use node_store::{NodeId, Store};
+use razor_base::Memory;
+use std::alloc::Global;
+use ternary_words::Entry;
+
+/// Why no table was composed.
+#[derive(Clone, Copy, Debug, PartialEq, Eq)]
+pub enum ComposeError {
+    /// The diagram costs more entries than the limit.
+    TooMany { needed: u128, limit: u32 },
+    /// Memory was refused.
+    Memory,
+}
+
+impl From<Memory> for ComposeError {
+    ghost from_gives = { λ _ e. e ≡ OutOfMemory };
+
+    fn from(_refused: Memory) -> Self {
+        ComposeError::Memory
+    }
+}
+
+/// The whole of each field.
+const OPEN: [Prefix; 5] = [Prefix { value: 0, len: 0 }; 5];
+
+/// A table of as few entries as the field-by-field least cost, where that is within the limit.
+///
+/// Entries that decide 0 stay: without them a header would fall through to a later entry. The cost is known
+/// before the first entry is written, so a refusal takes no more than [`cost`] does, and else time and room
+/// go by the diagram and by the entries.
+///
+/// [`cost`]: crate::cost
+pub fn compose(
+    alloc: Global,
+    store: &Store,
+    root: NodeId,
+    limit: u32,
+) -> Result<Vec<Entry>, ComposeError>
+    requires { level_of store.now root.0 ≡ 0 }
+
+    // As many entries as the least cost, which is within the limit.
+    ensures count { IfOk result (λ entries. IsCostOf store.now stated root.0 (vec_len entries)) }
+    ensures within { IfOk result (λ entries. vec_len entries ≤ limit) }
+
+    // Every header has a first entry that matches it, with the diagram's answer.
+    ensures answers { IfOk result (λ entries. (header : List ℕ) → IsHeader header →
+        decided entries.items header ≡ Some (answer store.now root.0 header)) }
+    ensures prefixes { IfOk result (λ entries. All (λ e. IsPrefixWord e.word) entries.items) }
+    ensures order { IfOk result (λ entries. AreComposed store.now root.0 entries.items) }
+    ensures refusal { IfErr result (λ e. IsRefusal store.now root.0 limit e) }
+{
+    store.same_answers();
+    let plans = Plans::of(alloc, store, root)?;
+    let needed = plans.cost(root);
+    if needed > u128::from(limit) {
+        return Err(ComposeError::TooMany { needed, limit });
+    }
+    let entries = table(alloc, store, &plans, root, needed as usize)?;
+    Ok(entries)
+}
+
+/// The entries of the diagram's table, for which room is made at once.
+fn table(
+    alloc: Global,
+    store: &Store,
+    plans: &Plans,
+    root: NodeId,
+    count: usize,
+) -> Result<Vec<Entry>, Memory>
+    requires level { level_of store.now root.0 ≡ 0 }
+    requires lists { HaveLists store.now (rows_at plans.now.lists.items) stated root.0 }
+    ensures { IfOk result (λ entries. AllZip IsEntry (boxes store.now (rows_at plans.now.lists.items) stated root.0) entries.items) }
+{
+    let mut entries = Vec::with_capacity(alloc, count)?;
+    add_table(store, plans, 0, OPEN, root, &mut entries)?;
+    Ok(entries)
+}
