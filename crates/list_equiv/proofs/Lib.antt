@@ -1,0 +1,4 @@
+pub mod Separate
+pub mod Renumbered
+pub mod Decided
+pub mod Compared

@@ -1,0 +1,4 @@
+pub mod Names
+pub mod Numbering
+pub mod Numbers
+pub mod Verdict

@@ -1,0 +1,26 @@
+//! Whether two filter lists are equal.
+//!
+//! Two lists are equal if they decide every header alike, by the names of their decisions, whatever
+//! rules they say it with. Where they aren't, the least header on which they differ shows it.
+//!
+//! Each list numbers its names by itself, so both are given common numbers first. Then the diagram of
+//! each is built in one store, where one function has one node, and the two nodes are compared.
+//!
+//! ```text
+//! match equal(alloc, &left, &right)? {
+//!     Verdict::Equal => { /* no header tells them apart */ }
+//!     Verdict::Differ { header, left, right } => { /* the first that does, and its two decisions */ }
+//! }
+//! ```
+//!
+//! `specs/Verdict.antt` says what each verdict means.
+#![tactic(auto)]
+
+mod decision;
+mod names;
+mod numbering;
+#[cfg(test)]
+mod tests;
+mod verdict;
+
+pub use verdict::{Verdict, equal};
