@@ -33,12 +33,12 @@ def built(crate, *words):
     return folder / "out" / crate
 
 
-def once(command):
-    """One run: its milliseconds, its peak memory in bytes, and what it wrote."""
-    with tempfile.NamedTemporaryFile("r") as report, tempfile.TemporaryFile() as out:
+def once(command, given=None):
+    """One run over a file: its milliseconds, its peak memory in bytes, and what it wrote."""
+    with tempfile.NamedTemporaryFile("r") as report, tempfile.TemporaryFile() as out, open(given or "/dev/null", "rb") as text:
         whole = [time_tool(), "-v", "-o", report.name, *map(str, command)]
         start = time.perf_counter()
-        status = subprocess.run(whole, stdout=out, stderr=subprocess.PIPE)
+        status = subprocess.run(whole, stdin=text, stdout=out, stderr=subprocess.PIPE)
         milliseconds = (time.perf_counter() - start) * 1000
         if status.returncode != 0:
             fail(f"{command} ends with {status.returncode}: {status.stderr.decode()}")
@@ -47,9 +47,9 @@ def once(command):
         return milliseconds, int(peak.group(1)) * 1024, out.read().decode()
 
 
-def best(command):
-    """The least time and the least peak memory of three runs, and what the command wrote."""
-    runs = [once(command) for _ in range(RUNS)]
+def best(command, given=None):
+    """The least time and the least peak memory of three runs over a file, and what the command wrote."""
+    runs = [once(command, given) for _ in range(RUNS)]
     texts = {text for _, _, text in runs}
     if len(texts) != 1:
         fail(f"{command} writes different texts")

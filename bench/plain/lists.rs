@@ -1,11 +1,32 @@
 //! The work of `razor_bench read TIMES` in plain Rust, as the measure of its time and room:
-//! `lists TIMES < LIST`.
+//! `lists TIMES HASH < LIST`.
 //!
 //! It reads a filter list with the same checks, in the same order, into the same rules, and numbers the
-//! names by a `HashMap`. It prints the line that `razor_bench` prints.
+//! names by a `HashMap`. HASH is `sip`, the default of `HashMap`, or `multiply`, the hasher below. It
+//! prints the line that `razor_bench` prints.
 
 use std::collections::HashMap;
+use std::hash::{BuildHasher, BuildHasherDefault, Hasher, RandomState};
 use std::io::Read;
+
+/// Hashes eight bytes by one multiplication.
+#[derive(Default)]
+struct Multiply {
+    state: u64,
+}
+
+impl Hasher for Multiply {
+    fn finish(&self) -> u64 {
+        self.state.rotate_left(26)
+    }
+
+    fn write(&mut self, bytes: &[u8]) {
+        for chunk in bytes.chunks(8) {
+            let word = chunk.iter().fold(0, |word, &byte| word << 8 | u64::from(byte));
+            self.state = (self.state.rotate_left(5) ^ word).wrapping_mul(0x9e37_79b9_7f4a_7c15);
+        }
+    }
+}
 
 #[derive(Clone, Copy)]
 struct Span {
@@ -46,9 +67,9 @@ enum Reason {
     TooManyRanges,
 }
 
-struct List {
+struct List<S> {
     rules: Vec<Rule>,
-    names: HashMap<Box<str>, u32>,
+    names: HashMap<Box<str>, u32, S>,
     flagged: u64,
 }
 
@@ -189,7 +210,7 @@ fn word(token: &[u8]) -> Result<&str, Reason> {
     }
 }
 
-impl List {
+impl<S: BuildHasher + Default> List<S> {
     fn number(&mut self, name: &str) -> u32 {
         if let Some(&number) = self.names.get(name) {
             return number;
@@ -233,8 +254,8 @@ impl List {
     }
 }
 
-fn read(bytes: &[u8]) -> Result<List, (usize, Reason)> {
-    let mut list = List { rules: Vec::new(), names: HashMap::new(), flagged: 0 };
+fn read<S: BuildHasher + Default>(bytes: &[u8]) -> Result<List<S>, (usize, Reason)> {
+    let mut list = List { rules: Vec::new(), names: HashMap::default(), flagged: 0 };
     for (place, line) in bytes.strip_suffix(b"\n").unwrap_or(bytes).split(|&byte| byte == b'\n').enumerate() {
         let line = line.strip_suffix(b"\r").unwrap_or(line);
         match line.iter().find(|&&byte| !blank(byte)) {
@@ -259,12 +280,22 @@ fn checksum(rules: &[Rule]) -> u64 {
     sum
 }
 
+fn run<S: BuildHasher + Default>(bytes: &[u8], times: u32) {
+    for _ in 0..times {
+        let list = read::<S>(bytes).expect("a good list");
+        println!("rules {} names {} flagged {} checksum {}", list.rules.len(), list.names.len(), list.flagged, checksum(&list.rules));
+    }
+}
+
 fn main() {
-    let times: u32 = std::env::args().nth(1).and_then(|word| word.parse().ok()).expect("lists TIMES < LIST");
+    let words: Vec<String> = std::env::args().skip(1).collect();
+    let [times, hash] = &words[..] else { panic!("lists TIMES HASH < LIST") };
+    let times = times.parse().expect("a number of times");
     let mut bytes = Vec::new();
     std::io::stdin().read_to_end(&mut bytes).expect("a list on standard input");
-    for _ in 0..times {
-        let list = read(&bytes).expect("a good list");
-        println!("rules {} names {} flagged {} checksum {}", list.rules.len(), list.names.len(), list.flagged, checksum(&list.rules));
+    match hash.as_str() {
+        "sip" => run::<RandomState>(&bytes, times),
+        "multiply" => run::<BuildHasherDefault<Multiply>>(&bytes, times),
+        _ => panic!("the hash is sip or multiply"),
     }
 }

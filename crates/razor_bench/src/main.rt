@@ -8,6 +8,7 @@
 //! razor_bench build 1000 20
 //! razor_bench unions 1000 20
 //! razor_bench crossed 256 20
+//! razor_bench read 20 < LIST
 //! ```
 #![tactic(auto)]
 
@@ -20,6 +21,7 @@ mod nodes;
 mod numbers;
 mod pieces;
 mod plan;
+mod read;
 mod rules;
 mod tally;
 #[cfg(test)]
@@ -33,5 +35,6 @@ fn main(rt: HostRuntime) -> anyhow::Result<()> {
         Work::Nodes(count) => nodes::run(&rt, count),
         Work::Minimise(count) => minimise::run(&rt, count),
         Work::Build { list, times } => build::run(&rt, list, times),
+        Work::Read(times) => read::run(&rt, times),
     }
 }

@@ -14,6 +14,8 @@ pub enum Work {
     Minimise(u32),
     /// Build the diagram of a list, so often.
     Build { list: RuleList, times: u32 },
+    /// Read the filter list on standard input, so often.
+    Read(u32),
 }
 
 impl Work {
@@ -34,6 +36,7 @@ impl Work {
                 list: RuleList::Crossed(size),
                 times,
             }),
+            "read" => Ok(Work::Read(size)),
             _ => bail!("no work is named {name:?}"),
         }
     }
@@ -41,9 +44,9 @@ impl Work {
     /// The work that the words after the program's name ask for: a name, a size, and how often, or once.
     pub fn of_words(rt: &(impl Env + AllocGlobal)) -> Result<Work> {
         let mut words = env::args(rt)?.skip(1);
-        let name = words
-            .next()
-            .context("nodes, minimise, build, unions or crossed, and a size")?;
+        let name = words.next().context(
+            "nodes, minimise, build, unions, crossed or read, and a size",
+        )?;
         let size = words.next().context("a size")?;
         let times = match words.next() {
             Some(word) => number(word.as_str())?,

@@ -1,0 +1,62 @@
+//! Reading a filter list.
+
+use anyhow::{Result, bail};
+use field_boxes::{Rule, Span};
+use filter_reader::read_list;
+use razor_base::{HostDesk, read_all};
+use std::fs::Files;
+
+/// As many bytes as a list may have.
+const MOST_BYTES: u64 = 16_777_216;
+
+/// Reads the list on standard input so often, and prints what each time came of it.
+pub fn run(rt: &(impl Files + Input + Print + AllocGlobal), times: u32) -> Result<()> {
+    let alloc = rt.alloc();
+    let mut desk = HostDesk::new(rt, alloc);
+    let mut bytes = Vec::new(alloc);
+    if read_all(&mut desk, "-", MOST_BYTES, &mut bytes).is_err() {
+        bail!("standard input isn't read");
+    }
+    for _time in 0..times {
+        let Ok(list) = read_list(alloc, &bytes) else {
+            bail!("standard input is no filter list");
+        };
+        println!(rt;
+            "rules {} names {} flagged {} checksum {}",
+            list.rules.len(),
+            list.names.count(),
+            list.flagged,
+            checksum(&list.rules)
+        )?;
+    }
+    Ok(())
+}
+
+/// A number of all sets and decisions, for a comparison with another program.
+fn checksum(rules: &[Rule]) -> u64 {
+    let mut sum = 0u64;
+    for rule in rules {
+        sum = sum_of_rule(sum, rule);
+    }
+    sum
+}
+
+fn sum_of_rule(sum: u64, rule: &Rule) -> u64 {
+    let mut sum = sum;
+    for spans in rule.sets() {
+        sum = sum_of_set(sum, spans);
+    }
+    more(sum, rule.decision)
+}
+
+fn sum_of_set(sum: u64, spans: &[Span]) -> u64 {
+    let mut sum = sum;
+    for span in spans {
+        sum = more(more(sum, span.lo), span.hi);
+    }
+    sum
+}
+
+fn more(sum: u64, number: u32) -> u64 {
+    sum.wrapping_mul(31).wrapping_add(u64::from(number))
+}
