@@ -10,19 +10,30 @@ use crate::form::{CommandForm, CommandName, Need, Operands};
 use crate::words::Words;
 
 /// The forms of the commands that are built, in the order of the usage text.
-pub fn built_forms() -> [CommandForm; 1]
+pub fn built_forms() -> [CommandForm; 2]
     ensures forms { map form_seen result ≡ built_forms }
     ensures few { HaveFewWords result }
 {
-    [CommandForm {
-        command: CommandName::Expand,
-        name: "expand",
-        limit: Need::Maybe,
-        slot: Need::Maybe,
-        slots: Need::Never,
-        operands: Operands::Files { fewest: 1, most: 1 },
-        label: "LIST",
-    }]
+    [
+        CommandForm {
+            command: CommandName::Expand,
+            name: "expand",
+            limit: Need::Maybe,
+            slot: Need::Maybe,
+            slots: Need::Never,
+            operands: Operands::Files { fewest: 1, most: 1 },
+            label: "LIST",
+        },
+        CommandForm {
+            command: CommandName::Equiv,
+            name: "equiv",
+            limit: Need::Never,
+            slot: Need::Never,
+            slots: Need::Never,
+            operands: Operands::Files { fewest: 2, most: 2 },
+            label: "A B",
+        },
+    ]
 }
 
 /// The command that the words spell, of those that are built; none where they spell none.

@@ -7,6 +7,7 @@ ghost use Rattle.std.specs.Str.{bytes_eq};
 #[derive(Clone, Copy, Debug, PartialEq, Eq)]
 pub enum CommandName {
     Expand,
+    Equiv,
 }
 
 /// Whether a command takes an option: never, if it is there, or it has to be there.

@@ -169,6 +169,9 @@ fn built_commands_are_read_and_told(rt: HostRuntime) -> Result<(), Fail> {
             usage.push_str(part)?;
         }
     }
-    assert_eq!(rt; usage.as_str(), "  expand [--limit N] [--slot W] LIST\n");
+    assert_eq!(rt;
+        usage.as_str(),
+        "  expand [--limit N] [--slot W] LIST\n  equiv A B\n"
+    );
     Ok(())
 }

@@ -1,5 +1,6 @@
 -- The commands, and which one the words of the command line spell.
-use Rattle.std.specs.Prelude.{ℕ, List, [], ◌∷◌, Option, Some, None, option_and_then, unwrap_or}
+use Rattle.std.specs.Prelude.{ℕ, List, [], ◌∷◌, Option, Some, None, option_and_then, unwrap_or, if◌then◌else◌}
+use Rattle.std.specs.Str.{bytes_eq}
 use Rattle.command_words.specs.declared.form.CommandName.{CommandName}
 use Rattle.command_words.specs.declared.form.CommandName.TheVariants as names
 use Rattle.command_words.specs.Built.{built_forms}
@@ -13,16 +14,21 @@ pub record Sizes : Type 0 where
 -- a command, with its numbers and file words
 pub data Command : Type 0 where
   Expand : Sizes → List ℕ → Command
+  Equiv : List ℕ → List ℕ → Command
 
 -- the sizes of a table where these options are given or left out
 abbrev pub sizes_given : Option ℕ → Option ℕ → Sizes
 sizes_given limit slot = record { limit = unwrap_or limit 262144; slot = unwrap_or slot 144 }
 
--- a command by its name, its sizes and its file words
+-- a command by its name, its sizes and its file words; two equal file words are no command
 abbrev pub command_named : CommandName → Sizes → List (List ℕ) → Option Command
 command_named names.Expand sizes [] = None
 command_named names.Expand sizes (list ∷ []) = Some (Expand sizes list)
 command_named names.Expand sizes (list ∷ other ∷ files) = None
+command_named names.Equiv sizes [] = None
+command_named names.Equiv sizes (left ∷ []) = None
+command_named names.Equiv sizes (left ∷ right ∷ []) = if bytes_eq left right then None else Some (Equiv left right)
+command_named names.Equiv sizes (left ∷ right ∷ other ∷ files) = None
 
 -- the command that the words spell, or none
 abbrev pub command_of : List (List ℕ) → Option Command

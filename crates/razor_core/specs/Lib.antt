@@ -5,8 +5,10 @@ pub mod Outside
 pub mod Turns
 pub mod Taking
 pub mod Making
+pub mod Comparison
 pub mod Outcome
 pub mod Messages
 pub mod Ending
 pub mod Says
+pub mod Verdicts
 pub mod Promise

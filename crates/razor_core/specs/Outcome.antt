@@ -1,9 +1,12 @@
 -- What each command defines for what its inputs come to.
-use Rattle.std.specs.Prelude.{◌≡◌, ℕ, Bool, true, List, [], ◌∷◌, length}
+use Rattle.std.specs.Prelude.{◌≡◌, ◌⊎◌, ℕ, Bool, true, false, List, [], ◌∷◌, length}
 use Rattle.ternary_words.specs.Table.{Table}
 use Rattle.ternary_words.specs.TableText.{table_text}
-use Rattle.razor_core.specs.Command.{Command, Expand}
+use Rattle.razor_core.specs.Command.{Command, Expand, Equiv}
 use Rattle.razor_core.specs.Inputs.{Value, list_value}
+use Rattle.field_boxes.specs.Classifier.{Rule, source}
+use Rattle.field_boxes.specs.Fields.{stated}
+use Rattle.razor_core.specs.Comparison.{DecideAlike, IsFirstDifference, equal_line, differ_line}
 use Rattle.razor_core.specs.Messages.{rules_line}
 use Rattle.filter_reader.specs.FilterList.{FilterList}
 use Rattle.rule_expansion.specs.Tables.{IsExpansion}
@@ -22,7 +25,16 @@ pub record IsTableOf (list : FilterList) (Meets : Table → Type 0) (outcome : O
   pub text : outcome.text ≡ table_text table
   pub line : outcome.line ≡ rules_line (length list.rules) list.flagged
 
+-- all headers get one decision of both lists, or else this is the least that doesn't, with both decisions
+abbrev pub Compares : List (Rule (List ℕ)) → List (Rule (List ℕ)) → Outcome → Type 0
+Compares left right outcome =
+    (DecideAlike left right × (outcome ≡ record { yes = true; text = equal_line; line = [] }))
+    ⊎ ((header : List ℕ) × IsFirstDifference left right header × (outcome ≡ record { yes = false; text = differ_line header (source stated header left) (source stated header right); line = [] }))
+
 -- the outcome is one that the command defines for these values
 abbrev pub Gives : Command → List Value → Outcome → Type 0
 Gives (Expand sizes file) [] outcome = ⊥
 Gives (Expand sizes file) (list_value list ∷ values) outcome = IsTableOf list (IsExpansion list.rules sizes.slot) outcome
+Gives (Equiv left right) [] outcome = ⊥
+Gives (Equiv left right) (list_value first ∷ []) outcome = ⊥
+Gives (Equiv left right) (list_value first ∷ list_value second ∷ values) outcome = Compares first.rules second.rules outcome

@@ -1,6 +1,6 @@
 -- What the inputs of a command come to, each in its turn, and the entries that are needed.
 use Rattle.std.specs.Prelude.{◌≡◌, ℕ, ◌<◌, ◌≤◌, nat_lt, List, [], ◌∷◌, length, Result, Ok, Err, if◌then◌else◌}
-use Rattle.razor_core.specs.Command.{Command, Expand}
+use Rattle.razor_core.specs.Command.{Command, Expand, Equiv}
 use Rattle.razor_core.specs.Inputs.{Input, Value, list_value, inputs, most_bytes, spelled_by}
 use Rattle.razor_core.specs.Outside.{Outside, bytes_at}
 use Rattle.filter_reader.specs.FilterList.{BadLine}
@@ -18,6 +18,7 @@ stop_status (bad_line name bad) = 3
 stop_status (too_long name limit) = 4
 stop_status (too_many needed limit) = 4
 
+-- a bad line of the input ends its turn
 abbrev pub stopped_by : List ℕ → Result Value BadLine → Result Value Stop
 stopped_by name (Ok value) = Ok value
 stopped_by name (Err bad) = Err (bad_line name bad)
@@ -41,10 +42,12 @@ turns_of outside (input ∷ others) = before_others (turn input (bytes_at outsid
 abbrev pub Needs : Command → List Value → ℕ → Type 0
 Needs (Expand sizes file) [] needed = ⊥
 Needs (Expand sizes file) (list_value list ∷ values) needed = needed ≡ expanded_count list.rules
+Needs (Equiv left right) values needed = ⊥
 
--- the greatest number of entries that a command may make
+-- the greatest number of entries that a command may make, which is 0 where it makes none
 abbrev pub entry_limit : Command → ℕ
 entry_limit (Expand sizes file) = sizes.limit
+entry_limit (Equiv left right) = 0
 
 -- all turns pass, and no more entries are needed than the limit
 pub record Pass (command : Command) (before : Outside) (values : List Value) : Type 0 where

@@ -6,6 +6,7 @@ ghost use Rattle.razor_core.specs.Command.{command_named, command_of, sizes_give
 ghost use Rattle.razor_core.specs.Commands.{sizes_of, spelled};
 
 use crate::sizes::Sizes;
+use crate::two_files::TwoFiles;
 use command_words::{CommandName, Words, built_command};
 
 /// A command with its numbers and file words.
@@ -13,6 +14,8 @@ use command_words::{CommandName, Words, built_command};
 pub enum Command<'a> {
     /// Writes the direct expansion of the list.
     Expand { sizes: Sizes, list: &'a str },
+    /// Says whether two lists decide every header alike, or on which header they first differ.
+    Equiv(TwoFiles<'a>),
 }
 
 /// The sizes of a table where these options are given or left out.
@@ -34,6 +37,10 @@ fn named<'a>(name: CommandName, sizes: Sizes, files: &[&'a str]) -> Option<Comma
     match name {
         CommandName::Expand => match files {
             [list] => Some(Command::Expand { sizes, list }),
+            _ => None,
+        },
+        CommandName::Equiv => match files {
+            [left, right] if left != right => Some(Command::Equiv(TwoFiles { left, right })),
             _ => None,
         },
     }

@@ -41,6 +41,7 @@ pub fn take_list<'a, D: Desk>(
     ensures turn { MatchResult result
         (λ list. TakesTurn (list_input file.now) (D.remaining desk.old file.now) (D.remaining desk.new file.now) (value_of list))
         (λ ending. EndsTurn (list_input file.now) (D.remaining desk.old file.now) (D.faults desk.old file.now) (D.faults desk.new file.now) ending) }
+    ensures counts { (other : List ℕ) → D.faults desk.old other ≤ D.faults desk.new other }
     ensures others { (other : List ℕ) → other ≢ file.now → Keeps (D.remaining desk.old other) (D.remaining desk.new other) }
 {
     let mut text = Vec::new(alloc);

@@ -2,6 +2,7 @@
 #![tactic(auto)]
 
 mod command;
+mod comparison;
 mod ending;
 mod input;
 mod making;
@@ -10,6 +11,7 @@ pub mod rows;
 mod run;
 mod sizes;
 mod top;
+mod two_files;
 
 pub use command_words::Words;
 pub use making::{CompileError, expand};

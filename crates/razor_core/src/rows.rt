@@ -2,7 +2,7 @@
 #![tactic(auto, unfolding(command_words::specs::Commands::command_of, command_words::specs::Commands::fitted, command_words::specs::Items::reading_of, command_words::specs::Options::option_number, command_words::specs::Numbers::number_between))]
 
 ghost use Rattle.std.specs.Prelude.{◌≡◌, ◌∷◌, [], Some, None, codes};
-ghost use Rattle.razor_core.specs.Command.{Expand, command_of};
+ghost use Rattle.razor_core.specs.Command.{Expand, Equiv, command_of};
 
 /// What words spell: the limit and the width of a slot are the usual ones where they are left out.
 pub fn worked_words()
@@ -11,4 +11,6 @@ pub fn worked_words()
     ensures no_file { command_of (codes "expand" ∷ []) ≡ None }
     ensures two_files { command_of (codes "expand" ∷ codes "a" ∷ codes "b" ∷ []) ≡ None }
     ensures other_name { command_of (codes "expands" ∷ codes "in" ∷ []) ≡ None }
+    ensures two_lists { command_of (codes "equiv" ∷ codes "a" ∷ codes "b" ∷ []) ≡ Some (Equiv (codes "a") (codes "b")) }
+    ensures one_list { command_of (codes "equiv" ∷ codes "a" ∷ codes "a" ∷ []) ≡ None }
 {}

@@ -1,6 +1,6 @@
 ghost use Rattle.std.specs.Prelude.{◌≡◌, ◌≢◌, ℕ, List, Some, length};
 ghost use Rattle.std.specs.Io.KnownBytes.{Keeps};
-ghost use Rattle.razor_core.specs.Command.{Expand};
+ghost use Rattle.razor_core.specs.Command.{Expand, Equiv};
 ghost use Rattle.razor_core.specs.Commands.{sizes_of, spelled};
 ghost use Rattle.razor_core.specs.Outside.{seen, IsNoInput};
 ghost use Rattle.filter_reader.specs.Lists.{filter_list};
@@ -8,11 +8,14 @@ ghost use Rattle.razor_core.specs.Ending.{Ends, IsEndingOf, summary_text};
 ghost use Rattle.razor_core.specs.Messages.{rules_line};
 
 use crate::command::Command;
+use crate::comparison::{answered, write_verdict};
 use crate::ending::{Ending, Summary};
 use crate::input::take_list;
 use crate::making::{CompileError, expand};
 use crate::sizes::Sizes;
+use crate::two_files::TwoFiles;
 use filter_reader::RuleList;
+use list_equiv::equal;
 use razor_base::{Desk, Sink};
 use std::alloc::Global;
 use ternary_words::write_table;
@@ -32,6 +35,7 @@ pub fn run<'a, D: Desk, K: Sink>(
 {
     match command {
         Command::Expand { sizes, list } => expand_list(alloc, sizes, list, desk, out),
+        Command::Equiv(files) => compare_lists(alloc, files, desk, out),
     }
 }
 
@@ -59,6 +63,37 @@ fn expand_list<'a, D: Desk, K: Sink>(
     };
     match write_table(&table, out) {
         Ok(()) => Ending::Done(summary(&list)),
+        Err(_) => Ending::WriteFault,
+    }
+}
+
+/// Says whether the lists decide every header alike, or on which they first differ.
+fn compare_lists<'a, D: Desk, K: Sink>(
+    alloc: Global,
+    files: TwoFiles<'a>,
+    desk: &mut D,
+    out: &mut K,
+) -> Ending<'a>
+    ensures ends { Ends (Equiv files.entry.left.now files.entry.right.now)
+        (seen D.remaining D.faults K.written K.faults desk.old out.old)
+        (seen D.remaining D.faults K.written K.faults desk.new out.new)
+        result }
+    ensures others { (other : List ℕ) → other ≢ files.entry.left.now → other ≢ files.entry.right.now → Keeps (D.remaining desk.old other) (D.remaining desk.new other) }
+{
+    let left = match take_list(alloc, files.left, desk) {
+        Ok(list) => list,
+        Err(ending) => return ending,
+    };
+    let right = match take_list(alloc, files.right, desk) {
+        Ok(list) => list,
+        Err(ending) => return ending,
+    };
+    let verdict = match equal(alloc, &left, &right) {
+        Ok(verdict) => verdict,
+        Err(_) => return Ending::Memory,
+    };
+    match write_verdict(verdict, &left, &right, out) {
+        Ok(()) => answered(verdict),
         Err(_) => Ending::WriteFault,
     }
 }

@@ -1,3 +1,4 @@
+mod comparing;
 mod faults;
 mod limits;
 
@@ -187,7 +188,7 @@ fn refuses_the_first_bad_line(rt: HostRuntime) -> Result<(), Fail> {
 
 #[test]
 fn knows_its_words(rt: HostRuntime) -> Result<(), Fail> {
-    let none: [&[&str]; 10] = [
+    let none: [&[&str]; 11] = [
         &[],
         &["expand"],
         &["compile", "in"],
@@ -197,10 +198,11 @@ fn knows_its_words(rt: HostRuntime) -> Result<(), Fail> {
         &["expand", "--lim", "5", "in"],
         &["expand", "-x", "in"],
         &["expand", "in", "in"],
+        &["equiv", "a", "a"],
         &["--help"],
     ];
     for words in none {
-        let usage = b"usage: razor COMMAND\n  expand [--limit N] [--slot W] LIST\n";
+        let usage = b"usage: razor COMMAND\n  expand [--limit N] [--slot W] LIST\n  equiv A B\n";
         check(&rt, words, calm(WEB), 2, b"", usage)?;
     }
     let limits: [&[&str]; 3] = [
