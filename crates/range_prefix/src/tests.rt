@@ -1,4 +1,4 @@
-ghost use Rattle.std.specs.Prelude.{◌≤◌};
+ghost use Rattle.std.specs.Prelude.{◌≤◌, ◌<◌, ◌^◌};
 
 use crate::{count_all, cover, cover_all, cover_count};
 use field_boxes::{Prefix, Span};
@@ -52,7 +52,8 @@ fn the_widest_field_is_one_prefix(rt: HostRuntime) -> Result<(), Fail> {
 }
 
 fn count_between(lo: u32, hi: u32, width: u8) -> Result<u32, Fail>
-    requires { width ≤ 32 }
+    requires wide { width ≤ 32 }
+    requires inside { hi < 2 ^ width }
 {
     let span = Span::new(lo, hi).ok_or("no span")?;
     Ok(cover_count(span, width))
