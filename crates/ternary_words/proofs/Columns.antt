@@ -95,7 +95,7 @@ mask-bits (suc n) m v =
     ap (λ b. b ∷ map mask_bit (trits (bits n m) (bits n v))) (mask_is (m / 2 ^ n % 2) (v / 2 ^ n % 2) (omega arith) (omega arith))
     ∙ ap (λ bs. nat_eq (m / 2 ^ n % 2) 1 ∷ bs) (mask-bits n m v)
 
-trits-append : (ms ns vs us : List Bool) → length ms ≡ length vs → trits (ms ++ ns) (vs ++ us) ≡ trits ms vs ++ trits ns us
+pub trits-append : (ms ns vs us : List Bool) → length ms ≡ length vs → trits (ms ++ ns) (vs ++ us) ≡ trits ms vs ++ trits ns us
 trits-append [] ns [] us e = refl
 trits-append [] ns (v ∷ vs) us e = absurd (omega arith)
 trits-append (m ∷ ms) ns [] us e = absurd (omega arith)

@@ -1,9 +1,9 @@
 -- The value of a word of prefixes lies within its mask.
 use Rattle.std.proofs.Common.{◌≡◌, ℕ, ◌+◌, ◌-◌, ◌*◌, ◌/◌, ◌%◌, ◌^◌, ◌<◌, List, length, map, get_or, ap, sym, subst, ◌∙◌, refl, arith}
-use Rattle.std.specs.Prelude.{bit_and}
+use Rattle.std.specs.Prelude.{bit_and, slice_index}
 use Rattle.std.proofs.lemmas.Nat.{pow_pos, shr_split, shr_below, and_mask, and_block}
 use Rattle.std.proofs.Math.Nat.{mod-eq_of_lt}
-use Rattle.field_boxes.specs.Fields.{stated}
+use Rattle.field_boxes.specs.Fields.{stated, width}
 use Rattle.field_boxes.specs.Prefix.{FitsWidth}
 use Rattle.field_boxes.specs.declared.prefix.Prefix.{Prefix}
 use Rattle.ternary_words.specs.Word.{key_of}
@@ -58,3 +58,18 @@ masked_key ps d five fits =
     let f = fit_five ps d five fits in
     subst (λ (qs : List Prefix). bit_and (key_of (map (λ p. p.value) qs)) (key_of (masks_of stated qs)) ≡ key_of (map (λ p. p.value) qs)) (sym (five_of ps d five))
     (masked_five (get_or ps 0 d) (get_or ps 1 d) (get_or ps 2 d) (get_or ps 3 d) (get_or ps 4 d) f.source f.destination f.source_port f.destination_port f.protocol)
+
+-- five values within their masks
+pub masked_fields : (vs ms : List ℕ) → ((k : ℕ) → k < 5 → slice_index vs k < 2 ^ width k) → ((k : ℕ) → k < 5 → slice_index ms k < 2 ^ width k)
+    → ((k : ℕ) → k < 5 → bit_and (slice_index vs k) (slice_index ms k) ≡ slice_index vs k) → bit_and (key_of vs) (key_of ms) ≡ key_of vs
+masked_fields vs ms small fits within =
+    let v = slice_index vs in
+    let m = slice_index ms in
+    let turned = in_turn (v 0) (v 1) (v 2) (v 3) (v 4) in
+    let pair = masked_joined 32 (v 0) (m 0) (v 1) (m 1) (small 1 (omega arith)) (fits 1 (omega arith)) (within 0 (omega arith)) (within 1 (omega arith)) in
+    let three = masked_joined 16 _ _ (v 2) (m 2) (small 2 (omega arith)) (fits 2 (omega arith)) pair (within 2 (omega arith)) in
+    let four = masked_joined 16 _ _ (v 3) (m 3) (small 3 (omega arith)) (fits 3 (omega arith)) three (within 3 (omega arith)) in
+    let five = masked_joined 8 _ _ (v 4) (m 4) (small 4 (omega arith)) (fits 4 (omega arith)) four (within 4 (omega arith)) in
+    ap (λ x. bit_and x (key_of ms)) turned
+    ∙ ap (bit_and ((((v 0 * 2 ^ 32 + v 1) * 2 ^ 16 + v 2) * 2 ^ 16 + v 3) * 2 ^ 8 + v 4)) (in_turn (m 0) (m 1) (m 2) (m 3) (m 4))
+    ∙ five ∙ sym turned

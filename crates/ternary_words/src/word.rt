@@ -15,9 +15,9 @@ pub struct Word {
 }
 
 impl Word {
-    ghost use Rattle.std.specs.Prelude.{ℕ, List};
-    ghost use Rattle.field_boxes.specs.Fields.{IsHeader, stated};
-    ghost use Rattle.ternary_words.specs.Word.{agrees, header_bits};
+    ghost use Rattle.std.specs.Prelude.{ℕ, List, slice_index};
+    ghost use Rattle.field_boxes.specs.Fields.{IsHeader, stated, width};
+    ghost use Rattle.ternary_words.specs.Word.{agrees, header_bits, trits};
     ghost use Rattle.ternary_words.specs.Prefixes.{FitFields, all_hold, fields_trits};
     ghost use Rattle.ternary_words.specs.Views.{word_of};
 
@@ -31,6 +31,19 @@ impl Word {
         Word {
             value: key(values(prefixes)),
             mask: key(masks(prefixes)),
+        }
+    }
+
+    /// The word with these five values and masks: a field's trit is `*` where its mask has a 0.
+    pub fn of_fields(values: &[u32; 5], masks: &[u32; 5]) -> Word
+        requires values { (k : ℕ) → k < 5 → slice_index values.now k < 2 ^ width k }
+        requires masks { (k : ℕ) → k < 5 → slice_index masks.now k < 2 ^ width k }
+        requires within { (k : ℕ) → k < 5 → bit_and (slice_index values.now k) (slice_index masks.now k) ≡ slice_index values.now k }
+        ensures { word_of result ≡ trits (header_bits masks.now) (header_bits values.now) }
+    {
+        Word {
+            value: key(*values),
+            mask: key(*masks),
         }
     }
 

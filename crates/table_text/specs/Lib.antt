@@ -1,0 +1,15 @@
+pub mod Lines
+pub mod Steps
+pub mod Numbers
+pub mod Heading
+pub mod Names
+pub mod Trits
+pub mod Columns
+pub mod Reading
+pub mod Refused
+pub mod Seen
+pub mod HeadingViews
+pub mod ColumnViews
+pub mod ColumnBounds
+pub mod EntryViews
+pub mod EntriesViews
