@@ -8,7 +8,8 @@ use Rattle.std.proofs.lemmas.Option.{slice_get-get_or, slice_get-map, slice_get_
 use Rattle.std.proofs.lemmas.List.{length-map, map-append, length-append}
 use Rattle.std.proofs.lemmas.Grind.{common_steps}
 use Rattle.std.proofs.lemmas.Slice.Eq.{bytes_eq-Decides}
-use Rattle.field_boxes.specs.Names.{miss, is_known, name_at, with_name, number_of, text_of, AreNames}
+use Rattle.field_boxes.proofs.Distinct.{AreDistinct-with_name, old_number}
+use Rattle.field_boxes.specs.Names.{miss, is_known, name_at, with_name, number_of, text_of, AreDistinct, AreNames}
 
 pub list_any-map : {X Y : Type 0} (p : Y → Bool) (f : X → Y) (xs : List X) → list_any p (map f xs) ≡ list_any (λ x. p (f x)) xs
 list_any-map p f [] = refl
@@ -46,29 +47,24 @@ text_at f ks (suc n) k some h =
     let at : slice_get ks n ≡ Some k = ap (slice_get ks) (sym same) ∙ h in
     rw (slice_get-map f ks n, at) refl
 
-named_with : (names : List (List ℕ)) (name : List ℕ) (t : Bool) → (t ≡ false → length names < 262144) → name ≢ miss → AreNames names → AreNames (cond t names (names ++ name ∷ []))
-named_with names name true room named h = h
-named_with names name false room named h = record {
+named_with : (names : List (List ℕ)) (name : List ℕ) (t : Bool) → (t ≡ false → length names < 262144) → name ≢ miss → AreNames names → AreDistinct (cond t names (names ++ name ∷ [])) → AreNames (cond t names (names ++ name ∷ []))
+named_with names name true room named h distinct = h
+named_with names name false room named h distinct = record {
   few = omega (arith, room refl, length-append names (name ∷ []));
   named = grind (arith, common_steps, h.named);
+  distinct = distinct;
 }
 
 pub AreNames-with_name : (names : List (List ℕ)) (name : List ℕ) → (is_known names name ≡ false → length names < 262144) → name ≢ miss → AreNames names → AreNames (with_name names name)
-AreNames-with_name names name room named h = named_with names name (is_known names name) room named h
+AreNames-with_name names name room named h = named_with names name (is_known names name) room named h (AreDistinct-with_name names name h.distinct)
 
 pub number_by : {X : Type 0} (f : X → List ℕ) (ks : List X) (name : List ℕ) (r : Option ℕ) → bytes_eq name miss ≡ false → r ≡ position (λ k. bytes_eq name (f k)) ks →
     option_map (λ k. k + 1) r ≡ number_of (map f ks) name
 number_by f ks name r other h = rw (other, position-map (bytes_eq name) f ks) (ap (option_map (λ k. k + 1)) h)
 
-get_append : (names more : List (List ℕ)) (k : ℕ) → k < length names → slice_get (names ++ more) k ≡ slice_get names k
-get_append [] more k h = absurd (omega arith)
-get_append (name ∷ names) more zero h = refl
-get_append (name ∷ names) more (suc k) h = get_append names more k (omega arith)
-
 kept_by : (names : List (List ℕ)) (name : List ℕ) (t : Bool) (k : ℕ) → k ≤ length names → name_at (cond t names (names ++ name ∷ [])) k ≡ name_at names k
 kept_by names name true k h = refl
-kept_by names name false zero h = refl
-kept_by names name false (suc k) h = get_append names (name ∷ []) k (omega arith)
+kept_by names name false k h = old_number names name k h
 
 -- a name keeps its number
 pub name_at-with_name : (names : List (List ℕ)) (name : List ℕ) (k : ℕ) → k ≤ length names → name_at (with_name names name) k ≡ name_at names k

@@ -1,6 +1,7 @@
 pub mod Aligned
 pub mod Bits
 pub mod Covered
+pub mod Distinct
 pub mod FieldByField
 pub mod Filled
 pub mod FirstSeen

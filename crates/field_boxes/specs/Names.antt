@@ -1,5 +1,5 @@
 -- The names of decisions.
-use Rattle.std.specs.Prelude.{◌≢◌, ℕ, zero, suc, ◌≤◌, Bool, not, ◌&&◌, ◌||◌, ◌==◌, nat_le, List, [], ◌∷◌, ◌++◌, length, All, Option, Some, None, option_map, position, ◌+◌, slice_get, unwrap_or, if◌then◌else◌}
+use Rattle.std.specs.Prelude.{◌≡◌, ◌≢◌, ℕ, zero, suc, ◌≤◌, Bool, not, ◌&&◌, ◌||◌, ◌==◌, nat_le, List, [], ◌∷◌, ◌++◌, length, All, Option, Some, None, option_map, position, ◌+◌, slice_get, unwrap_or, if◌then◌else◌}
 use Rattle.std.specs.List.{list_any, list_all}
 use Rattle.std.specs.Char.{is_ascii_alphanumeric}
 use Rattle.std.specs.Str.{bytes_eq}
@@ -41,7 +41,12 @@ is_known names name = list_any (bytes_eq name) names
 abbrev pub with_name : List (List ℕ) → List ℕ → List (List ℕ)
 with_name names name = if is_known names name then names else names ++ name ∷ []
 
--- there are at most so many names, and none is the word for no decision
+-- different numbers, 0 for none among them, stand for different names
+abbrev pub AreDistinct : List (List ℕ) → Type 0
+AreDistinct names = (i j : ℕ) → i ≤ length names → j ≤ length names → name_at names i ≡ name_at names j → i ≡ j
+
+-- there are at most so many names, none is the word for no decision, and none stands twice
 pub record AreNames (names : List (List ℕ)) : Type 0 where
   pub few : length names ≤ 262144
   pub named : All (λ name. name ≢ miss) names
+  pub distinct : AreDistinct names

@@ -1,5 +1,5 @@
 ghost use Rattle.std.specs.Prelude.{◌≡◌, ◌≢◌, ◌≤◌, ◌<◌, ◌↔◌, ℕ, false, List, [], length, Some, IfOk, IfSome, IsNone, OnOk, OnErr};
-ghost use Rattle.field_boxes.specs.Names.{miss, is_known, name_at, number_of, text_of, with_name};
+ghost use Rattle.field_boxes.specs.Names.{AreNames, miss, is_known, name_at, number_of, text_of, with_name};
 
 use indexmap::IndexSet;
 use razor_base::Memory;
@@ -96,5 +96,14 @@ impl Decisions {
             alloc,
             names: self.names.clone()?,
         })
+    }
+
+    /// There are at most 262,144 names, none is `miss`, and none stands twice.
+    ///
+    /// The call does nothing: it tells its caller what holds of the names at all times.
+    pub fn are_names(&self)
+        ensures { AreNames self.now }
+    {
+        let _names = &self.names;
     }
 }

@@ -6,12 +6,12 @@ use Rattle.field_boxes.specs.declared.rule.Rule as code
 use Rattle.field_boxes.specs.Fields.{stated, IsHeader}
 use Rattle.field_boxes.specs.Classifier.{source}
 use Rattle.field_boxes.specs.NamedRules.{IsNumberedBy}
-use Rattle.field_boxes.specs.Names.{name_at}
+use Rattle.field_boxes.specs.Names.{name_at, AreDistinct}
 use Rattle.filter_reader.specs.declared.list.RuleList.{RuleList}
 use Rattle.node_store.specs.Diagram.{Node, answer}
 use Rattle.fdd_build.specs.Rules.{decided}
 use Rattle.fdd_ops.specs.Difference.{IsLeastDifference}
-use Rattle.list_equiv.specs.Names.{AreDistinct, Keeps}
+use Rattle.list_equiv.specs.Names.{Keeps}
 use Rattle.list_equiv.specs.Numbering.{AreNumbered}
 use Rattle.list_equiv.specs.Numbers.{AreAlike, IsFirstApart}
 use Rattle.list_equiv.specs.Verdict.{name_decided, AreEqual, IsFirstDifference}

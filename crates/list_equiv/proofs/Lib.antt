@@ -1,4 +1,4 @@
-pub mod Separate
+pub mod Kept
 pub mod Renumbered
 pub mod Decided
 pub mod Compared

@@ -1,7 +1,6 @@
 //! The names of the decisions of both lists, each with one number.
 ghost use Rattle.std.specs.Prelude.{◌≡◌, ◌<◌, ◌≤◌, ◌+◌, ℕ, [], length, Some, IfOk};
-ghost use Rattle.field_boxes.specs.Names.{name_at, with_name};
-ghost use Rattle.list_equiv.specs.Names.{AreDistinct};
+ghost use Rattle.field_boxes.specs.Names.{AreDistinct, name_at, with_name};
 
 use indexmap::IndexSet;
 use razor_base::Memory;
@@ -20,7 +19,7 @@ pub(crate) struct CommonNames {
 impl Model for CommonNames {
     ghost use Rattle.std.specs.Prelude.{ℕ, List, map};
     ghost use Rattle.std.specs.String.{string_bytes};
-    ghost use Rattle.list_equiv.specs.Names.{AreDistinct};
+    ghost use Rattle.field_boxes.specs.Names.{AreDistinct};
 
     ghost Value = { List (List ℕ) };
 

@@ -1,8 +1,8 @@
 //! Laws of the definitions, for whoever relies on them. The functions do nothing.
-ghost use Rattle.std.specs.Prelude.{◌≡◌, ◌≤◌, ◌^◌, ℕ, List, Some, length, map, slice_get};
+ghost use Rattle.std.specs.Prelude.{◌≡◌, ◌≤◌, ◌^◌, ℕ, List, Some, length, map};
 ghost use Rattle.field_boxes.specs.Classifier.{Rule};
 ghost use Rattle.field_boxes.specs.Fields.{AreValues};
-ghost use Rattle.field_boxes.specs.Names.{name_at};
+ghost use Rattle.field_boxes.specs.Names.{AreDistinct, name_at};
 ghost use Rattle.node_store.specs.Diagram.{Node, answer};
 ghost use Rattle.ternary_words.specs.declared.entry.Entry.{Entry};
 ghost use Rattle.ternary_words.specs.Table.{answer as table_answer};
@@ -28,12 +28,10 @@ pub fn at_most_one_entry_a_header()
     ensures { (fields : List ℕ) (R : List (Rule (List ℕ))) (n : ℕ) → IsLeastCost fields R n → n ≤ 2 ^ bits_of fields }
 {}
 
-/// Names of which none stands twice tell the answers of a diagram apart, where each answer is 0 or the
-/// number of a name.
+/// Distinct names tell the answers of a diagram apart, where each answer is 0 or the number of a name.
 pub fn distinct_names_tell_apart()
     ensures { (nodes : List Node) (fields : List ℕ) (id : ℕ) (names : List (List ℕ)) →
-        ((i j : ℕ) (name : List ℕ) → slice_get names i ≡ Some name → slice_get names j ≡ Some name → i ≡ j) →
-        ((values : List ℕ) → AreValues fields values → answer nodes id values ≤ length names) → NamesApart nodes fields id (name_at names) }
+        AreDistinct names → ((values : List ℕ) → AreValues fields values → answer nodes id values ≤ length names) → NamesApart nodes fields id (name_at names) }
 {}
 
 /// A table answers by name what its first match decides by number.

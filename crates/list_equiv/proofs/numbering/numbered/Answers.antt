@@ -1,6 +1,6 @@
 use Rattle.std.proofs.Common.{◌∙◌, ap, arith, length, refl, Some}
 use Rattle.list_equiv.specs.Names.{Keeps}
-use Rattle.list_equiv.proofs.Separate.{Keeps-with_name, kept_twice, with_name-longer}
+use Rattle.list_equiv.proofs.Kept.{Keeps-with_name, kept_twice, with_name-longer}
 use Rattle.list_equiv.proofs.Renumbered.{named_pushed, numbered_pushed}
 use Rattle.list_equiv.proofs.numbering.numbered.Goals as goal
 

@@ -3,10 +3,9 @@ use Rattle.std.specs.Prelude.{map}
 use Rattle.std.specs.List.{list_any}
 use Rattle.std.specs.Str.{bytes_eq}
 use Rattle.std.specs.String.{string_bytes}
-use Rattle.field_boxes.specs.Names.{with_name}
+use Rattle.field_boxes.specs.Names.{with_name, AreDistinct}
 use Rattle.field_boxes.proofs.FirstSeen.{list_any-map, seen, number_found, number_stored, with_name-map}
-use Rattle.list_equiv.specs.Names.{AreDistinct}
-use Rattle.list_equiv.proofs.Separate.{AreDistinct-with_name}
+use Rattle.field_boxes.proofs.Distinct.{AreDistinct-with_name}
 use Rattle.list_equiv.proofs.names.CommonNames.number.Goals as goal
 use Rattle.list_equiv.proofs.names.CommonNames.number.Goals.{In_ok-place}
 

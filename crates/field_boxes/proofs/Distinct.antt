@@ -1,5 +1,5 @@
 -- One more name, and the names stay distinct.
-use Rattle.std.proofs.Common.{◌≡◌, ◌∷◌, ◌++◌, ℕ, ◌+◌, ◌<◌, ◌≤◌, zero, suc, List, Bool, true, false, cond, [], ap, refl, sym, ◌∙◌, arith, length, Some, inl, inr}
+use Rattle.std.proofs.Common.{◌≡◌, ◌∷◌, ◌++◌, ℕ, ◌<◌, ◌≤◌, zero, suc, List, Bool, true, false, cond, [], ap, refl, sym, ◌∙◌, arith, length, Some, inl, inr}
 use Rattle.std.specs.List.{list_any}
 use Rattle.std.specs.Prelude.{slice_get, ◌⊎◌}
 use Rattle.std.specs.Str.{bytes_eq}
@@ -7,10 +7,16 @@ use Rattle.std.proofs.lemmas.Bool.{cases_lt, false≢true, or_left, or_right}
 use Rattle.std.proofs.lemmas.List.{length-append}
 use Rattle.std.proofs.lemmas.Option.{none-some, slice_get_within}
 use Rattle.std.proofs.lemmas.Slice.Eq.{bytes_eq-Decides}
-use Rattle.field_boxes.specs.Names.{is_known, name_at, with_name}
-use Rattle.field_boxes.proofs.FirstSeen.{name_at-with_name}
-use Rattle.node_store.proofs.Growth.{kept_place, last_place}
-use Rattle.list_equiv.specs.Names.{AreDistinct, Keeps}
+use Rattle.field_boxes.specs.Names.{is_known, name_at, with_name, AreDistinct}
+
+pub get_append : (names more : List (List ℕ)) (k : ℕ) → k < length names → slice_get (names ++ more) k ≡ slice_get names k
+get_append [] more k h = absurd (omega arith)
+get_append (name ∷ names) more zero h = refl
+get_append (name ∷ names) more (suc k) h = get_append names more k (omega arith)
+
+last_name : (names : List (List ℕ)) (name : List ℕ) → slice_get (names ++ name ∷ []) (length names) ≡ Some name
+last_name [] name = refl
+last_name (n ∷ names) name = last_name names name
 
 -- a name that has a place is known
 there : (names : List (List ℕ)) (name : List ℕ) (k : ℕ) → slice_get names k ≡ Some name → list_any (bytes_eq name) names ≡ true
@@ -24,15 +30,15 @@ no_old_number : (names : List (List ℕ)) (name : List ℕ) (i : ℕ) → list_a
 no_old_number names name zero h at = none-some name at
 no_old_number names name (suc k) h at = false≢true (sym h ∙ there names name k at)
 
-old_number : (names : List (List ℕ)) (name : List ℕ) (i : ℕ) → i ≤ length names → name_at (names ++ name ∷ []) i ≡ name_at names i
+pub old_number : (names : List (List ℕ)) (name : List ℕ) (i : ℕ) → i ≤ length names → name_at (names ++ name ∷ []) i ≡ name_at names i
 old_number names name zero h = refl
-old_number names name (suc k) h = kept_place names (name ∷ []) k (omega (arith, h))
+old_number names name (suc k) h = get_append names (name ∷ []) k (omega (arith, h))
 
 -- where a new name stands behind the others, the number of the new one is none of theirs
 unlike : (names : List (List ℕ)) (name : List ℕ) (i j : ℕ) → list_any (bytes_eq name) names ≡ false → i ≤ length names → j ≡ suc (length names) →
     name_at (names ++ name ∷ []) i ≡ name_at (names ++ name ∷ []) j → ⊥
 unlike names name i j h old new e =
-    no_old_number names name i h (sym (old_number names name i old) ∙ e ∙ ap (name_at (names ++ name ∷ [])) new ∙ last_place names name)
+    no_old_number names name i h (sym (old_number names name i old) ∙ e ∙ ap (name_at (names ++ name ∷ [])) new ∙ last_name names name)
 
 distinct_by : (names : List (List ℕ)) (name : List ℕ) (i j : ℕ) → list_any (bytes_eq name) names ≡ false → AreDistinct names → i ≤ suc (length names) → j ≤ suc (length names) →
     (length names < i) ⊎ (i ≤ length names) → (length names < j) ⊎ (j ≤ length names) → name_at (names ++ name ∷ []) i ≡ name_at (names ++ name ∷ []) j → i ≡ j
@@ -49,25 +55,3 @@ distinct_with names name false h d = λ i j wi wj e.
 
 pub AreDistinct-with_name : (names : List (List ℕ)) (name : List ℕ) → AreDistinct names → AreDistinct (with_name names name)
 AreDistinct-with_name names name d = distinct_with names name (is_known names name) refl d
-
-longer_by : (names : List (List ℕ)) (name : List ℕ) (t : Bool) → (length names ≤ length (cond t names (names ++ name ∷ []))) × (length (cond t names (names ++ name ∷ [])) ≤ length names + 1)
-longer_by names name true = (omega arith, omega arith)
-longer_by names name false = (simp length-append (omega arith), simp length-append (omega arith))
-
-pub with_name-longer : (names : List (List ℕ)) (name : List ℕ) → (length names ≤ length (with_name names name)) × (length (with_name names name) ≤ length names + 1)
-with_name-longer names name = longer_by names name (is_known names name)
-
-pub Keeps-with_name : (old new : List (List ℕ)) (name : List ℕ) → new ≡ with_name old name → Keeps old new
-Keeps-with_name old new name e = record {
-  longer = rw e (with_name-longer old name).0;
-  kept = λ k h. ap (λ names. name_at names k) e ∙ name_at-with_name old name k h;
-}
-
-pub kept_twice : (first second third : List (List ℕ)) → Keeps first second → Keeps second third → Keeps first third
-kept_twice first second third a b =
-    let la = a.longer in
-    let lb = b.longer in
-    record {
-      longer = omega arith;
-      kept = λ k h. b.kept k (omega arith) ∙ a.kept k h;
-    }
