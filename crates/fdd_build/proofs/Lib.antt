@@ -1,3 +1,4 @@
+pub mod Decided
 pub mod Joined
 pub mod Shown
 pub mod LaidParts

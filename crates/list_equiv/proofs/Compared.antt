@@ -15,7 +15,7 @@ use Rattle.list_equiv.specs.Names.{Keeps}
 use Rattle.list_equiv.specs.Numbering.{AreNumbered}
 use Rattle.list_equiv.specs.Numbers.{AreAlike, IsFirstApart}
 use Rattle.list_equiv.specs.Verdict.{name_decided, AreEqual, IsFirstDifference}
-use Rattle.list_equiv.proofs.Decided.{named, within}
+use Rattle.fdd_build.proofs.Decided.{named, within}
 use Rattle.list_equiv.proofs.Renumbered.{stays}
 
 -- two lists whose rules have the numbers of common names

@@ -1,69 +1,17 @@
--- What rules decide by number, and by name.
-use Rattle.std.proofs.Common.{◌≡◌, ◌∷◌, ℕ, ◌<◌, ◌≤◌, zero, suc, List, [], Bool, true, false, cond, ap, refl, sym, subst, ◌∙◌, arith, length, get_or, Some}
-use Rattle.std.specs.Prelude.{◌&&◌, map, find, unwrap_or, option_map, slice_get, Option}
-use Rattle.std.specs.List.{AllByRecursion}
+-- What a list decides on one header, by the rule that is found first.
+use Rattle.std.proofs.Common.{◌≡◌, ◌∷◌, ℕ, ◌≤◌, List, [], Bool, true, false, cond, ap, refl, sym, subst, ◌∙◌, length, Some}
+use Rattle.std.specs.Prelude.{find, unwrap_or, option_map, Option}
 use Rattle.std.proofs.lemmas.List.Elements.{recursion_from_All}
-use Rattle.std.proofs.lemmas.Option.{slice_get-get_or}
 use Rattle.field_boxes.specs.declared.rule.Rule as code
 use Rattle.field_boxes.specs.Fields.{stated}
-use Rattle.field_boxes.specs.Classifier.{Rule, union_holds, set_holds, matches, source}
-use Rattle.field_boxes.specs.NamedRules.{IsNumberedBy, named_rule, named_rules}
-use Rattle.field_boxes.specs.Names.{name_at, text_of}
+use Rattle.field_boxes.specs.Classifier.{matches}
+use Rattle.field_boxes.specs.NamedRules.{IsNumberedBy}
+use Rattle.field_boxes.specs.Names.{name_at}
 use Rattle.field_boxes.specs.Rules.{rule_of}
 use Rattle.filter_reader.specs.declared.list.RuleList.{RuleList}
 use Rattle.fdd_build.specs.Rules.{decided}
+use Rattle.fdd_build.proofs.Decided.{decided_head, named, within}
 use Rattle.list_equiv.specs.Verdict.{IsDecision}
-
--- what a rule decides has no part in whether it matches
-matches_by_sets : {A B : Type 0} (fields values : List ℕ) (r : Rule A) (s : Rule B) → r.sets ≡ s.sets → matches fields values r ≡ matches fields values s
-matches_by_sets [] values r s e = refl
-matches_by_sets (f ∷ fields) [] r s e = refl
-matches_by_sets (f ∷ fields) (v ∷ values) r s e =
-    ap (λ sets. union_holds v (unwrap_or (slice_get sets f) []) && matches fields values r) e
-    ∙ ap (λ b. set_holds f v s && b) (matches_by_sets fields values r s e)
-
-decided_head : (header : List ℕ) (rule : code.Rule) (rules : List code.Rule) (m : Bool) → matches stated header (rule_of rule) ≡ m →
-    decided (rule ∷ rules) header ≡ cond m rule.decision (decided rules header)
-decided_head header rule rules true h =
-    ap (λ b. unwrap_or (option_map (λ (r : Rule ℕ). r.decision) (cond b (Some (rule_of rule)) (find (matches stated header) (map rule_of rules)))) 0) h
-decided_head header rule rules false h =
-    ap (λ b. unwrap_or (option_map (λ (r : Rule ℕ). r.decision) (cond b (Some (rule_of rule)) (find (matches stated header) (map rule_of rules)))) 0) h
-
--- the number of a name is no number of none
-some_name : (names : List (List ℕ)) (n : ℕ) → (0 < n) × (n ≤ length names) → Some (text_of (name_at names n)) ≡ name_at names n
-some_name names zero h = absurd (omega (arith, h.0))
-some_name names (suc k) h =
-    let at : slice_get names k ≡ Some (get_or names k []) = slice_get-get_or names k [] (omega (arith, h.1)) in
-    rw at refl
-
-abbrev IsNamed : List (List ℕ) → List code.Rule → List ℕ → Type 0
-IsNamed names rules header = source stated header (named_rules names rules) ≡ name_at names (decided rules header)
-
-named_head : (names : List (List ℕ)) (header : List ℕ) (rule : code.Rule) (rules : List code.Rule) (m : Bool) → matches stated header (rule_of rule) ≡ m →
-    IsNumberedBy names rule → IsNamed names rules header → IsNamed names (rule ∷ rules) header
-named_head names header rule rules true h numbered rest =
-    ap (λ b. option_map (λ (r : Rule (List ℕ)). r.decision) (cond b (Some (named_rule names rule)) (find (matches stated header) (named_rules names rules)))) (matches_by_sets stated header (named_rule names rule) (rule_of rule) refl ∙ h)
-    ∙ some_name names rule.decision numbered
-    ∙ sym (ap (name_at names) (decided_head header rule rules true h))
-named_head names header rule rules false h numbered rest =
-    ap (λ b. option_map (λ (r : Rule (List ℕ)). r.decision) (cond b (Some (named_rule names rule)) (find (matches stated header) (named_rules names rules)))) (matches_by_sets stated header (named_rule names rule) (rule_of rule) refl ∙ h)
-    ∙ rest
-    ∙ sym (ap (name_at names) (decided_head header rule rules false h))
-
--- the name that rules decide is that of the number that they decide
-pub named : (names : List (List ℕ)) (rules : List code.Rule) (header : List ℕ) → AllByRecursion (IsNumberedBy names) rules → IsNamed names rules header
-named names [] header h = refl
-named names (rule ∷ rules) header h = named_head names header rule rules (matches stated header (rule_of rule)) refl h.0 (named names rules header h.1)
-
-within_head : (names : List (List ℕ)) (header : List ℕ) (rule : code.Rule) (rules : List code.Rule) (m : Bool) → matches stated header (rule_of rule) ≡ m →
-    IsNumberedBy names rule → decided rules header ≤ length names → decided (rule ∷ rules) header ≤ length names
-within_head names header rule rules true h numbered rest = rw (decided_head header rule rules true h) numbered.1
-within_head names header rule rules false h numbered rest = rw (decided_head header rule rules false h) rest
-
--- the number that rules decide is one of the names', or 0
-pub within : (names : List (List ℕ)) (rules : List code.Rule) (header : List ℕ) → AllByRecursion (IsNumberedBy names) rules → decided rules header ≤ length names
-within names [] header h = omega arith
-within names (rule ∷ rules) header h = within_head names header rule rules (matches stated header (rule_of rule)) refl h.0 (within names rules header h.1)
 
 -- the decision of the first rule that the code finds, or 0
 abbrev pub found_decision : Option code.Rule → ℕ
