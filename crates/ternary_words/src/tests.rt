@@ -255,3 +255,16 @@ fn tables_are_written(rt: HostRuntime) -> Result<(), Fail> {
         &NARROW[..40],
     )
 }
+
+#[test]
+fn copies_say_the_same(rt: HostRuntime) -> Result<(), Fail> {
+    let entry = Entry {
+        word: web(),
+        decision: 2,
+    };
+    let copy = table(&rt, 288, 262_144, &[entry])?.copy(rt.alloc())?;
+    check_text(&rt, &copy, WIDE)?;
+    assert_eq!(rt; copy.names.number("accept"), Some(1));
+    assert_eq!(rt; copy.names.number("deny"), Some(2));
+    Ok(())
+}
