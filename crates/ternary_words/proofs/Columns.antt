@@ -89,7 +89,7 @@ value-bits (suc n) m v e =
     ap (λ b. b ∷ map value_bit (trits (bits n m) (bits n v))) (value_is (m / 2 ^ n % 2) (v / 2 ^ n % 2) (omega arith) (omega arith) (bit_within n m v e))
     ∙ ap (λ bs. nat_eq (v / 2 ^ n % 2) 1 ∷ bs) (value-bits n m v e)
 
-mask-bits : (n m v : ℕ) → map mask_bit (trits (bits n m) (bits n v)) ≡ bits n m
+pub mask-bits : (n m v : ℕ) → map mask_bit (trits (bits n m) (bits n v)) ≡ bits n m
 mask-bits zero m v = refl
 mask-bits (suc n) m v =
     ap (λ b. b ∷ map mask_bit (trits (bits n m) (bits n v))) (mask_is (m / 2 ^ n % 2) (v / 2 ^ n % 2) (omega arith) (omega arith))
@@ -101,7 +101,7 @@ trits-append [] ns (v ∷ vs) us e = absurd (omega arith)
 trits-append (m ∷ ms) ns [] us e = absurd (omega arith)
 trits-append (m ∷ ms) ns (v ∷ vs) us e = ap (λ ts. trit m v ∷ ts) (trits-append ms ns vs us (omega arith))
 
-length-trits : (ms vs : List Bool) → length ms ≡ length vs → length (trits ms vs) ≡ length ms
+pub length-trits : (ms vs : List Bool) → length ms ≡ length vs → length (trits ms vs) ≡ length ms
 length-trits [] vs e = refl
 length-trits (m ∷ ms) [] e = absurd (omega arith)
 length-trits (m ∷ ms) (v ∷ vs) e = ap suc (length-trits ms vs (omega arith))
