@@ -10,7 +10,7 @@ use crate::form::{CommandForm, CommandName, Need, Operands};
 use crate::words::Words;
 
 /// The forms of the commands that are built, in the order of the usage text.
-pub fn built_forms() -> [CommandForm; 2]
+pub fn built_forms() -> [CommandForm; 3]
     ensures forms { map form_seen result ≡ built_forms }
     ensures few { HaveFewWords result }
 {
@@ -18,6 +18,15 @@ pub fn built_forms() -> [CommandForm; 2]
         CommandForm {
             command: CommandName::Expand,
             name: "expand",
+            limit: Need::Maybe,
+            slot: Need::Maybe,
+            slots: Need::Never,
+            operands: Operands::Files { fewest: 1, most: 1 },
+            label: "LIST",
+        },
+        CommandForm {
+            command: CommandName::Compile,
+            name: "compile",
             limit: Need::Maybe,
             slot: Need::Maybe,
             slots: Need::Never,

@@ -7,6 +7,7 @@ ghost use Rattle.std.specs.Str.{bytes_eq};
 #[derive(Clone, Copy, Debug, PartialEq, Eq)]
 pub enum CommandName {
     Expand,
+    Compile,
     Equiv,
 }
 

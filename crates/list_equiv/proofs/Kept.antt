@@ -1,5 +1,5 @@
 -- One more name behind others: those keep their numbers.
-use Rattle.std.proofs.Common.{◌≡◌, ◌∷◌, ◌++◌, ℕ, ◌+◌, ◌≤◌, List, Bool, true, false, cond, [], ap, refl, ◌∙◌, arith, length}
+use Rattle.std.proofs.Common.{◌≡◌, ◌∷◌, ◌++◌, ℕ, ◌+◌, ◌≤◌, List, Bool, true, false, cond, [], ap, ◌∙◌, arith, length}
 use Rattle.std.proofs.lemmas.List.{length-append}
 use Rattle.field_boxes.specs.Names.{is_known, name_at, with_name}
 use Rattle.field_boxes.proofs.FirstSeen.{name_at-with_name}

@@ -4,6 +4,8 @@ use Rattle.std.specs.Str.{bytes_eq}
 use Rattle.command_words.specs.declared.form.CommandName.{CommandName}
 use Rattle.command_words.specs.declared.form.CommandName.TheVariants as names
 use Rattle.command_words.specs.Built.{built_forms}
+use Rattle.razor_core.specs.declared.method.Method.{Method}
+use Rattle.razor_core.specs.declared.method.Method.TheVariants.{Expand, Compile}
 use Rattle.command_words.specs.Commands as words
 
 -- the greatest number of entries, and the width of a slot
@@ -11,20 +13,25 @@ pub record Sizes : Type 0 where
   pub limit : ℕ
   pub slot : ℕ
 
--- a command, with its numbers and file words
+-- a command, with its numbers and file words; one that makes a table of a list says by which method
 pub data Command : Type 0 where
-  Expand : Sizes → List ℕ → Command
+  Make : Method → Sizes → List ℕ → Command
   Equiv : List ℕ → List ℕ → Command
 
 -- the sizes of a table where these options are given or left out
 abbrev pub sizes_given : Option ℕ → Option ℕ → Sizes
 sizes_given limit slot = record { limit = unwrap_or limit 262144; slot = unwrap_or slot 144 }
 
+-- the command that makes a table of the only file
+abbrev pub making : Method → Sizes → List (List ℕ) → Option Command
+making method sizes [] = None
+making method sizes (list ∷ []) = Some (Make method sizes list)
+making method sizes (list ∷ other ∷ files) = None
+
 -- a command by its name, its sizes and its file words; two equal file words are no command
 abbrev pub command_named : CommandName → Sizes → List (List ℕ) → Option Command
-command_named names.Expand sizes [] = None
-command_named names.Expand sizes (list ∷ []) = Some (Expand sizes list)
-command_named names.Expand sizes (list ∷ other ∷ files) = None
+command_named names.Expand sizes files = making Expand sizes files
+command_named names.Compile sizes files = making Compile sizes files
 command_named names.Equiv sizes [] = None
 command_named names.Equiv sizes (left ∷ []) = None
 command_named names.Equiv sizes (left ∷ right ∷ []) = if bytes_eq left right then None else Some (Equiv left right)

@@ -1,7 +1,7 @@
 -- The inputs of a command, in the order in which they are read, and what their texts come to.
 use Rattle.std.specs.Prelude.{ℕ, List, [], ◌∷◌, Result, Ok, Err}
 use Rattle.filter_reader.specs.FilterList.{FilterList, BadLine, list_of}
-use Rattle.razor_core.specs.Command.{Command, Expand, Equiv}
+use Rattle.razor_core.specs.Command.{Command, Make, Equiv}
 
 -- the kinds of texts that are read whole
 pub data Kind : Type 0 where
@@ -18,7 +18,7 @@ list_input name = record { name = name; kind = list_text }
 
 -- the inputs of a command
 abbrev pub inputs : Command → List Input
-inputs (Expand sizes list) = list_input list ∷ []
+inputs (Make method sizes list) = list_input list ∷ []
 inputs (Equiv left right) = list_input left ∷ list_input right ∷ []
 
 -- the greatest number of bytes of a text

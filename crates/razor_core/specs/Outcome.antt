@@ -2,14 +2,14 @@
 use Rattle.std.specs.Prelude.{◌≡◌, ◌⊎◌, ℕ, Bool, true, false, List, [], ◌∷◌, length}
 use Rattle.ternary_words.specs.Table.{Table}
 use Rattle.ternary_words.specs.TableText.{table_text}
-use Rattle.razor_core.specs.Command.{Command, Expand, Equiv}
+use Rattle.razor_core.specs.Command.{Command, Make, Equiv}
 use Rattle.razor_core.specs.Inputs.{Value, list_value}
 use Rattle.field_boxes.specs.Classifier.{Rule, source}
 use Rattle.field_boxes.specs.Fields.{stated}
 use Rattle.razor_core.specs.Comparison.{DecideAlike, IsFirstDifference, equal_line, differ_line}
 use Rattle.razor_core.specs.Messages.{rules_line}
 use Rattle.filter_reader.specs.FilterList.{FilterList}
-use Rattle.rule_expansion.specs.Tables.{IsExpansion}
+use Rattle.razor_core.specs.Making.{IsMade}
 
 -- whether the answer is yes, the output, and the line on standard error
 pub record Outcome : Type 0 where
@@ -33,8 +33,8 @@ Compares left right outcome =
 
 -- the outcome is one that the command defines for these values
 abbrev pub Gives : Command → List Value → Outcome → Type 0
-Gives (Expand sizes file) [] outcome = ⊥
-Gives (Expand sizes file) (list_value list ∷ values) outcome = IsTableOf list (IsExpansion list.rules sizes.slot) outcome
+Gives (Make method sizes file) [] outcome = ⊥
+Gives (Make method sizes file) (list_value list ∷ values) outcome = IsTableOf list (IsMade method list.rules sizes.slot) outcome
 Gives (Equiv left right) [] outcome = ⊥
 Gives (Equiv left right) (list_value first ∷ []) outcome = ⊥
 Gives (Equiv left right) (list_value first ∷ list_value second ∷ values) outcome = Compares first.rules second.rules outcome

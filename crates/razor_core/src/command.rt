@@ -2,9 +2,10 @@ ghost use Rattle.std.specs.Prelude.{◌≡◌, ◌≤◌, List, ℕ, IfSome, map
 ghost use Rattle.std.specs.Option.{option_map};
 ghost use Rattle.command_words.specs.Options.{Takes};
 ghost use Rattle.command_words.specs.declared.option.OptionName.TheVariants as options;
-ghost use Rattle.razor_core.specs.Command.{command_named, command_of, sizes_given};
+ghost use Rattle.razor_core.specs.Command.{command_named, command_of, making, sizes_given};
 ghost use Rattle.razor_core.specs.Commands.{sizes_of, spelled};
 
+use crate::method::Method;
 use crate::sizes::Sizes;
 use crate::two_files::TwoFiles;
 use command_words::{CommandName, Words, built_command};
@@ -12,8 +13,12 @@ use command_words::{CommandName, Words, built_command};
 /// A command with its numbers and file words.
 #[derive(Clone, Copy)]
 pub enum Command<'a> {
-    /// Writes the direct expansion of the list.
-    Expand { sizes: Sizes, list: &'a str },
+    /// Writes the table that the method makes of the list.
+    Make {
+        method: Method,
+        sizes: Sizes,
+        list: &'a str,
+    },
     /// Says whether two lists decide every header alike, or on which header they first differ.
     Equiv(TwoFiles<'a>),
 }
@@ -30,15 +35,27 @@ fn sizes_with(limit: Option<u32>, slot: Option<u32>) -> Sizes
     }
 }
 
+/// The command that makes a table of the only file.
+fn making<'a>(method: Method, sizes: Sizes, files: &[&'a str]) -> Option<Command<'a>>
+    ensures { option_map spelled result ≡ making method (sizes_of sizes) (map (λ word. word.now) files.now) }
+{
+    match files {
+        [list] => Some(Command::Make {
+            method,
+            sizes,
+            list,
+        }),
+        _ => None,
+    }
+}
+
 /// The command of the name, with these sizes and file words.
 fn named<'a>(name: CommandName, sizes: Sizes, files: &[&'a str]) -> Option<Command<'a>>
     ensures { option_map spelled result ≡ command_named name (sizes_of sizes) (map (λ word. word.now) files.now) }
 {
     match name {
-        CommandName::Expand => match files {
-            [list] => Some(Command::Expand { sizes, list }),
-            _ => None,
-        },
+        CommandName::Expand => making(Method::Expand, sizes, files),
+        CommandName::Compile => making(Method::Compile, sizes, files),
         CommandName::Equiv => match files {
             [left, right] if left != right => Some(Command::Equiv(TwoFiles { left, right })),
             _ => None,

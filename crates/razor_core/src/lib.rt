@@ -7,6 +7,7 @@ mod ending;
 mod input;
 mod making;
 mod message;
+mod method;
 pub mod rows;
 mod run;
 mod sizes;
@@ -14,7 +15,7 @@ mod top;
 mod two_files;
 
 pub use command_words::Words;
-pub use making::{CompileError, expand};
+pub use making::{CompileError, compile, expand};
 pub use top::razor;
 
 #[cfg(test)]

@@ -21,7 +21,9 @@ pub fn say_usage<E: Sink>(err: &mut E)
 {
     say(
         err,
-        &[Part::Text("usage: razor COMMAND\n  expand [--limit N] [--slot W] LIST\n  equiv A B\n")],
+        &[Part::Text(
+            "usage: razor COMMAND\n  expand [--limit N] [--slot W] LIST\n  compile [--limit N] [--slot W] LIST\n  equiv A B\n",
+        )],
     )
 }
 

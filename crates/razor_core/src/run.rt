@@ -1,6 +1,6 @@
 ghost use Rattle.std.specs.Prelude.{◌≡◌, ◌≢◌, ℕ, List, Some, length};
 ghost use Rattle.std.specs.Io.KnownBytes.{Keeps};
-ghost use Rattle.razor_core.specs.Command.{Expand, Equiv};
+ghost use Rattle.razor_core.specs.Command.{Make, Equiv};
 ghost use Rattle.razor_core.specs.Commands.{sizes_of, spelled};
 ghost use Rattle.razor_core.specs.Outside.{seen, IsNoInput};
 ghost use Rattle.filter_reader.specs.Lists.{filter_list};
@@ -11,7 +11,8 @@ use crate::command::Command;
 use crate::comparison::{answered, write_verdict};
 use crate::ending::{Ending, Summary};
 use crate::input::take_list;
-use crate::making::{CompileError, expand};
+use crate::making::{CompileError, make};
+use crate::method::Method;
 use crate::sizes::Sizes;
 use crate::two_files::TwoFiles;
 use filter_reader::RuleList;
@@ -34,20 +35,25 @@ pub fn run<'a, D: Desk, K: Sink>(
     ensures others { (other : List ℕ) → IsNoInput (Some (spelled command.entry)) other → Keeps (D.remaining desk.old other) (D.remaining desk.new other) }
 {
     match command {
-        Command::Expand { sizes, list } => expand_list(alloc, sizes, list, desk, out),
+        Command::Make {
+            method,
+            sizes,
+            list,
+        } => make_table(alloc, method, sizes, list, desk, out),
         Command::Equiv(files) => compare_lists(alloc, files, desk, out),
     }
 }
 
-/// Writes the direct expansion of the list.
-fn expand_list<'a, D: Desk, K: Sink>(
+/// Writes the table that the method makes of the list.
+fn make_table<'a, D: Desk, K: Sink>(
     alloc: Global,
+    method: Method,
     sizes: Sizes,
     file: &'a str,
     desk: &mut D,
     out: &mut K,
 ) -> Ending<'a>
-    ensures ends { Ends (Expand (sizes_of sizes) file.now)
+    ensures ends { Ends (Make method (sizes_of sizes) file.now)
         (seen D.remaining D.faults K.written K.faults desk.old out.old)
         (seen D.remaining D.faults K.written K.faults desk.new out.new)
         result }
@@ -57,7 +63,7 @@ fn expand_list<'a, D: Desk, K: Sink>(
         Ok(list) => list,
         Err(ending) => return ending,
     };
-    let table = match expand(alloc, &list, sizes.limit, sizes.slot) {
+    let table = match make(alloc, method, &list, sizes) {
         Ok(table) => table,
         Err(error) => return not_made(error),
     };

@@ -1,4 +1,5 @@
 mod comparing;
+mod compiling;
 mod faults;
 mod limits;
 
@@ -202,7 +203,8 @@ fn knows_its_words(rt: HostRuntime) -> Result<(), Fail> {
         &["--help"],
     ];
     for words in none {
-        let usage = b"usage: razor COMMAND\n  expand [--limit N] [--slot W] LIST\n  equiv A B\n";
+        let usage =
+            b"usage: razor COMMAND\n  expand [--limit N] [--slot W] LIST\n  compile [--limit N] [--slot W] LIST\n  equiv A B\n";
         check(&rt, words, calm(WEB), 2, b"", usage)?;
     }
     let limits: [&[&str]; 3] = [

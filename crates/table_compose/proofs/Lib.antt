@@ -14,3 +14,4 @@ pub mod Boxes
 pub mod Gaining
 pub mod Tables
 pub mod Naming
+pub mod Occurring

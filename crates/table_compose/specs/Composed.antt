@@ -2,7 +2,7 @@
 use Rattle.std.specs.Prelude.{◌≡◌, ℕ, ◌<◌, List, [], ◌∷◌, ◌++◌, Option, All, find, length, map, option_map}
 use Rattle.std.specs.List.{AllZip, flat_map}
 use Rattle.field_boxes.specs.declared.prefix.Prefix.{Prefix}
-use Rattle.field_boxes.specs.Fields.{stated, IsHeader}
+use Rattle.field_boxes.specs.Fields.{stated, AreValues, IsHeader}
 use Rattle.ternary_words.specs.declared.entry.Entry.{Entry}
 use Rattle.ternary_words.specs.declared.word.Word.{Word}
 use Rattle.ternary_words.specs.Word.{agrees, header_bits}
@@ -58,6 +58,10 @@ pub record AreComposed (nodes : List Node) (root : ℕ) (entries : List Entry) :
 -- what the first entry that matches the header decides
 abbrev pub decided : List Entry → List ℕ → Option ℕ
 decided entries header = option_map (λ e. e.decision) (find (λ e. agrees (word_of e.word) (header_bits header)) entries)
+
+-- the node answers this for some values of the fields
+abbrev pub IsAnswer : List Node → List ℕ → ℕ → ℕ → Type 0
+IsAnswer nodes fields id decision = (values : List ℕ) × AreValues fields values × (answer nodes id values ≡ decision)
 
 -- the word is a prefix in each field
 abbrev pub IsPrefixWord : Word → Type 0

@@ -6,7 +6,7 @@ ghost use Rattle.node_store.specs.Diagram.{level_of, answer};
 ghost use Rattle.table_compose.specs.declared.composition.ComposeError.TheVariants.{Memory as OutOfMemory};
 ghost use Rattle.table_compose.specs.Diagrams.{IsCostOf};
 ghost use Rattle.table_compose.specs.Rows.{rows_at};
-ghost use Rattle.table_compose.specs.Composed.{HaveLists, IsEntry, boxes, AreComposed, decided, IsPrefixWord, IsRefusal};
+ghost use Rattle.table_compose.specs.Composed.{HaveLists, IsEntry, boxes, AreComposed, decided, IsAnswer, IsPrefixWord, IsRefusal};
 
 use crate::diagram_plans::Plans;
 use crate::entries::add_table;
@@ -58,6 +58,8 @@ pub fn compose(
     // Every header has a first entry that matches it, with the diagram's answer.
     ensures answers { IfOk result (λ entries. (header : List ℕ) → IsHeader header →
         decided entries.items header ≡ Some (answer store.now root.0 header)) }
+    // Each entry decides what the diagram answers on some header.
+    ensures decisions { IfOk result (λ entries. All (λ e. IsAnswer store.now stated root.0 e.decision) entries.items) }
     ensures prefixes { IfOk result (λ entries. All (λ e. IsPrefixWord e.word) entries.items) }
     ensures order { IfOk result (λ entries. AreComposed store.now root.0 entries.items) }
     ensures refusal { IfErr result (λ e. IsRefusal store.now root.0 limit e) }

@@ -3,9 +3,10 @@ use Rattle.std.specs.Prelude.{slice_index, vec_len}
 use Rattle.field_boxes.specs.Fields.{stated}
 use Rattle.table_compose.specs.Rows.{rows_at}
 use Rattle.table_compose.specs.Diagrams.{IsCostOf}
-use Rattle.table_compose.specs.Composed.{boxes}
+use Rattle.table_compose.specs.Composed.{IsAnswer, boxes}
 use Rattle.table_compose.proofs.Later.{root_cost, root_planned}
 use Rattle.table_compose.proofs.Tables.{have_all, counted, answers, prefix_words}
+use Rattle.table_compose.proofs.Occurring.{entries_occur, occur_by}
 use Rattle.table_compose.proofs.composition.compose.Goals as goal
 
 pub returns-then-needed-from-clause-refusal : goal.returns-then-needed-from-clause-refusal
@@ -47,6 +48,16 @@ returns-clause-answers c =
     let plans = c.in_ok-plans.plans in
     answers c.args.store.now c.args.root.0 (rows_at plans.lists.items) c.in_ok-entries.entries.items c.same_answers.ensures.store c.requires
     (have_all c.args.store.now c.args.root.0 plans.costs.items plans.lists.items c.same_answers.ensures.store c.requires c.in_ok-plans.ensures).0 c.in_ok-entries.ensures
+
+pub returns-clause-decisions : goal.returns-clause-decisions
+returns-clause-decisions c =
+    let nodes = c.args.store.now in
+    let root = c.args.root.0 in
+    let lists = rows_at c.in_ok-plans.plans.lists.items in
+    let store = c.same_answers.ensures.store in
+    let have = have_all nodes root c.in_ok-plans.plans.costs.items c.in_ok-plans.plans.lists.items store c.requires c.in_ok-plans.ensures in
+    entries_occur (IsAnswer nodes stated root) (boxes nodes lists stated root) c.in_ok-entries.entries.items c.in_ok-entries.ensures
+    (occur_by nodes lists store 5 0 root refl c.requires have.0)
 
 pub returns-clause-prefixes : goal.returns-clause-prefixes
 returns-clause-prefixes c =

@@ -1,0 +1,19 @@
+use Rattle.std.proofs.lemmas.List.Elements.{recursion_from_All}
+use Rattle.field_boxes.specs.Fields.{stated}
+use Rattle.field_boxes.specs.NamedRules.{IsNumberedBy}
+use Rattle.rule_compilation.proofs.Composed.{IsDiagramOf, compiled}
+use Rattle.rule_compilation.proofs.compiling.composed_entries.Goals as goal
+
+pub returns-clause-entries : goal.returns-clause-entries
+returns-clause-entries c =
+    let names = c.args.names.now in
+    let rules = c.args.rules.now in
+    let nodes = c.build.new.store in
+    let root = c.in_ok-root.root.0 in
+    let diagram : IsDiagramOf names rules nodes root = record {
+      numbered = recursion_from_All (IsNumberedBy names) rules c.requires;
+      answers = c.in_ok-root.ensures.answers;
+      apart = c.distinct_names_tell_apart.ensures nodes stated root names c.are_names.ensures.distinct;
+    } in
+    compiled names rules nodes root c.args.limit c.compose.result diagram (c.decisions_have_names.ensures names)
+    c.compose.ensures.count c.compose.ensures.answers c.compose.ensures.decisions c.compose.ensures.refusal

@@ -1,0 +1,20 @@
+-- The compiled table of a rule list, and why there is none.
+use Rattle.std.specs.Prelude.{◌≡◌, ℕ, ◌<◌, ◌≤◌, List, length}
+use Rattle.field_boxes.specs.Classifier.{Rule, source}
+use Rattle.field_boxes.specs.Fields.{IsHeader, stated}
+use Rattle.ternary_words.specs.Table.{Table, answer}
+use Rattle.table_compose.specs.LeastCost.{IsLeastCost}
+use Rattle.table_compose.specs.declared.composition.ComposeError.{ComposeError}
+use Rattle.table_compose.specs.declared.composition.ComposeError.TheVariants.{TooMany, Memory}
+
+-- the table decides every header as the rules do, says their field-by-field least cost, and has at most so many entries
+pub record IsCompiled (rules : List (Rule (List ℕ))) (width : ℕ) (table : Table) : Type 0 where
+  pub slot : table.slot ≡ width
+  pub composed : IsLeastCost stated rules table.composed
+  pub few : length table.entries ≤ table.composed
+  pub answers : (header : List ℕ) → IsHeader header → answer table.entries header ≡ source stated header rules
+
+-- the least cost is more than the limit, or memory was refused
+abbrev pub IsRefused : List (Rule (List ℕ)) → ℕ → ComposeError → Type 0
+IsRefused rules limit Memory = Unit {0}
+IsRefused rules limit (TooMany needed most) = IsLeastCost stated rules needed × (most ≡ limit) × (limit < needed)

@@ -1,0 +1,71 @@
+//! The table of a rule list.
+ghost use Rattle.std.specs.Prelude.{◌≤◌, ℕ, All, IfOk, MatchResult, length};
+ghost use Rattle.field_boxes.specs.Fields.{stated};
+ghost use Rattle.field_boxes.specs.NamedRules.{IsNumberedBy, named_rules};
+ghost use Rattle.ternary_words.specs.Limits.{IsSlotWidth};
+ghost use Rattle.ternary_words.specs.Views.{table_of};
+ghost use Rattle.table_compose.specs.LeastCost.{IsLeastCost};
+ghost use Rattle.rule_compilation.specs.Compiled.{IsCompiled, IsRefused};
+ghost use Rattle.rule_compilation.specs.Entries.{AreEntriesOf};
+
+use fdd_build::build;
+use field_boxes::{Decisions, Rule};
+use node_store::Store;
+use std::alloc::Global;
+use table_compose::laws::{decisions_have_names, distinct_names_tell_apart, one_least_cost};
+use table_compose::{ComposeError, compose};
+use ternary_words::{Entry, Table};
+
+/// The table that decides every header as the rules do, for slots of `slot` trits (104, 144 or 288).
+///
+/// It says as `composed` the field-by-field least cost of the rules, and has at most so many entries. Where
+/// that is more than `limit`, at most 262,144, no entry is written. A header that no rule matches meets an
+/// entry that decides nothing, written `miss`.
+///
+/// Time and room go by the diagrams of the rules and by the entries.
+pub fn compile(
+    alloc: Global,
+    rules: &[Rule],
+    names: &Decisions,
+    limit: u32,
+    slot: u16,
+) -> Result<Table, ComposeError>
+    requires numbered { All (IsNumberedBy names.now) rules.now }
+    requires limit { limit ≤ 262144 }
+    requires slot { ∥ IsSlotWidth slot ∥₁ }
+    ensures table { MatchResult result
+        (λ table. IsCompiled (named_rules names.now rules.now) slot (table_of table))
+        (λ e. IsRefused (named_rules names.now rules.now) limit e) }
+    ensures room { IfOk result (λ table. (needed : ℕ) → IsLeastCost stated (named_rules names.now rules.now) needed → needed ≤ limit) }
+{
+    one_least_cost();
+    let entries = composed_entries(alloc, rules, names, limit)?;
+    let names = names.copy(alloc)?;
+    Ok(Table {
+        slot,
+        composed: entries.len() as u32,
+        entries,
+        names,
+    })
+}
+
+/// The entries of the composed table, as many as the least cost.
+fn composed_entries(
+    alloc: Global,
+    rules: &[Rule],
+    names: &Decisions,
+    limit: u32,
+) -> Result<Vec<Entry>, ComposeError>
+    requires { All (IsNumberedBy names.now) rules.now }
+    ensures entries { MatchResult result
+        (λ entries. AreEntriesOf names.now (named_rules names.now rules.now) entries.items)
+        (λ e. IsRefused (named_rules names.now rules.now) limit e) }
+    ensures within { IfOk result (λ entries. length entries.items ≤ limit) }
+{
+    names.are_names();
+    distinct_names_tell_apart();
+    decisions_have_names();
+    let mut store = Store::new(alloc);
+    let root = build(alloc, &mut store, rules)?;
+    compose(alloc, &store, root, limit)
+}

@@ -1,0 +1,15 @@
+//! The compilation of rules into a short table of ternary entries.
+//!
+//! [`compile`] makes the decision diagram of the rules and composes the table of the diagram, which has as
+//! many entries as the field-by-field least cost of the rules (Meiners, Liu, Torng 2007 and 2010).
+//!
+//! ```text
+//! let table = compile(alloc, &list.rules, &list.names, 262_144, 144)?;
+//! ```
+//!
+//! `specs/Compiled.antt` says what the table is; it stands on rules, headers and plans, and on no diagram.
+#![tactic(auto)]
+
+mod compiling;
+
+pub use compiling::compile;
