@@ -130,7 +130,7 @@ columns-step w k m v f fs e within =
     ∙ ap (λ ts. column_text high ++ 32 ∷ columns_text fs ts) back ∙ ap (λ t. t ++ 32 ∷ columns_text fs low) column
 
 -- the five columns of a word of fields so wide
-columns-wide : (a b c d e m v : ℕ) → width 0 ≡ a → width 1 ≡ b → width 2 ≡ c → width 3 ≡ d → width 4 ≡ e → bit_and v m ≡ v →
+pub columns-wide : (a b c d e m v : ℕ) → width 0 ≡ a → width 1 ≡ b → width 2 ≡ c → width 3 ≡ d → width 4 ≡ e → bit_and v m ≡ v →
     columns_text (0 ∷ 1 ∷ 2 ∷ 3 ∷ 4 ∷ []) (trits (bits (a + (b + (c + (d + (e + 0))))) m) (bits (a + (b + (c + (d + (e + 0))))) v))
     ≡ column_of a (v / 2 ^ (b + (c + (d + (e + 0))))) (m / 2 ^ (b + (c + (d + (e + 0))))) ++ 32 ∷ (column_of b (v / 2 ^ (c + (d + (e + 0)))) (m / 2 ^ (c + (d + (e + 0)))) ++ 32 ∷ (column_of c (v / 2 ^ (d + (e + 0))) (m / 2 ^ (d + (e + 0))) ++ 32 ∷ (column_of d (v / 2 ^ (e + 0)) (m / 2 ^ (e + 0)) ++ 32 ∷ (column_of e (v / 2 ^ 0) (m / 2 ^ 0) ++ 32 ∷ []))))
 columns-wide a b c d e m v wa wb wc wd we within =

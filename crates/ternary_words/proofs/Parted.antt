@@ -1,7 +1,8 @@
 -- A word field by field: the parts of its value and of its mask.
 use Rattle.std.proofs.Common.{◌≡◌, ◌∷◌, ◌++◌, ℕ, ◌+◌, ◌/◌, ◌%◌, ◌^◌, ◌<◌, List, [], length, map, ap, refl, sym, ◌∙◌, arith}
-use Rattle.std.proofs.lemmas.Nat.{pow_pos, mod_below}
+use Rattle.std.proofs.lemmas.Nat.{pow_pos, mod_below, and_mod, and_shr}
 use Rattle.std.proofs.lemmas.Bool.{eqb-true, eq-eqb}
+use Rattle.std.specs.Prelude.{bit_and}
 use Rattle.field_boxes.specs.Bits.{bits, begins}
 use Rattle.field_boxes.specs.Fields.{AreValues, stated, width}
 use Rattle.field_boxes.specs.Prefix.{FitsWidth}
@@ -79,7 +80,7 @@ told_masks (f ∷ fs) (m ∷ ms) (v ∷ vs) (p ∷ ps) hm hv n fit e =
     ((p, fit.0, told_mask w m v p hm.0 fit.0 (front_same _ _ _ _ wide parted)), told_masks fs ms vs ps hm.1 hv.1 (omega arith) fit.1 (back_same _ _ _ _ wide parted))
 
 -- the word of a mask and a value, by their parts
-word-parts : (m v : ℕ) → trits (bits 104 m) (bits 104 v) ≡ trits (header_bits (parts stated m)) (header_bits (parts stated v))
+pub word-parts : (m v : ℕ) → trits (bits 104 m) (bits 104 v) ≡ trits (header_bits (parts stated m)) (header_bits (parts stated v))
 word-parts m v = ap (λ ms. trits ms (bits 104 v)) (bits-parts stated m) ∙ ap (trits (header_bits (parts stated m))) (bits-parts stated v)
 
 -- a word that is a prefix in each field has a mask of a prefix in each
@@ -105,3 +106,7 @@ word_of_parts m v p0 p1 p2 p3 p4 h0 h1 h2 h3 h4 =
       fit = fit;
       same = word-parts m v ∙ ap (λ ms. trits (header_bits ms) (header_bits (parts stated v))) masks ∙ ap (λ vs. trits (header_bits (masks_of stated ps)) (header_bits vs)) values ∙ trits-fields stated ps fit;
     }
+
+-- a part of a value lies in that part of its mask
+pub part_within : (n w v m : ℕ) → bit_and v m ≡ v → bit_and (v / 2 ^ n % 2 ^ w) (m / 2 ^ n % 2 ^ w) ≡ v / 2 ^ n % 2 ^ w
+part_within n w v m e = sym (and_mod (v / 2 ^ n) (m / 2 ^ n) w) ∙ ap (λ x. x % 2 ^ w) (sym (and_shr v m n) ∙ ap (λ x. x / 2 ^ n) e)

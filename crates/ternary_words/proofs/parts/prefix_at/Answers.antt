@@ -1,11 +1,8 @@
-use Rattle.std.proofs.Common.{◌≡◌, ◌/◌, ◌%◌, ◌^◌, ◌≤◌, ap, subst, sym, ◌∙◌, arith, ℕ}
+use Rattle.std.proofs.Common.{◌≡◌, ◌/◌, ◌%◌, ◌^◌, ◌≤◌, subst, sym, arith, ℕ}
 use Rattle.std.specs.Prelude.{bit_and}
-use Rattle.std.proofs.lemmas.Nat.{and_mod, and_shr, one_shl}
+use Rattle.std.proofs.lemmas.Nat.{one_shl}
+use Rattle.ternary_words.proofs.Parted.{part_within}
 use Rattle.ternary_words.proofs.parts.prefix_at.Goals as goal
-
--- a part of a value lies in that part of its mask
-part_within : (n w v m : ℕ) → bit_and v m ≡ v → bit_and (v / 2 ^ n % 2 ^ w) (m / 2 ^ n % 2 ^ w) ≡ v / 2 ^ n % 2 ^ w
-part_within n w v m e = sym (and_mod (v / 2 ^ n) (m / 2 ^ n) w) ∙ ap (λ x. x % 2 ^ w) (sym (and_shr v m n) ∙ ap (λ x. x / 2 ^ n) e)
 
 pub part-requires-clause-within : goal.part-requires-clause-within
 part-requires-clause-within c =
