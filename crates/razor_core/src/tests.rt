@@ -192,7 +192,7 @@ fn knows_its_words(rt: HostRuntime) -> Result<(), Fail> {
     let none: [&[&str]; 11] = [
         &[],
         &["expand"],
-        &["compile", "in"],
+        &["compiles", "in"],
         &["expand", "--limit", "0", "in"],
         &["expand", "--limit", "5", "--limit", "5", "in"],
         &["expand", "--slot", "100", "in"],
