@@ -10,7 +10,7 @@ use crate::form::{CommandForm, CommandName, Need, Operands};
 use crate::words::Words;
 
 /// The forms of the commands that are built, in the order of the usage text.
-pub fn built_forms() -> [CommandForm; 3]
+pub fn built_forms() -> [CommandForm; 4]
     ensures forms { map form_seen result ≡ built_forms }
     ensures few { HaveFewWords result }
 {
@@ -41,6 +41,15 @@ pub fn built_forms() -> [CommandForm; 3]
             slots: Need::Never,
             operands: Operands::Files { fewest: 2, most: 2 },
             label: "A B",
+        },
+        CommandForm {
+            command: CommandName::Migrate,
+            name: "migrate",
+            limit: Need::Never,
+            slot: Need::Never,
+            slots: Need::Never,
+            operands: Operands::Files { fewest: 1, most: 1 },
+            label: "TABLE",
         },
     ]
 }

@@ -9,6 +9,7 @@ pub enum CommandName {
     Expand,
     Compile,
     Equiv,
+    Migrate,
 }
 
 /// Whether a command takes an option: never, if it is there, or it has to be there.

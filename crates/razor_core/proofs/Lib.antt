@@ -1,5 +1,5 @@
 pub mod DifferText
 pub mod Endings
 pub mod Inputs
-pub mod Tables
+pub mod OneInput
 pub mod TwoLists

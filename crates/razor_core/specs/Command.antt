@@ -17,6 +17,7 @@ pub record Sizes : Type 0 where
 pub data Command : Type 0 where
   Make : Method → Sizes → List ℕ → Command
   Equiv : List ℕ → List ℕ → Command
+  Migrate : List ℕ → Command
 
 -- the sizes of a table where these options are given or left out
 abbrev pub sizes_given : Option ℕ → Option ℕ → Sizes
@@ -36,6 +37,9 @@ command_named names.Equiv sizes [] = None
 command_named names.Equiv sizes (left ∷ []) = None
 command_named names.Equiv sizes (left ∷ right ∷ []) = if bytes_eq left right then None else Some (Equiv left right)
 command_named names.Equiv sizes (left ∷ right ∷ other ∷ files) = None
+command_named names.Migrate sizes [] = None
+command_named names.Migrate sizes (table ∷ []) = Some (Migrate table)
+command_named names.Migrate sizes (table ∷ other ∷ files) = None
 
 -- the command that the words spell, or none
 abbrev pub command_of : List (List ℕ) → Option Command

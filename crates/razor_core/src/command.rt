@@ -21,6 +21,8 @@ pub enum Command<'a> {
     },
     /// Says whether two lists decide every header alike, or on which header they first differ.
     Equiv(TwoFiles<'a>),
+    /// Writes a table of either version in the compact text.
+    Migrate(&'a str),
 }
 
 /// The sizes of a table where these options are given or left out.
@@ -58,6 +60,10 @@ fn named<'a>(name: CommandName, sizes: Sizes, files: &[&'a str]) -> Option<Comma
         CommandName::Compile => making(Method::Compile, sizes, files),
         CommandName::Equiv => match files {
             [left, right] if left != right => Some(Command::Equiv(TwoFiles { left, right })),
+            _ => None,
+        },
+        CommandName::Migrate => match files {
+            [table] => Some(Command::Migrate(table)),
             _ => None,
         },
     }
