@@ -7,4 +7,4 @@ use Rattle.razor_core.proofs.message.say_bad_line.Goals as goal
 
 -- src/message.rt:83:1
 pub returns : goal.returns
-returns g c = ?
+returns g c = c.say.ensures
