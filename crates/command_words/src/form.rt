@@ -9,6 +9,7 @@ pub enum CommandName {
     Expand,
     Compile,
     Equiv,
+    Gen,
     Migrate,
 }
 

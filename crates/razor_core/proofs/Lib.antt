@@ -3,3 +3,4 @@ pub mod Endings
 pub mod Inputs
 pub mod OneInput
 pub mod TwoLists
+pub mod NoInput

@@ -76,12 +76,12 @@ HasRoom command value = (needed : ℕ) → Needs command (value ∷ []) needed �
 -- all was written
 pub done_ends : (command : Command) (before after : Outside) (input : Input) (value : Value) (outcome : Outcome) → Reads command before after input value → HasRoom command value →
     Gives command (value ∷ []) outcome → outcome.yes ≡ true → Appends before.written after.written outcome.text → Tells before command → IsDone command before after true outcome.line
-done_ends command before after input value outcome reads room gives yes written tells = record {
+done_ends command before after input value outcome reads room gives positive written tells = record {
   values = value ∷ [];
   outcome = outcome;
   pass = record { turns = turns_pass command before after input value reads tells; room = room };
   gives = gives;
-  answered = yes;
+  answered = positive;
   lined = refl;
   written = written;
   read = read_through command before after input value reads tells;

@@ -3,7 +3,7 @@ use Rattle.std.specs.Prelude.{ℕ, List, [], ◌∷◌, Result, Ok, Err}
 use Rattle.filter_reader.specs.FilterList as lists
 use Rattle.table_text.specs.Reading as tables
 use Rattle.ternary_words.specs.Table.{Table}
-use Rattle.razor_core.specs.Command.{Command, Make, Equiv, Migrate}
+use Rattle.razor_core.specs.Command.{Command, Make, Equiv, Gen, Migrate}
 use Rattle.razor_core.specs.declared.line_reason.LineReason.{LineReason}
 use Rattle.razor_core.specs.declared.line_reason.LineReason.TheVariants.{OfList, OfTable}
 
@@ -29,6 +29,7 @@ table_input name = record { name = name; kind = text_of_table }
 abbrev pub inputs : Command → List Input
 inputs (Make method sizes list) = list_input list ∷ []
 inputs (Equiv left right) = list_input left ∷ list_input right ∷ []
+inputs (Gen seed rules) = []
 inputs (Migrate table) = table_input table ∷ []
 
 -- the greatest number of bytes of a text

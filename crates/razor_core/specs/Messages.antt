@@ -4,7 +4,7 @@ use Rattle.std.specs.Fmt.{decimal}
 use Rattle.command_words.specs.Built.{built_forms}
 use Rattle.command_words.specs.Usage.{usage_of}
 use Rattle.razor_core.specs.declared.line_reason.LineReason.{LineReason}
-use Rattle.razor_core.specs.Reasons.{reason_text}
+use Rattle.razor_core.specs.Reasons.{counts_text, reason_text}
 use Rattle.razor_core.specs.Turns.{Stop, bad_line, too_long, too_many}
 
 abbrev pub line_end : List ℕ
@@ -15,7 +15,7 @@ abbrev pub usage_text : List ℕ
 usage_text = usage_of built_forms
 
 abbrev pub bad_line_line : List ℕ → ℕ → LineReason → List ℕ
-bad_line_line file line reason = file ++ codes ": line " ++ decimal line ++ codes ": " ++ reason_text reason ++ line_end
+bad_line_line file line reason = file ++ codes ": line " ++ decimal line ++ codes ": " ++ reason_text reason ++ counts_text reason ++ line_end
 
 abbrev pub too_long_line : List ℕ → ℕ → List ℕ
 too_long_line file limit = file ++ codes ": more than " ++ decimal limit ++ codes " bytes" ++ line_end

@@ -3,6 +3,7 @@
 
 mod command;
 mod comparison;
+mod drawing;
 mod ending;
 mod input;
 mod line_reason;
@@ -17,6 +18,7 @@ mod top;
 mod two_files;
 
 pub use command_words::Words;
+pub use list_generator::{generate, next};
 pub use making::{CompileError, compile, expand};
 pub use top::razor;
 

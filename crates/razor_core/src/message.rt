@@ -6,7 +6,7 @@ ghost use Rattle.razor_core.specs.Ending.{ending_line, summary_text};
 
 use crate::ending::{Ending, Summary};
 use crate::line_reason::LineReason;
-use crate::reason::reason_parts;
+use crate::reason::{counts, reason_words};
 use razor_base::{Part, Sink, write_parts};
 
 /// Writes the parts as far as the sink lets them.
@@ -23,7 +23,7 @@ pub fn say_usage<E: Sink>(err: &mut E)
     say(
         err,
         &[Part::Text(
-            "usage: razor COMMAND\n  expand [--limit N] [--slot W] LIST\n  compile [--limit N] [--slot W] LIST\n  equiv A B\n  migrate TABLE\n",
+            "usage: razor COMMAND\n  expand [--limit N] [--slot W] LIST\n  compile [--limit N] [--slot W] LIST\n  equiv A B\n  gen SEED N\n  migrate TABLE\n",
         )],
     )
 }
@@ -83,19 +83,32 @@ fn say_summary<E: Sink>(err: &mut E, summary: Summary)
 fn say_bad_line<E: Sink>(err: &mut E, file: &str, line: u64, reason: LineReason)
     ensures { Says E.written E.faults err.old err.new (bad_line_line file.now line reason) }
 {
-    let [first, second, third, last] = reason_parts(reason);
-    say(
-        err,
-        &[
-            Part::Text(file),
-            Part::Text(": line "),
-            Part::Number(u128::from(line)),
-            Part::Text(": "),
-            first,
-            second,
-            third,
-            last,
-            Part::Text("\n"),
-        ],
-    );
+    match counts(reason) {
+        None => say(
+            err,
+            &[
+                Part::Text(file),
+                Part::Text(": line "),
+                Part::Number(u128::from(line)),
+                Part::Text(": "),
+                Part::Text(reason_words(reason)),
+                Part::Text("\n"),
+            ],
+        ),
+        Some((stated, found)) => say(
+            err,
+            &[
+                Part::Text(file),
+                Part::Text(": line "),
+                Part::Number(u128::from(line)),
+                Part::Text(": "),
+                Part::Text(reason_words(reason)),
+                Part::Text(", stated "),
+                Part::Number(u128::from(stated)),
+                Part::Text(" found "),
+                Part::Number(u128::from(found)),
+                Part::Text("\n"),
+            ],
+        ),
+    }
 }

@@ -1,53 +1,59 @@
-//! What is wrong with a line of an input, in parts of a message.
-ghost use Rattle.std.specs.Prelude.{◌≡◌};
-ghost use Rattle.razor_base.specs.Parts.{parts_text};
-ghost use Rattle.razor_core.specs.Reasons.{list_reason_text, reason_text, table_reason_text};
+//! What is wrong with a line of an input, in words.
+ghost use Rattle.std.specs.Prelude.{◌≡◌, [], MatchOption};
+ghost use Rattle.razor_core.specs.Reasons.{counts_text, list_reason_text, reason_text, table_counts_text, table_reason_text, two_counts};
 
 use crate::line_reason::LineReason;
 use filter_reader::Reason;
-use razor_base::Part;
 use table_text::TableReason;
 
 /// What is wrong with a line.
-pub fn reason_parts(reason: LineReason) -> [Part<'static>; 4]
-    ensures { parts_text result ≡ reason_text reason }
+pub fn reason_words(reason: LineReason) -> &'static str
+    ensures { result.now ≡ reason_text reason }
 {
     match reason {
-        LineReason::OfList(reason) => alone(list_words(reason)),
-        LineReason::OfTable(reason) => table_parts(reason),
+        LineReason::OfList(reason) => list_words(reason),
+        LineReason::OfTable(reason) => table_words(reason),
     }
 }
 
-/// Words that stand alone.
-fn alone(words: &'static str) -> [Part<'static>; 4]
-    ensures { parts_text result ≡ words.now }
-{
-    [
-        Part::Text(words),
-        Part::Text(""),
-        Part::Text(""),
-        Part::Text(""),
-    ]
-}
-
-/// What is wrong with a line of a table.
-fn table_parts(reason: TableReason) -> [Part<'static>; 4]
-    ensures { parts_text result ≡ table_reason_text reason }
+/// How many entries a table states and how many were found, where that is what is wrong.
+pub fn counts(reason: LineReason) -> Option<(u32, u64)>
+    ensures { MatchOption result (counts_text reason ≡ []) (λ counts. counts_text reason ≡ two_counts counts.0 counts.1) }
 {
     match reason {
-        TableReason::FirstLine => alone("first line"),
-        TableReason::WordLength => alone("word length"),
-        TableReason::Trit => alone("trit"),
-        TableReason::Padding => alone("padding"),
-        TableReason::Decision => alone("decision"),
-        TableReason::Count { stated, found } => [
-            Part::Text("count of entries differs, stated "),
-            Part::Number(u128::from(stated)),
-            Part::Text(" found "),
-            Part::Number(u128::from(found)),
-        ],
-        TableReason::FieldForm => alone("field form"),
-        TableReason::OutsideMask => alone("value outside mask"),
+        LineReason::OfList(_) => None,
+        LineReason::OfTable(reason) => table_counts(reason),
+    }
+}
+
+fn table_counts(reason: TableReason) -> Option<(u32, u64)>
+    ensures { MatchOption result (table_counts_text reason ≡ []) (λ counts. table_counts_text reason ≡ two_counts counts.0 counts.1) }
+{
+    match reason {
+        TableReason::Count { stated, found } => Some((stated, found)),
+        TableReason::FirstLine
+        | TableReason::WordLength
+        | TableReason::Trit
+        | TableReason::Padding
+        | TableReason::Decision
+        | TableReason::FieldForm
+        | TableReason::OutsideMask => None,
+    }
+}
+
+/// What is wrong with a line of a table, in words.
+fn table_words(reason: TableReason) -> &'static str
+    ensures { result.now ≡ table_reason_text reason }
+{
+    match reason {
+        TableReason::FirstLine => "first line",
+        TableReason::WordLength => "word length",
+        TableReason::Trit => "trit",
+        TableReason::Padding => "padding",
+        TableReason::Decision => "decision",
+        TableReason::Count { .. } => "count of entries differs",
+        TableReason::FieldForm => "field form",
+        TableReason::OutsideMask => "value outside mask",
     }
 }
 
