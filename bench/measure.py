@@ -33,23 +33,23 @@ def built(crate, *words):
     return folder / "out" / crate
 
 
-def once(command, given=None):
-    """One run over a file: its milliseconds, its peak memory in bytes, and what it wrote."""
+def once(command, given=None, status=0):
+    """One run over a file that ends with a status: its milliseconds, its peak memory in bytes, and what it wrote."""
     with tempfile.NamedTemporaryFile("r") as report, tempfile.TemporaryFile() as out, open(given or "/dev/null", "rb") as text:
         whole = [time_tool(), "-v", "-o", report.name, *map(str, command)]
         start = time.perf_counter()
-        status = subprocess.run(whole, stdin=text, stdout=out, stderr=subprocess.PIPE)
+        ended = subprocess.run(whole, stdin=text, stdout=out, stderr=subprocess.PIPE)
         milliseconds = (time.perf_counter() - start) * 1000
-        if status.returncode != 0:
-            fail(f"{command} ends with {status.returncode}: {status.stderr.decode()}")
+        if ended.returncode != status:
+            fail(f"{command} ends with {ended.returncode}: {ended.stderr.decode()}")
         peak = re.search(r"Maximum resident set size \(kbytes\): (\d+)", report.read())
         out.seek(0)
         return milliseconds, int(peak.group(1)) * 1024, out.read().decode()
 
 
-def best(command, given=None):
+def best(command, given=None, status=0):
     """The least time and the least peak memory of three runs over a file, and what the command wrote."""
-    runs = [once(command, given) for _ in range(RUNS)]
+    runs = [once(command, given, status) for _ in range(RUNS)]
     texts = {text for _, _, text in runs}
     if len(texts) != 1:
         fail(f"{command} writes different texts")

@@ -1,15 +1,26 @@
 -- The commands that are built.
-use Rattle.std.specs.Prelude.{List, [], ◌∷◌, codes}
+use Rattle.std.specs.Prelude.{ℕ, List, [], ◌∷◌, codes}
 use Rattle.command_words.specs.declared.form.CommandName.{CommandName}
-use Rattle.command_words.specs.declared.form.CommandName.TheVariants.{Expand, Compile, Equiv}
+use Rattle.command_words.specs.declared.form.CommandName.TheVariants.{Expand, Compile, Equiv, Gen, Migrate}
 use Rattle.command_words.specs.declared.form.Need.TheVariants.{Never, Maybe}
-use Rattle.command_words.specs.declared.form.Operands.TheVariants.{Files}
+use Rattle.command_words.specs.declared.form.Operands.{Operands}
+use Rattle.command_words.specs.declared.form.Operands.TheVariants.{Files, Numbers}
 use Rattle.command_words.specs.Commands.{Form}
+
+-- the form of a command that makes a table of a list
+abbrev pub table_form : CommandName → List ℕ → Form CommandName
+table_form command name = record { command = command; name = name; limit = Maybe; slot = Maybe; slots = Never; operands = Files 1 1; label = codes "LIST" }
+
+-- the form of a command without options
+abbrev pub plain_form : CommandName → List ℕ → Operands → List ℕ → Form CommandName
+plain_form command name operands label = record { command = command; name = name; limit = Never; slot = Never; slots = Never; operands = operands; label = label }
 
 -- their forms, in the order of the usage text
 abbrev pub built_forms : List (Form CommandName)
 built_forms =
-    record { command = Expand; name = codes "expand"; limit = Maybe; slot = Maybe; slots = Never; operands = Files 1 1; label = codes "LIST" }
-    ∷ record { command = Compile; name = codes "compile"; limit = Maybe; slot = Maybe; slots = Never; operands = Files 1 1; label = codes "LIST" }
-    ∷ record { command = Equiv; name = codes "equiv"; limit = Never; slot = Never; slots = Never; operands = Files 2 2; label = codes "A B" }
+    table_form Expand (codes "expand")
+    ∷ table_form Compile (codes "compile")
+    ∷ plain_form Equiv (codes "equiv") (Files 2 2) (codes "A B")
+    ∷ plain_form Gen (codes "gen") (Numbers (2147483647 ∷ 65536 ∷ [])) (codes "SEED N")
+    ∷ plain_form Migrate (codes "migrate") (Files 1 1) (codes "TABLE")
     ∷ []

@@ -9,6 +9,8 @@ pub enum CommandName {
     Expand,
     Compile,
     Equiv,
+    Gen,
+    Migrate,
 }
 
 /// Whether a command takes an option: never, if it is there, or it has to be there.

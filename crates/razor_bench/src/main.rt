@@ -9,12 +9,17 @@
 //! razor_bench unions 1000 20
 //! razor_bench crossed 256 20
 //! razor_bench read 20 < LIST
+//! razor_bench diagram 20 < LIST
+//! razor_bench cost 20 < LIST
+//! razor_bench table 20 < LIST
 //! ```
 #![tactic(auto)]
 
 mod access;
 mod build;
+mod compile;
 mod crossed;
+mod input;
 mod lists;
 mod minimise;
 mod nodes;
@@ -36,5 +41,6 @@ fn main(rt: HostRuntime) -> anyhow::Result<()> {
         Work::Minimise(count) => minimise::run(&rt, count),
         Work::Build { list, times } => build::run(&rt, list, times),
         Work::Read(times) => read::run(&rt, times),
+        Work::Compile { step, times } => compile::run(&rt, step, times),
     }
 }

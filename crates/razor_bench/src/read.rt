@@ -1,26 +1,15 @@
 //! Reading a filter list.
 
-use anyhow::{Result, bail};
+use crate::input::{input, list_of};
+use anyhow::Result;
 use field_boxes::{Rule, Span};
-use filter_reader::read_list;
-use razor_base::{HostDesk, read_all};
 use std::fs::Files;
-
-/// As many bytes as a list may have.
-const MOST_BYTES: u64 = 16_777_216;
 
 /// Reads the list on standard input so often, and prints what each time came of it.
 pub fn run(rt: &(impl Files + Input + Print + AllocGlobal), times: u32) -> Result<()> {
-    let alloc = rt.alloc();
-    let mut desk = HostDesk::new(rt, alloc);
-    let mut bytes = Vec::new(alloc);
-    if read_all(&mut desk, "-", MOST_BYTES, &mut bytes).is_err() {
-        bail!("standard input isn't read");
-    }
+    let bytes = input(rt)?;
     for _time in 0..times {
-        let Ok(list) = read_list(alloc, &bytes) else {
-            bail!("standard input is no filter list");
-        };
+        let list = list_of(rt.alloc(), &bytes)?;
         println!(rt;
             "rules {} names {} flagged {} checksum {}",
             list.rules.len(),

@@ -1,5 +1,6 @@
 //! What the words ask for.
 
+use crate::compile::Step;
 use crate::lists::RuleList;
 use anyhow::{Context, Result, bail};
 use std::env;
@@ -16,6 +17,8 @@ pub enum Work {
     Build { list: RuleList, times: u32 },
     /// Read the filter list on standard input, so often.
     Read(u32),
+    /// Compile the filter list on standard input so far, so often.
+    Compile { step: Step, times: u32 },
 }
 
 impl Work {
@@ -37,15 +40,22 @@ impl Work {
                 times,
             }),
             "read" => Ok(Work::Read(size)),
+            "diagram" => Ok(Work::compile(Step::Diagram, size)),
+            "cost" => Ok(Work::compile(Step::Cost, size)),
+            "table" => Ok(Work::compile(Step::Table, size)),
             _ => bail!("no work is named {name:?}"),
         }
+    }
+
+    fn compile(step: Step, times: u32) -> Work {
+        Work::Compile { step, times }
     }
 
     /// The work that the words after the program's name ask for: a name, a size, and how often, or once.
     pub fn of_words(rt: &(impl Env + AllocGlobal)) -> Result<Work> {
         let mut words = env::args(rt)?.skip(1);
         let name = words.next().context(
-            "nodes, minimise, build, unions, crossed or read, and a size",
+            "nodes, minimise, build, unions, crossed, read, diagram, cost or table, and a size",
         )?;
         let size = words.next().context("a size")?;
         let times = match words.next() {

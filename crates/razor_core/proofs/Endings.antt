@@ -5,9 +5,8 @@ use Rattle.std.specs.Io.KnownBytes.{Keeps}
 use Rattle.razor_core.specs.declared.ending.Ending.{Ending}
 use Rattle.razor_core.specs.declared.ending.Ending.TheVariants.{Done, No, BadLine as Bad, TooLong, TooMany, ReadFault, WriteFault, Memory}
 use Rattle.razor_core.specs.Command.{Command}
-use Rattle.razor_core.specs.Inputs.{Value, inputs}
+use Rattle.razor_core.specs.Inputs.{BadLine, Value, inputs}
 use Rattle.razor_core.specs.Outside.{Outside, Tells}
-use Rattle.filter_reader.specs.FilterList.{BadLine}
 use Rattle.razor_core.specs.Turns.{Stop, bad_line, too_long, too_many, stop_status, turns_of, Needs, Pass, IsStopped}
 use Rattle.razor_core.specs.Ending.{status_of, ending_line, summary_text, IsDone, IsCutOff, FailsToRead, Ends}
 use Rattle.razor_core.specs.Messages.{stop_line, read_fault_line, write_fault_line, memory_line}

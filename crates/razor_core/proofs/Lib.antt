@@ -1,5 +1,6 @@
 pub mod DifferText
 pub mod Endings
 pub mod Inputs
-pub mod Tables
+pub mod OneInput
 pub mod TwoLists
+pub mod NoInput

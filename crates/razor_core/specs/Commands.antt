@@ -2,7 +2,7 @@
 use Rattle.razor_core.specs.declared.command.Command as code
 use Rattle.razor_core.specs.declared.command.Command.TheVariants as code_variants
 use Rattle.razor_core.specs.declared.sizes.Sizes as code_sizes
-use Rattle.razor_core.specs.Command.{Command, Sizes, Make, Equiv}
+use Rattle.razor_core.specs.Command.{Command, Sizes, Make, Equiv, Gen, Migrate}
 
 -- the sizes of a table
 abbrev pub sizes_of : code_sizes.Sizes → Sizes
@@ -12,3 +12,5 @@ sizes_of s = record { limit = s.limit; slot = s.slot }
 abbrev pub spelled : code.Command → Command
 spelled (code_variants.Make method sizes list) = Make method (sizes_of sizes) list.now
 spelled (code_variants.Equiv files) = Equiv files.left.now files.right.now
+spelled (code_variants.Gen drawing) = Gen drawing.seed drawing.rules
+spelled (code_variants.Migrate table) = Migrate table.now

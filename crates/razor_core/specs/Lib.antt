@@ -7,6 +7,7 @@ pub mod Taking
 pub mod Making
 pub mod Comparison
 pub mod Outcome
+pub mod Reasons
 pub mod Messages
 pub mod Ending
 pub mod Says

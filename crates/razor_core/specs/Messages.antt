@@ -3,8 +3,8 @@ use Rattle.std.specs.Prelude.{ℕ, List, [], ◌∷◌, ◌++◌, codes}
 use Rattle.std.specs.Fmt.{decimal}
 use Rattle.command_words.specs.Built.{built_forms}
 use Rattle.command_words.specs.Usage.{usage_of}
-use Rattle.filter_reader.specs.declared.reason.Reason.{Reason}
-use Rattle.filter_reader.specs.declared.reason.Reason.TheVariants.{NoAt, Address, Length, PortForm, PortOrder, PortRange, ProtocolForm, ProtocolMask, FlagsForm, DecisionForm, Reserved, Extra, TooManyRules, NotAscii, TooManyRanges}
+use Rattle.razor_core.specs.declared.line_reason.LineReason.{LineReason}
+use Rattle.razor_core.specs.Reasons.{counts_text, reason_text}
 use Rattle.razor_core.specs.Turns.{Stop, bad_line, too_long, too_many}
 
 abbrev pub line_end : List ℕ
@@ -14,25 +14,8 @@ line_end = 10 ∷ []
 abbrev pub usage_text : List ℕ
 usage_text = usage_of built_forms
 
-abbrev pub reason_text : Reason → List ℕ
-reason_text NoAt = codes "no @"
-reason_text Address = codes "address"
-reason_text Length = codes "length"
-reason_text PortForm = codes "port form"
-reason_text PortOrder = codes "port order"
-reason_text PortRange = codes "port range"
-reason_text ProtocolForm = codes "protocol form"
-reason_text ProtocolMask = codes "protocol mask"
-reason_text FlagsForm = codes "flags form"
-reason_text DecisionForm = codes "decision form"
-reason_text Reserved = codes "reserved word"
-reason_text Extra = codes "extra column"
-reason_text TooManyRules = codes "one rule too many"
-reason_text NotAscii = codes "byte not ASCII"
-reason_text TooManyRanges = codes "too many ranges"
-
-abbrev pub bad_line_line : List ℕ → ℕ → Reason → List ℕ
-bad_line_line file line reason = file ++ codes ": line " ++ decimal line ++ codes ": " ++ reason_text reason ++ line_end
+abbrev pub bad_line_line : List ℕ → ℕ → LineReason → List ℕ
+bad_line_line file line reason = file ++ codes ": line " ++ decimal line ++ codes ": " ++ reason_text reason ++ counts_text reason ++ line_end
 
 abbrev pub too_long_line : List ℕ → ℕ → List ℕ
 too_long_line file limit = file ++ codes ": more than " ++ decimal limit ++ codes " bytes" ++ line_end

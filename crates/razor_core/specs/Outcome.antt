@@ -2,13 +2,15 @@
 use Rattle.std.specs.Prelude.{◌≡◌, ◌⊎◌, ℕ, Bool, true, false, List, [], ◌∷◌, length}
 use Rattle.ternary_words.specs.Table.{Table}
 use Rattle.ternary_words.specs.TableText.{table_text}
-use Rattle.razor_core.specs.Command.{Command, Make, Equiv}
-use Rattle.razor_core.specs.Inputs.{Value, list_value}
+use Rattle.razor_core.specs.Command.{Command, Make, Equiv, Gen, Migrate}
+use Rattle.razor_core.specs.Inputs.{Value, list_value, table_value}
 use Rattle.field_boxes.specs.Classifier.{Rule, source}
 use Rattle.field_boxes.specs.Fields.{stated}
 use Rattle.razor_core.specs.Comparison.{DecideAlike, IsFirstDifference, equal_line, differ_line}
 use Rattle.razor_core.specs.Messages.{rules_line}
 use Rattle.filter_reader.specs.FilterList.{FilterList}
+use Rattle.filter_reader.specs.ListText.{list_text}
+use Rattle.list_generator.specs.DrawnRules.{generated}
 use Rattle.razor_core.specs.Making.{IsMade}
 
 -- whether the answer is yes, the output, and the line on standard error
@@ -33,8 +35,8 @@ Compares left right outcome =
 
 -- the outcome is one that the command defines for these values
 abbrev pub Gives : Command → List Value → Outcome → Type 0
-Gives (Make method sizes file) [] outcome = ⊥
 Gives (Make method sizes file) (list_value list ∷ values) outcome = IsTableOf list (IsMade method list.rules sizes.slot) outcome
-Gives (Equiv left right) [] outcome = ⊥
-Gives (Equiv left right) (list_value first ∷ []) outcome = ⊥
 Gives (Equiv left right) (list_value first ∷ list_value second ∷ values) outcome = Compares first.rules second.rules outcome
+Gives (Gen seed rules) values outcome = outcome ≡ record { yes = true; text = list_text (generated seed rules).rules; line = [] }
+Gives (Migrate file) (table_value table ∷ values) outcome = outcome ≡ record { yes = true; text = table_text table; line = [] }
+Gives command values outcome = ⊥

@@ -3,12 +3,11 @@ use Rattle.std.specs.Prelude.{◌≡◌, ◌≢◌, ℕ, ◌⊎◌, true, false,
 use Rattle.std.specs.Io.KnownBytes.{Keeps}
 use Rattle.razor_base.specs.Faults.{Rose}
 use Rattle.razor_core.specs.Command.{Command, command_of}
-use Rattle.razor_core.specs.Inputs.{Value, inputs}
+use Rattle.razor_core.specs.Inputs.{BadLine, Value, inputs}
 use Rattle.razor_core.specs.Outside.{Outside, Tells, IsNoInput}
 use Rattle.razor_core.specs.Turns.{Stop, bad_line, too_long, too_many, stop_status, Pass, IsStopped}
 use Rattle.razor_core.specs.Ending.{IsDone, IsCutOff, FailsToRead}
 use Rattle.razor_core.specs.Messages.{usage_text, stop_line, read_fault_line, write_fault_line, memory_line}
-use Rattle.filter_reader.specs.FilterList.{BadLine}
 
 -- the line of the status of a command
 pub record IsLineOf (command : Command) (before after : Outside) (status : ℕ) (line : List ℕ) : Type 0 where

@@ -9,12 +9,21 @@ use Rattle.filter_reader.specs.declared.list.ListError.{ListError}
 use Rattle.filter_reader.specs.declared.list.ListError.TheVariants as errors
 use Rattle.filter_reader.specs.declared.list.RuleList.{RuleList}
 use Rattle.filter_reader.specs.Lists.{filter_list}
-use Rattle.razor_core.specs.Inputs.{Input, Value, list_value}
+use Rattle.ternary_words.specs.declared.table.Table.{Table}
+use Rattle.ternary_words.specs.Views.{table_of}
+use Rattle.table_text.specs.declared.error.TableError.{TableError}
+use Rattle.table_text.specs.declared.error.TableError.TheVariants as table_errors
+use Rattle.razor_core.specs.declared.line_reason.LineReason.TheVariants.{OfList, OfTable}
+use Rattle.razor_core.specs.Inputs.{Input, Value, list_value, table_value}
 use Rattle.razor_core.specs.Turns.{turn, bad_line, too_long}
 
 -- the value of a list of the code
 abbrev pub value_of : RuleList → Value
 value_of list = list_value (filter_list list)
+
+-- the value of a table of the code
+abbrev pub table_value_of : Table → Value
+table_value_of table = table_value (table_of table)
 
 -- the turn passed with this value, and the input was read to its end, where the desk tells it
 abbrev pub TakesTurn : Input → Option (List ℕ) → Option (List ℕ) → Value → Type 0
@@ -34,8 +43,14 @@ EndsTurn input before faults_before faults_after Memory = Unit {0}
 -- the ending of a command whose list was refused with this error
 abbrev pub IsRefusalOf : List ℕ → ListError → Ending → Type 0
 IsRefusalOf name errors.Memory ending = ending ≡ Memory
-IsRefusalOf name (errors.BadLine line reason) (Bad file at why) = (file.now ≡ name) × (at ≡ line) × (why ≡ reason)
+IsRefusalOf name (errors.BadLine line reason) (Bad file at why) = (file.now ≡ name) × (at ≡ line) × (why ≡ OfList reason)
 IsRefusalOf name (errors.BadLine line reason) _ = ⊥
+
+-- the ending of a command whose table was refused with this error
+abbrev pub IsTableRefusalOf : List ℕ → TableError → Ending → Type 0
+IsTableRefusalOf name table_errors.Memory ending = ending ≡ Memory
+IsTableRefusalOf name (table_errors.BadLine line reason) (Bad file at why) = (file.now ≡ name) × (at ≡ line) × (why ≡ OfTable reason)
+IsTableRefusalOf name (table_errors.BadLine line reason) _ = ⊥
 
 -- the ending of a command whose input couldn't be read whole, with this error
 abbrev pub IsFaultOf : List ℕ → ℕ → ReadError → Ending → Type 0

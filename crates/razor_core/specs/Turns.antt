@@ -1,9 +1,8 @@
 -- What the inputs of a command come to, each in its turn, and the entries that are needed.
 use Rattle.std.specs.Prelude.{◌≡◌, ℕ, ◌<◌, ◌≤◌, nat_lt, List, [], ◌∷◌, length, Result, Ok, Err, if◌then◌else◌}
-use Rattle.razor_core.specs.Command.{Command, Make, Equiv}
-use Rattle.razor_core.specs.Inputs.{Input, Value, list_value, inputs, most_bytes, spelled_by}
+use Rattle.razor_core.specs.Command.{Command, Make, Equiv, Gen, Migrate}
+use Rattle.razor_core.specs.Inputs.{BadLine, Input, Value, list_value, table_value, inputs, most_bytes, spelled_by}
 use Rattle.razor_core.specs.Outside.{Outside, bytes_at}
-use Rattle.filter_reader.specs.FilterList.{BadLine}
 use Rattle.razor_core.specs.Making.{IsNeeded}
 
 -- what ends the turns: a bad line, a byte after the limit, or more entries than the limit
@@ -42,12 +41,17 @@ turns_of outside (input ∷ others) = before_others (turn input (bytes_at outsid
 abbrev pub Needs : Command → List Value → ℕ → Type 0
 Needs (Make method sizes file) [] needed = ⊥
 Needs (Make method sizes file) (list_value list ∷ values) needed = IsNeeded method list.rules needed
+Needs (Make method sizes file) (table_value table ∷ values) needed = ⊥
 Needs (Equiv left right) values needed = ⊥
+Needs (Gen seed rules) values needed = ⊥
+Needs (Migrate file) values needed = ⊥
 
 -- the greatest number of entries that a command may make, which is 0 where it makes none
 abbrev pub entry_limit : Command → ℕ
 entry_limit (Make method sizes file) = sizes.limit
 entry_limit (Equiv left right) = 0
+entry_limit (Gen seed rules) = 0
+entry_limit (Migrate file) = 0
 
 -- all turns pass, and no more entries are needed than the limit
 pub record Pass (command : Command) (before : Outside) (values : List Value) : Type 0 where

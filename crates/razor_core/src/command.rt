@@ -1,10 +1,12 @@
 ghost use Rattle.std.specs.Prelude.{◌≡◌, ◌≤◌, List, ℕ, IfSome, map};
 ghost use Rattle.std.specs.Option.{option_map};
 ghost use Rattle.command_words.specs.Options.{Takes};
+ghost use Rattle.command_words.specs.Views.{numbers_seen};
 ghost use Rattle.command_words.specs.declared.option.OptionName.TheVariants as options;
-ghost use Rattle.razor_core.specs.Command.{command_named, command_of, making, sizes_given};
+ghost use Rattle.razor_core.specs.Command.{command_named, command_of, drawing, making, sizes_given};
 ghost use Rattle.razor_core.specs.Commands.{sizes_of, spelled};
 
+use crate::drawing::Drawing;
 use crate::method::Method;
 use crate::sizes::Sizes;
 use crate::two_files::TwoFiles;
@@ -21,6 +23,10 @@ pub enum Command<'a> {
     },
     /// Says whether two lists decide every header alike, or on which header they first differ.
     Equiv(TwoFiles<'a>),
+    /// Writes the list that a seed gives.
+    Gen(Drawing),
+    /// Writes a table of either version in the compact text.
+    Migrate(&'a str),
 }
 
 /// The sizes of a table where these options are given or left out.
@@ -49,15 +55,37 @@ fn making<'a>(method: Method, sizes: Sizes, files: &[&'a str]) -> Option<Command
     }
 }
 
-/// The command of the name, with these sizes and file words.
-fn named<'a>(name: CommandName, sizes: Sizes, files: &[&'a str]) -> Option<Command<'a>>
-    ensures { option_map spelled result ≡ command_named name (sizes_of sizes) (map (λ word. word.now) files.now) }
+/// The command that draws so many rules from a seed.
+fn drawing<'a>(numbers: Option<[u32; 2]>) -> Option<Command<'a>>
+    ensures { option_map spelled result ≡ drawing (numbers_seen numbers) }
+{
+    let [seed, rules] = numbers?;
+    if seed <= 2_147_483_647 && rules <= 65_536 {
+        Some(Command::Gen(Drawing { seed, rules }))
+    } else {
+        None
+    }
+}
+
+/// The command of the name, with these sizes, numbers and file words.
+fn named<'a>(
+    name: CommandName,
+    sizes: Sizes,
+    numbers: Option<[u32; 2]>,
+    files: &[&'a str],
+) -> Option<Command<'a>>
+    ensures { option_map spelled result ≡ command_named name (sizes_of sizes) (numbers_seen numbers) (map (λ word. word.now) files.now) }
 {
     match name {
         CommandName::Expand => making(Method::Expand, sizes, files),
         CommandName::Compile => making(Method::Compile, sizes, files),
         CommandName::Equiv => match files {
             [left, right] if left != right => Some(Command::Equiv(TwoFiles { left, right })),
+            _ => None,
+        },
+        CommandName::Gen => drawing(numbers),
+        CommandName::Migrate => match files {
+            [table] => Some(Command::Migrate(table)),
             _ => None,
         },
     }
@@ -69,5 +97,5 @@ pub fn spelled_command(words: &Words) -> Option<Command<'_>>
 {
     let spelled = built_command(words)?;
     let sizes = sizes_with(spelled.limit, spelled.slot);
-    named(spelled.command, sizes, spelled.files())
+    named(spelled.command, sizes, spelled.numbers, spelled.files())
 }

@@ -1,7 +1,7 @@
 ghost use Rattle.std.specs.Prelude.{◌≡◌};
 ghost use Rattle.razor_core.specs.Ending.{status_of};
 
-use filter_reader::Reason;
+use crate::line_reason::LineReason;
 
 /// How a command ended.
 #[derive(Clone, Copy, Debug)]
@@ -14,7 +14,7 @@ pub enum Ending<'a> {
     BadLine {
         file: &'a str,
         line: u64,
-        reason: Reason,
+        reason: LineReason,
     },
     /// The input goes on after its limit.
     TooLong {

@@ -1,23 +1,47 @@
 ghost use Rattle.std.specs.Prelude.{◌≡◌, ◌≢◌, ◌≤◌, ℕ, List, MatchResult};
 ghost use Rattle.std.specs.Io.KnownBytes.{Keeps};
-ghost use Rattle.razor_core.specs.Inputs.{list_input};
-ghost use Rattle.razor_core.specs.Taking.{TakesTurn, EndsTurn, IsRefusalOf, IsFaultOf, value_of};
+ghost use Rattle.razor_core.specs.Inputs.{list_input, table_input};
+ghost use Rattle.razor_core.specs.Taking.{TakesTurn, EndsTurn, IsRefusalOf, IsTableRefusalOf, IsFaultOf, table_value_of, value_of};
 
 use crate::ending::Ending;
+use crate::line_reason::LineReason;
 use filter_reader::{ListError, RuleList, read_list};
 use razor_base::{Desk, ReadError, read_all};
 use std::alloc::Global;
+use table_text::{TableError, read_table};
+use ternary_words::Table;
 
 /// The greatest number of bytes of a list.
-pub const MOST_BYTES: u64 = 16_777_216;
+const MOST_LIST_BYTES: u64 = 16_777_216;
+
+/// The greatest number of bytes of a table.
+const MOST_TABLE_BYTES: u64 = 134_217_728;
 
 /// The ending of a command whose list was refused.
 fn list_refused(file: &str, error: ListError) -> Ending<'_>
     ensures { IsRefusalOf file.now error result }
 {
     match error {
-        ListError::BadLine { line, reason } => Ending::BadLine { file, line, reason },
+        ListError::BadLine { line, reason } => Ending::BadLine {
+            file,
+            line,
+            reason: LineReason::OfList(reason),
+        },
         ListError::Memory => Ending::Memory,
+    }
+}
+
+/// The ending of a command whose table was refused.
+fn table_refused(file: &str, error: TableError) -> Ending<'_>
+    ensures { IsTableRefusalOf file.now error result }
+{
+    match error {
+        TableError::BadLine { line, reason } => Ending::BadLine {
+            file,
+            line,
+            reason: LineReason::OfTable(reason),
+        },
+        TableError::Memory => Ending::Memory,
     }
 }
 
@@ -45,11 +69,33 @@ pub fn take_list<'a, D: Desk>(
     ensures others { (other : List ℕ) → other ≢ file.now → Keeps (D.remaining desk.old other) (D.remaining desk.new other) }
 {
     let mut text = Vec::new(alloc);
-    if let Err(error) = read_all(desk, file, MOST_BYTES, &mut text) {
-        return Err(not_read(file, MOST_BYTES, error));
+    if let Err(error) = read_all(desk, file, MOST_LIST_BYTES, &mut text) {
+        return Err(not_read(file, MOST_LIST_BYTES, error));
     }
     match read_list(alloc, &text) {
         Ok(list) => Ok(list),
         Err(error) => Err(list_refused(file, error)),
+    }
+}
+
+/// Takes the turn of a table: reads it whole and takes its entries, or says how the command ends.
+pub fn take_table<'a, D: Desk>(
+    alloc: Global,
+    file: &'a str,
+    desk: &mut D,
+) -> Result<Table, Ending<'a>>
+    ensures turn { MatchResult result
+        (λ table. TakesTurn (table_input file.now) (D.remaining desk.old file.now) (D.remaining desk.new file.now) (table_value_of table))
+        (λ ending. EndsTurn (table_input file.now) (D.remaining desk.old file.now) (D.faults desk.old file.now) (D.faults desk.new file.now) ending) }
+    ensures counts { (other : List ℕ) → D.faults desk.old other ≤ D.faults desk.new other }
+    ensures others { (other : List ℕ) → other ≢ file.now → Keeps (D.remaining desk.old other) (D.remaining desk.new other) }
+{
+    let mut text = Vec::new(alloc);
+    if let Err(error) = read_all(desk, file, MOST_TABLE_BYTES, &mut text) {
+        return Err(not_read(file, MOST_TABLE_BYTES, error));
+    }
+    match read_table(alloc, &text) {
+        Ok(table) => Ok(table),
+        Err(error) => Err(table_refused(file, error)),
     }
 }

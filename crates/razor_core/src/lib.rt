@@ -3,11 +3,14 @@
 
 mod command;
 mod comparison;
+mod drawing;
 mod ending;
 mod input;
+mod line_reason;
 mod making;
 mod message;
 mod method;
+mod reason;
 pub mod rows;
 mod run;
 mod sizes;
@@ -15,6 +18,7 @@ mod top;
 mod two_files;
 
 pub use command_words::Words;
+pub use list_generator::{generate, next};
 pub use making::{CompileError, compile, expand};
 pub use top::razor;
 

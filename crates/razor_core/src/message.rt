@@ -1,11 +1,12 @@
 ghost use Rattle.std.specs.Prelude.{◌≡◌};
 ghost use Rattle.razor_base.specs.Parts.{parts_text};
 ghost use Rattle.razor_core.specs.Says.{Says};
-ghost use Rattle.razor_core.specs.Messages.{reason_text, usage_text};
+ghost use Rattle.razor_core.specs.Messages.{bad_line_line, usage_text};
 ghost use Rattle.razor_core.specs.Ending.{ending_line, summary_text};
 
 use crate::ending::{Ending, Summary};
-use filter_reader::Reason;
+use crate::line_reason::LineReason;
+use crate::reason::{counts, reason_words};
 use razor_base::{Part, Sink, write_parts};
 
 /// Writes the parts as far as the sink lets them.
@@ -22,32 +23,9 @@ pub fn say_usage<E: Sink>(err: &mut E)
     say(
         err,
         &[Part::Text(
-            "usage: razor COMMAND\n  expand [--limit N] [--slot W] LIST\n  compile [--limit N] [--slot W] LIST\n  equiv A B\n",
+            "usage: razor COMMAND\n  expand [--limit N] [--slot W] LIST\n  compile [--limit N] [--slot W] LIST\n  equiv A B\n  gen SEED N\n  migrate TABLE\n",
         )],
     )
-}
-
-/// What is wrong with a line, in words.
-fn reason_words(reason: Reason) -> &'static str
-    ensures { result.now ≡ reason_text reason }
-{
-    match reason {
-        Reason::NoAt => "no @",
-        Reason::Address => "address",
-        Reason::Length => "length",
-        Reason::PortForm => "port form",
-        Reason::PortOrder => "port order",
-        Reason::PortRange => "port range",
-        Reason::ProtocolForm => "protocol form",
-        Reason::ProtocolMask => "protocol mask",
-        Reason::FlagsForm => "flags form",
-        Reason::DecisionForm => "decision form",
-        Reason::Reserved => "reserved word",
-        Reason::Extra => "extra column",
-        Reason::TooManyRules => "one rule too many",
-        Reason::NotAscii => "byte not ASCII",
-        Reason::TooManyRanges => "too many ranges",
-    }
 }
 
 /// Says how the command ended.
@@ -57,17 +35,7 @@ pub fn say_ending<E: Sink>(err: &mut E, ending: Ending<'_>)
     match ending {
         Ending::Done(summary) => say_summary(err, summary),
         Ending::No => {}
-        Ending::BadLine { file, line, reason } => say(
-            err,
-            &[
-                Part::Text(file),
-                Part::Text(": line "),
-                Part::Number(u128::from(line)),
-                Part::Text(": "),
-                Part::Text(reason_words(reason)),
-                Part::Text("\n"),
-            ],
-        ),
+        Ending::BadLine { file, line, reason } => say_bad_line(err, file, line, reason),
         Ending::TooLong { file, limit } => say(
             err,
             &[
@@ -105,6 +73,40 @@ fn say_summary<E: Sink>(err: &mut E, summary: Summary)
                 Part::Number(u128::from(rules)),
                 Part::Text(", flagged "),
                 Part::Number(u128::from(flagged)),
+                Part::Text("\n"),
+            ],
+        ),
+    }
+}
+
+/// Says what is wrong with the line of the file.
+fn say_bad_line<E: Sink>(err: &mut E, file: &str, line: u64, reason: LineReason)
+    ensures { Says E.written E.faults err.old err.new (bad_line_line file.now line reason) }
+{
+    match counts(reason) {
+        None => say(
+            err,
+            &[
+                Part::Text(file),
+                Part::Text(": line "),
+                Part::Number(u128::from(line)),
+                Part::Text(": "),
+                Part::Text(reason_words(reason)),
+                Part::Text("\n"),
+            ],
+        ),
+        Some((stated, found)) => say(
+            err,
+            &[
+                Part::Text(file),
+                Part::Text(": line "),
+                Part::Number(u128::from(line)),
+                Part::Text(": "),
+                Part::Text(reason_words(reason)),
+                Part::Text(", stated "),
+                Part::Number(u128::from(stated)),
+                Part::Text(" found "),
+                Part::Number(u128::from(found)),
                 Part::Text("\n"),
             ],
         ),

@@ -1,6 +1,6 @@
-ghost use Rattle.std.specs.Prelude.{◌≡◌, ◌≢◌, ℕ, List, Some, length};
+ghost use Rattle.std.specs.Prelude.{◌≡◌, ◌≢◌, ℕ, List, Option, Some, length};
 ghost use Rattle.std.specs.Io.KnownBytes.{Keeps};
-ghost use Rattle.razor_core.specs.Command.{Make, Equiv};
+ghost use Rattle.razor_core.specs.Command.{Make, Equiv, Gen, Migrate};
 ghost use Rattle.razor_core.specs.Commands.{sizes_of, spelled};
 ghost use Rattle.razor_core.specs.Outside.{seen, IsNoInput};
 ghost use Rattle.filter_reader.specs.Lists.{filter_list};
@@ -9,14 +9,16 @@ ghost use Rattle.razor_core.specs.Messages.{rules_line};
 
 use crate::command::Command;
 use crate::comparison::{answered, write_verdict};
+use crate::drawing::Drawing;
 use crate::ending::{Ending, Summary};
-use crate::input::take_list;
+use crate::input::{take_list, take_table};
 use crate::making::{CompileError, make};
 use crate::method::Method;
 use crate::sizes::Sizes;
 use crate::two_files::TwoFiles;
-use filter_reader::RuleList;
+use filter_reader::{RuleList, write_list};
 use list_equiv::equal;
+use list_generator::generate;
 use razor_base::{Desk, Sink};
 use std::alloc::Global;
 use ternary_words::write_table;
@@ -41,6 +43,8 @@ pub fn run<'a, D: Desk, K: Sink>(
             list,
         } => make_table(alloc, method, sizes, list, desk, out),
         Command::Equiv(files) => compare_lists(alloc, files, desk, out),
+        Command::Gen(drawing) => draw_list(alloc, drawing, out),
+        Command::Migrate(file) => migrate_table(alloc, file, desk, out),
     }
 }
 
@@ -100,6 +104,46 @@ fn compare_lists<'a, D: Desk, K: Sink>(
     };
     match write_verdict(verdict, &left, &right, out) {
         Ok(()) => answered(verdict),
+        Err(_) => Ending::WriteFault,
+    }
+}
+
+/// Writes the list that a seed gives.
+fn draw_list<'a, K: Sink>(alloc: Global, drawing: Drawing, out: &mut K) -> Ending<'a>
+    ensures { (remaining : List ℕ → Option (List ℕ)) (read_faults : List ℕ → ℕ) → Ends (Gen drawing.seed drawing.rules)
+        (record { remaining = remaining; read_faults = read_faults; written = K.written out.old; write_faults = K.faults out.old })
+        (record { remaining = remaining; read_faults = read_faults; written = K.written out.new; write_faults = K.faults out.new })
+        result }
+{
+    let list = match generate(alloc, drawing.seed, drawing.rules) {
+        Ok(list) => list,
+        Err(_) => return Ending::Memory,
+    };
+    match write_list(&list, out) {
+        Ok(()) => Ending::Done(Summary::Nothing),
+        Err(_) => Ending::WriteFault,
+    }
+}
+
+/// Writes a table of either version in the compact text.
+fn migrate_table<'a, D: Desk, K: Sink>(
+    alloc: Global,
+    file: &'a str,
+    desk: &mut D,
+    out: &mut K,
+) -> Ending<'a>
+    ensures ends { Ends (Migrate file.now)
+        (seen D.remaining D.faults K.written K.faults desk.old out.old)
+        (seen D.remaining D.faults K.written K.faults desk.new out.new)
+        result }
+    ensures others { (other : List ℕ) → other ≢ file.now → Keeps (D.remaining desk.old other) (D.remaining desk.new other) }
+{
+    let table = match take_table(alloc, file, desk) {
+        Ok(table) => table,
+        Err(ending) => return ending,
+    };
+    match write_table(&table, out) {
+        Ok(()) => Ending::Done(Summary::Nothing),
         Err(_) => Ending::WriteFault,
     }
 }

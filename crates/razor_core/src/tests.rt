@@ -1,7 +1,9 @@
 mod comparing;
 mod compiling;
 mod faults;
+mod generating;
 mod limits;
+mod migrating;
 
 use crate::{Words, razor};
 use razor_base::{MemDesk, MemSink};
@@ -204,7 +206,7 @@ fn knows_its_words(rt: HostRuntime) -> Result<(), Fail> {
     ];
     for words in none {
         let usage =
-            b"usage: razor COMMAND\n  expand [--limit N] [--slot W] LIST\n  compile [--limit N] [--slot W] LIST\n  equiv A B\n";
+            b"usage: razor COMMAND\n  expand [--limit N] [--slot W] LIST\n  compile [--limit N] [--slot W] LIST\n  equiv A B\n  gen SEED N\n  migrate TABLE\n";
         check(&rt, words, calm(WEB), 2, b"", usage)?;
     }
     let limits: [&[&str]; 3] = [

@@ -1,0 +1,51 @@
+//! The steps of compiling a list.
+ghost use Rattle.std.specs.Prelude.{◌≡◌};
+ghost use Rattle.node_store.specs.Diagram.{level_of};
+
+use crate::input::{input, list_of};
+use anyhow::{Result, bail};
+use fdd_build::build;
+use node_store::{NodeId, Store};
+use std::fs::Files;
+use table_compose::{compose, cost};
+
+/// How far a list is compiled.
+#[derive(Clone, Copy, Debug, PartialEq, Eq)]
+pub enum Step {
+    /// To its diagram.
+    Diagram,
+    /// To the cheapest prefix lists of the nodes, and what the diagram costs.
+    Cost,
+    /// To the entries of its table.
+    Table,
+}
+
+/// As many entries as a table may have.
+const MOST_ENTRIES: u32 = 262_144;
+
+/// Compiles the list on standard input so far and so often, and prints what each time came of it.
+pub fn run(rt: &(impl Files + Input + Print + AllocGlobal), step: Step, times: u32) -> Result<()> {
+    let bytes = input(rt)?;
+    for _time in 0..times {
+        let list = list_of(rt.alloc(), &bytes)?;
+        let mut store = Store::new(rt.alloc());
+        let root = build(rt.alloc(), &mut store, &list.rules)?;
+        finish(rt, step, &store, root)?;
+    }
+    Ok(())
+}
+
+/// Goes on from the diagram, and prints what comes of it.
+fn finish(rt: &(impl Print + AllocGlobal), step: Step, store: &Store, root: NodeId) -> Result<()>
+    requires { level_of store.now root.0 ≡ 0 }
+{
+    match step {
+        Step::Diagram => println!(rt; "nodes {}", store.count())?,
+        Step::Cost => println!(rt; "cost {}", cost(rt.alloc(), store, root)?)?,
+        Step::Table => match compose(rt.alloc(), store, root, MOST_ENTRIES) {
+            Ok(entries) => println!(rt; "entries {}", entries.len())?,
+            Err(_) => bail!("no table is made"),
+        },
+    }
+    Ok(())
+}

@@ -1,0 +1,63 @@
+-- What is wrong with a line, in words.
+use Rattle.std.specs.Prelude.{ℕ, List, [], ◌++◌, codes}
+use Rattle.std.specs.Fmt.{decimal}
+use Rattle.filter_reader.specs.declared.reason.Reason.{Reason}
+use Rattle.filter_reader.specs.declared.reason.Reason.TheVariants.{NoAt, Address, Length, PortForm, PortOrder, PortRange, ProtocolForm, ProtocolMask, FlagsForm, DecisionForm, Reserved, Extra, TooManyRules, NotAscii, TooManyRanges}
+use Rattle.table_text.specs.declared.error.TableReason.{TableReason}
+use Rattle.table_text.specs.declared.error.TableReason.TheVariants.{FirstLine, WordLength, Trit, Padding, Decision, Count, FieldForm, OutsideMask}
+use Rattle.razor_core.specs.declared.line_reason.LineReason.{LineReason}
+use Rattle.razor_core.specs.declared.line_reason.LineReason.TheVariants.{OfList, OfTable}
+
+-- of a list
+abbrev pub list_reason_text : Reason → List ℕ
+list_reason_text NoAt = codes "no @"
+list_reason_text Address = codes "address"
+list_reason_text Length = codes "length"
+list_reason_text PortForm = codes "port form"
+list_reason_text PortOrder = codes "port order"
+list_reason_text PortRange = codes "port range"
+list_reason_text ProtocolForm = codes "protocol form"
+list_reason_text ProtocolMask = codes "protocol mask"
+list_reason_text FlagsForm = codes "flags form"
+list_reason_text DecisionForm = codes "decision form"
+list_reason_text Reserved = codes "reserved word"
+list_reason_text Extra = codes "extra column"
+list_reason_text TooManyRules = codes "one rule too many"
+list_reason_text NotAscii = codes "byte not ASCII"
+list_reason_text TooManyRanges = codes "too many ranges"
+
+-- of a table, without the counts that may follow
+abbrev pub table_reason_text : TableReason → List ℕ
+table_reason_text FirstLine = codes "first line"
+table_reason_text WordLength = codes "word length"
+table_reason_text Trit = codes "trit"
+table_reason_text Padding = codes "padding"
+table_reason_text Decision = codes "decision"
+table_reason_text (Count stated found) = codes "count of entries differs"
+table_reason_text FieldForm = codes "field form"
+table_reason_text OutsideMask = codes "value outside mask"
+
+-- of a line
+abbrev pub reason_text : LineReason → List ℕ
+reason_text (OfList reason) = list_reason_text reason
+reason_text (OfTable reason) = table_reason_text reason
+
+-- how many entries a table states, and how many were found
+abbrev pub two_counts : ℕ → ℕ → List ℕ
+two_counts stated found = codes ", stated " ++ decimal stated ++ codes " found " ++ decimal found
+
+-- the counts of a table where they differ
+abbrev pub table_counts_text : TableReason → List ℕ
+table_counts_text FirstLine = []
+table_counts_text WordLength = []
+table_counts_text Trit = []
+table_counts_text Padding = []
+table_counts_text Decision = []
+table_counts_text (Count stated found) = two_counts stated found
+table_counts_text FieldForm = []
+table_counts_text OutsideMask = []
+
+-- the counts behind a reason
+abbrev pub counts_text : LineReason → List ℕ
+counts_text (OfList reason) = []
+counts_text (OfTable reason) = table_counts_text reason

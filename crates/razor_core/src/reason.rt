@@ -1,0 +1,81 @@
+//! What is wrong with a line of an input, in words.
+ghost use Rattle.std.specs.Prelude.{◌≡◌, [], MatchOption};
+ghost use Rattle.razor_core.specs.Reasons.{counts_text, list_reason_text, reason_text, table_counts_text, table_reason_text, two_counts};
+
+use crate::line_reason::LineReason;
+use filter_reader::Reason;
+use table_text::TableReason;
+
+/// What is wrong with a line.
+pub fn reason_words(reason: LineReason) -> &'static str
+    ensures { result.now ≡ reason_text reason }
+{
+    match reason {
+        LineReason::OfList(reason) => list_words(reason),
+        LineReason::OfTable(reason) => table_words(reason),
+    }
+}
+
+/// How many entries a table states and how many were found, where that is what is wrong.
+pub fn counts(reason: LineReason) -> Option<(u32, u64)>
+    ensures { MatchOption result (counts_text reason ≡ []) (λ counts. counts_text reason ≡ two_counts counts.0 counts.1) }
+{
+    match reason {
+        LineReason::OfList(_) => None,
+        LineReason::OfTable(reason) => table_counts(reason),
+    }
+}
+
+fn table_counts(reason: TableReason) -> Option<(u32, u64)>
+    ensures { MatchOption result (table_counts_text reason ≡ []) (λ counts. table_counts_text reason ≡ two_counts counts.0 counts.1) }
+{
+    match reason {
+        TableReason::Count { stated, found } => Some((stated, found)),
+        TableReason::FirstLine
+        | TableReason::WordLength
+        | TableReason::Trit
+        | TableReason::Padding
+        | TableReason::Decision
+        | TableReason::FieldForm
+        | TableReason::OutsideMask => None,
+    }
+}
+
+/// What is wrong with a line of a table, in words.
+fn table_words(reason: TableReason) -> &'static str
+    ensures { result.now ≡ table_reason_text reason }
+{
+    match reason {
+        TableReason::FirstLine => "first line",
+        TableReason::WordLength => "word length",
+        TableReason::Trit => "trit",
+        TableReason::Padding => "padding",
+        TableReason::Decision => "decision",
+        TableReason::Count { .. } => "count of entries differs",
+        TableReason::FieldForm => "field form",
+        TableReason::OutsideMask => "value outside mask",
+    }
+}
+
+/// What is wrong with a line of a list, in words.
+fn list_words(reason: Reason) -> &'static str
+    ensures { result.now ≡ list_reason_text reason }
+{
+    match reason {
+        Reason::NoAt => "no @",
+        Reason::Address => "address",
+        Reason::Length => "length",
+        Reason::PortForm => "port form",
+        Reason::PortOrder => "port order",
+        Reason::PortRange => "port range",
+        Reason::ProtocolForm => "protocol form",
+        Reason::ProtocolMask => "protocol mask",
+        Reason::FlagsForm => "flags form",
+        Reason::DecisionForm => "decision form",
+        Reason::Reserved => "reserved word",
+        Reason::Extra => "extra column",
+        Reason::TooManyRules => "one rule too many",
+        Reason::NotAscii => "byte not ASCII",
+        Reason::TooManyRanges => "too many ranges",
+    }
+}
