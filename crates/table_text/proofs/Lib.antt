@@ -4,3 +4,16 @@ pub mod Pushed
 pub mod Resumed
 pub mod TritBits
 pub mod Spelled
+pub mod Joins
+pub mod HexTexts
+pub mod NumberTexts
+pub mod EntryTexts
+pub mod NameTexts
+pub mod HeadingTexts
+pub mod TableTexts
+pub mod CutBack
+pub mod NumberBack
+pub mod HexBack
+pub mod EntryBack
+pub mod HeadingBack
+pub mod TableBack

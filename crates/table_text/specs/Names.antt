@@ -9,6 +9,10 @@ abbrev pub is_rule_name : List ℕ → Bool
 is_rule_name [] = false
 is_rule_name (b ∷ digits) = b == 35 && not (bytes_eq digits (48 ∷ [])) && is_some (plain_number 65536 digits)
 
+-- a name that a table's text can spell: a decision word, or the name of a rule without one
+abbrev pub is_name : List ℕ → Bool
+is_name text = is_decision_word text || is_rule_name text
+
 -- the word for no decision, a decision word, or the name of a rule without one
 abbrev pub is_decision : List ℕ → Bool
 is_decision text = bytes_eq text miss || is_decision_word text || is_rule_name text

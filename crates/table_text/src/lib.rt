@@ -18,6 +18,7 @@ mod entries;
 mod entry;
 mod error;
 mod heading;
+pub mod laws;
 mod line;
 mod names;
 mod number;

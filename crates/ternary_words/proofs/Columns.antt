@@ -77,19 +77,19 @@ mask_is zero v a b = refl
 mask_is (suc zero) v a b = refl
 mask_is (suc (suc m)) v a b = absurd (omega arith)
 
-shifted_within : (n m v : ℕ) → bit_and v m ≡ v → bit_and (v / 2 ^ n) (m / 2 ^ n) ≡ v / 2 ^ n
+pub shifted_within : (n m v : ℕ) → bit_and v m ≡ v → bit_and (v / 2 ^ n) (m / 2 ^ n) ≡ v / 2 ^ n
 shifted_within n m v e = sym (and_shr v m n) ∙ ap (λ x. x / 2 ^ n) e
 
 bit_within : (n m v : ℕ) → bit_and v m ≡ v → bit_and (v / 2 ^ n % 2) (m / 2 ^ n % 2) ≡ v / 2 ^ n % 2
 bit_within n m v e = sym (and_mod (v / 2 ^ n) (m / 2 ^ n) 1) ∙ ap (λ x. x % 2) (shifted_within n m v e)
 
-value-bits : (n m v : ℕ) → bit_and v m ≡ v → map value_bit (trits (bits n m) (bits n v)) ≡ bits n v
+pub value-bits : (n m v : ℕ) → bit_and v m ≡ v → map value_bit (trits (bits n m) (bits n v)) ≡ bits n v
 value-bits zero m v e = refl
 value-bits (suc n) m v e =
     ap (λ b. b ∷ map value_bit (trits (bits n m) (bits n v))) (value_is (m / 2 ^ n % 2) (v / 2 ^ n % 2) (omega arith) (omega arith) (bit_within n m v e))
     ∙ ap (λ bs. nat_eq (v / 2 ^ n % 2) 1 ∷ bs) (value-bits n m v e)
 
-mask-bits : (n m v : ℕ) → map mask_bit (trits (bits n m) (bits n v)) ≡ bits n m
+pub mask-bits : (n m v : ℕ) → map mask_bit (trits (bits n m) (bits n v)) ≡ bits n m
 mask-bits zero m v = refl
 mask-bits (suc n) m v =
     ap (λ b. b ∷ map mask_bit (trits (bits n m) (bits n v))) (mask_is (m / 2 ^ n % 2) (v / 2 ^ n % 2) (omega arith) (omega arith))
@@ -101,7 +101,7 @@ trits-append [] ns (v ∷ vs) us e = absurd (omega arith)
 trits-append (m ∷ ms) ns [] us e = absurd (omega arith)
 trits-append (m ∷ ms) ns (v ∷ vs) us e = ap (λ ts. trit m v ∷ ts) (trits-append ms ns vs us (omega arith))
 
-length-trits : (ms vs : List Bool) → length ms ≡ length vs → length (trits ms vs) ≡ length ms
+pub length-trits : (ms vs : List Bool) → length ms ≡ length vs → length (trits ms vs) ≡ length ms
 length-trits [] vs e = refl
 length-trits (m ∷ ms) [] e = absurd (omega arith)
 length-trits (m ∷ ms) (v ∷ vs) e = ap suc (length-trits ms vs (omega arith))
@@ -130,7 +130,7 @@ columns-step w k m v f fs e within =
     ∙ ap (λ ts. column_text high ++ 32 ∷ columns_text fs ts) back ∙ ap (λ t. t ++ 32 ∷ columns_text fs low) column
 
 -- the five columns of a word of fields so wide
-columns-wide : (a b c d e m v : ℕ) → width 0 ≡ a → width 1 ≡ b → width 2 ≡ c → width 3 ≡ d → width 4 ≡ e → bit_and v m ≡ v →
+pub columns-wide : (a b c d e m v : ℕ) → width 0 ≡ a → width 1 ≡ b → width 2 ≡ c → width 3 ≡ d → width 4 ≡ e → bit_and v m ≡ v →
     columns_text (0 ∷ 1 ∷ 2 ∷ 3 ∷ 4 ∷ []) (trits (bits (a + (b + (c + (d + (e + 0))))) m) (bits (a + (b + (c + (d + (e + 0))))) v))
     ≡ column_of a (v / 2 ^ (b + (c + (d + (e + 0))))) (m / 2 ^ (b + (c + (d + (e + 0))))) ++ 32 ∷ (column_of b (v / 2 ^ (c + (d + (e + 0)))) (m / 2 ^ (c + (d + (e + 0)))) ++ 32 ∷ (column_of c (v / 2 ^ (d + (e + 0))) (m / 2 ^ (d + (e + 0))) ++ 32 ∷ (column_of d (v / 2 ^ (e + 0)) (m / 2 ^ (e + 0)) ++ 32 ∷ (column_of e (v / 2 ^ 0) (m / 2 ^ 0) ++ 32 ∷ []))))
 columns-wide a b c d e m v wa wb wc wd we within =

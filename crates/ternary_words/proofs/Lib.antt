@@ -7,3 +7,6 @@ pub mod Matching
 pub mod PrefixHolds
 pub mod PrefixMasks
 pub mod PrefixTrits
+pub mod OnesInFront
+pub mod Parted
+pub mod Spanned

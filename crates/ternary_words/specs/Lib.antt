@@ -5,3 +5,4 @@ pub mod Hexadecimal
 pub mod TableText
 pub mod Views
 pub mod Limits
+pub mod Copies

@@ -1,7 +1,7 @@
 -- Words that are a prefix in each field.
-use Rattle.std.specs.Prelude.{ℕ, ◌-◌, ◌*◌, ◌^◌, Bool, true, ◌&&◌, List, [], ◌∷◌, ◌++◌, Some, None, map, replicate}
+use Rattle.std.specs.Prelude.{◌≡◌, ℕ, length, ◌-◌, ◌*◌, ◌^◌, Bool, true, ◌&&◌, List, [], ◌∷◌, ◌++◌, Some, None, map, replicate}
 use Rattle.field_boxes.specs.declared.prefix.Prefix.{Prefix}
-use Rattle.field_boxes.specs.Fields.{width}
+use Rattle.field_boxes.specs.Fields.{stated, width}
 use Rattle.field_boxes.specs.Prefix.{FitsWidth, prefix_bits, prefix_holds}
 use Rattle.ternary_words.specs.Word.{Trit}
 
@@ -37,3 +37,23 @@ all_hold [] ps values = true
 all_hold (f ∷ fs) [] values = true
 all_hold (f ∷ fs) (p ∷ ps) [] = true
 all_hold (f ∷ fs) (p ∷ ps) (v ∷ vs) = prefix_holds (width f) p v && all_hold fs ps vs
+
+-- the word is that of these five prefixes, each of which fits its field
+pub record IsWordOf (ps : List Prefix) (word : List Trit) : Type 0 where
+  pub five : length ps ≡ 5
+  pub fit : FitFields stated ps
+  pub same : word ≡ fields_trits stated ps
+
+-- a word that is a prefix in each field
+abbrev pub IsPrefixInEach : List Trit → Type 0
+IsPrefixInEach word = (ps : List Prefix) × IsWordOf ps word
+
+-- a prefix of the field has this mask
+abbrev pub HasMask : ℕ → ℕ → Type 0
+HasMask w mask = (p : Prefix) × FitsWidth w p × (mask ≡ mask_of w p)
+
+-- the prefix fits the field, and has this value and this mask
+pub record IsPart (w value mask : ℕ) (p : Prefix) : Type 0 where
+  pub fits : FitsWidth w p
+  pub valued : p.value ≡ value
+  pub masked : mask ≡ mask_of w p

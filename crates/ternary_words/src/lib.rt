@@ -11,6 +11,7 @@ mod key;
 pub mod laws;
 mod lookup;
 mod masks;
+mod parts;
 mod table;
 #[cfg(test)]
 mod tests;

@@ -3,6 +3,8 @@ ghost use Rattle.ternary_words.specs.Limits.{IsSlotWidth, AreNumbered};
 
 use crate::entry::Entry;
 use field_boxes::Decisions;
+use razor_base::Memory;
+use std::alloc::Global;
 
 /// A list of entries for slots of `slot` trits (104, 144 or 288), with the names of their decisions.
 ///
@@ -18,4 +20,21 @@ pub struct Table {
     pub ghost counted: { composed ≤ 262144 },
     pub ghost few: { vec_len entries ≤ 262144 },
     pub ghost numbered: { AreNumbered (length names) entries.items },
+}
+
+impl Table {
+    ghost use Rattle.std.specs.Prelude.{IfOk};
+    ghost use Rattle.ternary_words.specs.Copies.{IsCopyOf};
+
+    /// A copy: the same entries, with the same names under the same numbers.
+    pub fn copy(&self, alloc: Global) -> Result<Table, Memory>
+        ensures { IfOk result (λ copy. IsCopyOf self.now copy) }
+    {
+        Ok(Table {
+            slot: self.slot,
+            composed: self.composed,
+            entries: self.entries.as_slice().to_vec(alloc)?,
+            names: self.names.copy(alloc)?,
+        })
+    }
 }

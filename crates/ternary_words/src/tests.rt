@@ -3,7 +3,7 @@ ghost use Rattle.ternary_words.specs.Limits.{AreNumbered, IsSlotWidth};
 
 use crate::laws::first_match_answers;
 use crate::{Entry, Table, Word, look, write_table};
-use field_boxes::{Decisions, Header, Prefix};
+use field_boxes::{Decisions, Header, Prefix, Span};
 use razor_base::{Failed, MemSink};
 use std::alloc::Global;
 use std::process::Abort;
@@ -86,6 +86,48 @@ fn words_match_headers(rt: HostRuntime) -> Result<(), Fail> {
         [u32::MAX, u32::MAX, 65_535, 65_535, 255],
         true,
     )
+}
+
+fn ends_of(spans: Option<[Span; 5]>) -> Option<[(u32, u32); 5]> {
+    let [source, destination, source_port, destination_port, protocol] = spans?;
+    Some([
+        (source.lo, source.hi),
+        (destination.lo, destination.hi),
+        (source_port.lo, source_port.hi),
+        (destination_port.lo, destination_port.hi),
+        (protocol.lo, protocol.hi),
+    ])
+}
+
+#[test]
+fn words_of_prefixes_have_spans(rt: HostRuntime) {
+    let all = (0, u32::MAX);
+    let ports = (0, 65_535);
+    let rows = [
+        (all_stars(), [all, all, ports, ports, (0, 255)]),
+        (source_port_zero(), [all, all, (0, 0), ports, (0, 255)]),
+        (
+            web(),
+            [(0x0A00_0000, 0x0AFF_FFFF), all, ports, (80, 80), (6, 6)],
+        ),
+    ];
+    for (word, ends) in rows {
+        assert_eq!(rt; ends_of(word.spans()), Some(ends));
+    }
+}
+
+#[test]
+fn other_words_have_none(rt: HostRuntime) {
+    let masks = [
+        [0, 0, 0, 0, 0x7F],
+        [0, 0, 0, 1, 0xFF],
+        [0, 0, 0xFEFF, 0, 0],
+        [0, 0xFFFF_FF01, 0, 0, 0],
+        [0xBFFF_FFFF, 0, 0, 0, 0],
+    ];
+    for masks in masks {
+        assert_eq!(rt; Word::of_fields(&[0; 5], &masks).spans().is_none(), true);
+    }
 }
 
 fn check_look<R: Abort>(
@@ -212,4 +254,17 @@ fn tables_are_written(rt: HostRuntime) -> Result<(), Fail> {
         &table(&rt, 104, 1, &[entry(protocol_six(), 1)])?,
         &NARROW[..40],
     )
+}
+
+#[test]
+fn copies_say_the_same(rt: HostRuntime) -> Result<(), Fail> {
+    let entry = Entry {
+        word: web(),
+        decision: 2,
+    };
+    let copy = table(&rt, 288, 262_144, &[entry])?.copy(rt.alloc())?;
+    check_text(&rt, &copy, WIDE)?;
+    assert_eq!(rt; copy.names.number("accept"), Some(1));
+    assert_eq!(rt; copy.names.number("deny"), Some(2));
+    Ok(())
 }

@@ -2,7 +2,8 @@ ghost use Rattle.std.specs.Prelude.{◌≡◌, ◌<◌, ◌^◌, bit_and};
 
 use crate::key::key;
 use crate::masks::{masks, values};
-use field_boxes::{Header, Prefix};
+use crate::parts::prefix_at;
+use field_boxes::{Header, Prefix, Span};
 
 /// A word of 104 trits, over the keys of headers. Place `p` counts from the highest bit of the source
 /// address; its trit is `*` where bit `103 - p` of `mask` is 0, and else that bit of `value`.
@@ -15,10 +16,12 @@ pub struct Word {
 }
 
 impl Word {
-    ghost use Rattle.std.specs.Prelude.{ℕ, List, slice_index};
+    ghost use Rattle.std.specs.Prelude.{◌↔◌, ℕ, List, IfSome, IsSome, MatchOption, slice_index};
+    ghost use Rattle.field_boxes.specs.Boxes.{box_holds, box_of};
     ghost use Rattle.field_boxes.specs.Fields.{IsHeader, stated, width};
+    ghost use Rattle.field_boxes.specs.Spans.{AreInside};
     ghost use Rattle.ternary_words.specs.Word.{agrees, header_bits, trits};
-    ghost use Rattle.ternary_words.specs.Prefixes.{FitFields, all_hold, fields_trits};
+    ghost use Rattle.ternary_words.specs.Prefixes.{FitFields, IsPrefixInEach, IsWordOf, all_hold, fields_trits};
     ghost use Rattle.ternary_words.specs.Views.{word_of};
 
     /// The word that matches exactly the headers whose five values the prefixes hold.
@@ -52,5 +55,35 @@ impl Word {
         ensures { result ≡ agrees (word_of self.now) (header_bits header.now.values) }
     {
         (key(header.values) ^ self.value) & self.mask == 0
+    }
+
+    /// The box of the headers that the word matches; none where it isn't a prefix in each field.
+    pub fn spans(&self) -> Option<[Span; 5]>
+        ensures some { IsSome result ↔ IsPrefixInEach (word_of self.now) }
+        ensures inside { IfSome result (λ spans. AreInside spans) }
+        ensures boxes { IfSome result (λ spans. (values : List ℕ) → IsHeader values →
+            box_holds (box_of spans) values ≡ agrees (word_of self.now) (header_bits values)) }
+    {
+        let [source, destination, source_port, destination_port, protocol] = self.prefixes()?;
+        Some([
+            source.span(32),
+            destination.span(32),
+            source_port.span(16),
+            destination_port.span(16),
+            protocol.span(8),
+        ])
+    }
+
+    /// The prefix in each field; none where a field has none.
+    fn prefixes(&self) -> Option<[Prefix; 5]>
+        ensures { MatchOption result (IsPrefixInEach (word_of self.now) → ⊥) (λ prefixes. IsWordOf prefixes (word_of self.now)) }
+    {
+        Some([
+            prefix_at(self, 72, 32)?,
+            prefix_at(self, 40, 32)?,
+            prefix_at(self, 24, 16)?,
+            prefix_at(self, 8, 16)?,
+            prefix_at(self, 0, 8)?,
+        ])
     }
 }

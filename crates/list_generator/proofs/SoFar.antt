@@ -1,0 +1,88 @@
+-- The rules that were drawn so far, and one more.
+use Rattle.std.proofs.Common.{◌≡◌, ◌∷◌, ◌++◌, ℕ, suc, ◌+◌, ◌≤◌, List, Bool, true, false, [], ap, refl, subst, sym, ◌∙◌, arith, append_assoc, fold, length, Some}
+use Rattle.std.specs.Prelude.{All, Option, if◌then◌else◌}
+use Rattle.std.specs.List.{AllByRecursion}
+use Rattle.std.proofs.lemmas.List.{length-append, map-append}
+use Rattle.std.proofs.lemmas.List.Elements.{All-nil, All-push, All-weaker, recursion_from_All}
+use Rattle.field_boxes.specs.declared.rule.Rule as code
+use Rattle.field_boxes.specs.Classifier.{Rule}
+use Rattle.field_boxes.specs.NamedRules.{IsNumberedBy, named_rule, named_rules}
+use Rattle.field_boxes.specs.Names.{is_known, name_at, text_of, with_name}
+use Rattle.field_boxes.specs.Rules.{sets_of}
+use Rattle.filter_reader.specs.FilterRules.{IsFilterRule}
+use Rattle.filter_reader.specs.FirstSeen.{first_seen}
+use Rattle.list_generator.specs.Draws.{state_after}
+use Rattle.list_generator.specs.DrawnRules.{drawn_rule, drawn_rules}
+use Rattle.list_generator.specs.Growing.{AddsDrawn, IsDrawn}
+
+-- the names after those of more rules were seen
+abbrev pub seen_after : List (List ℕ) → List (Rule (List ℕ)) → List (List ℕ)
+seen_after names rules = fold (λ ns rule. with_name ns rule.decision) names rules
+
+-- the rules so far, with those that are left to draw behind them, are all
+pub record IsSoFar (seed count left state : ℕ) (names : List (List ℕ)) (rules : List code.Rule) : Type 0 where
+  pub whole : named_rules names rules ++ drawn_rules left state ≡ drawn_rules count seed
+  pub seen : seen_after names (drawn_rules left state) ≡ first_seen (drawn_rules count seed)
+  pub few : length names ≤ length rules
+  pub counted : length rules + left ≡ count
+  pub spelled : All IsFilterRule rules
+  pub numbered : All (IsNumberedBy names) rules
+
+-- the first names keep their numbers
+abbrev KeepsNames : List (List ℕ) → List (List ℕ) → Type 0
+KeepsNames old new = (k : ℕ) → k ≤ length old → name_at new k ≡ name_at old k
+
+same_rules : (old new : List (List ℕ)) → KeepsNames old new → (rules : List code.Rule) → AllByRecursion (IsNumberedBy old) rules → named_rules new rules ≡ named_rules old rules
+same_rules old new keeps [] h = refl
+same_rules old new keeps (r ∷ rules) h =
+    ap (λ (o : Option (List ℕ)). let rule : Rule (List ℕ) = record { sets = sets_of r; decision = text_of o } in rule ∷ named_rules new rules) (keeps r.decision h.0.1)
+    ∙ ap (λ rs. named_rule old r ∷ rs) (same_rules old new keeps rules h.1)
+
+named_as : (new : List (List ℕ)) (r : code.Rule) (rule : Rule (List ℕ)) → sets_of r ≡ rule.sets → name_at new r.decision ≡ Some rule.decision → named_rule new r ≡ rule
+named_as new r rule sets at =
+    ap (λ (o : Option (List ℕ)). let x : Rule (List ℕ) = record { sets = sets_of r; decision = text_of o } in x) at
+    ∙ ap (λ s. let x : Rule (List ℕ) = record { sets = s; decision = rule.decision } in x) sets
+
+-- the rules with one that is drawn
+rules_with : (state after : ℕ) (old new : List (List ℕ)) (rules : List code.Rule) (r : code.Rule) → All (IsNumberedBy old) rules → IsDrawn state old after new r →
+    named_rules new (rules ++ r ∷ []) ≡ named_rules old rules ++ drawn_rule state ∷ []
+rules_with state after old new rules r numbered is =
+    map-append (named_rule new) rules (r ∷ [])
+    ∙ ap (λ rs. rs ++ named_rule new r ∷ []) (same_rules old new is.kept rules (recursion_from_All (IsNumberedBy old) rules numbered))
+    ∙ ap (λ x. named_rules old rules ++ x ∷ []) (named_as new r (drawn_rule state) is.sets is.number)
+
+longer_by : (names : List (List ℕ)) (name : List ℕ) (t : Bool) → (length names ≤ length (if t then names else names ++ name ∷ [])) × (length (if t then names else names ++ name ∷ []) ≤ length names + 1)
+longer_by names name true = (omega arith, omega arith)
+longer_by names name false = (simp length-append (omega arith), simp length-append (omega arith))
+
+longer : (names : List (List ℕ)) (name : List ℕ) → (length names ≤ length (with_name names name)) × (length (with_name names name) ≤ length names + 1)
+longer names name = longer_by names name (is_known names name)
+
+-- one more of those that are left is drawn
+step : (seed count left state after : ℕ) (old new : List (List ℕ)) (rules : List code.Rule) (r : code.Rule) → IsSoFar seed count (suc left) state old rules → IsDrawn state old after new r →
+    IsSoFar seed count left after new (rules ++ r ∷ [])
+step seed count left state after old new rules r so is =
+    let rest = drawn_rules left (state_after 6 state) in
+    let grown = longer old (drawn_rule state).decision in
+    let same : length new ≡ length (with_name old (drawn_rule state).decision) = ap length is.seen in
+    let less = so.few in
+    let total = so.counted in
+    let size : length (rules ++ r ∷ []) ≡ length rules + 1 = length-append rules (r ∷ []) in
+    record {
+      whole = ap (λ s. named_rules new (rules ++ r ∷ []) ++ drawn_rules left s) is.turned ∙ ap (λ rs. rs ++ rest) (rules_with state after old new rules r so.numbered is) ∙ append_assoc (named_rules old rules) (drawn_rule state ∷ []) rest ∙ so.whole;
+      seen = ap (λ s. seen_after new (drawn_rules left s)) is.turned ∙ ap (λ ns. seen_after ns rest) is.seen ∙ so.seen;
+      few = let more = grown.1 in omega (arith, more, same, less, size);
+      counted = omega (arith, total, size);
+      spelled = All-push IsFilterRule rules r so.spelled is.spelled;
+      numbered = All-push (IsNumberedBy new) rules r (All-weaker (IsNumberedBy old) (IsNumberedBy new) (λ x h. (h.0, let below = h.1 in let more = grown.0 in omega (arith, below, more, same))) rules so.numbered) is.within;
+    }
+
+-- the same, where what is left is told by a count
+pub added : (seed count left next state after : ℕ) (old new : List (List ℕ)) (rules longer : List code.Rule) → left ≡ suc next → IsSoFar seed count left state old rules → AddsDrawn state old rules after new longer →
+    IsSoFar seed count next after new longer
+added seed count left next state after old new rules longer e so (r, is, same) =
+    subst (λ rs. IsSoFar seed count next after new rs) (sym same) (step seed count next state after old new rules r (subst (λ n. IsSoFar seed count n state old rules) e so) is)
+
+-- nothing is drawn yet
+pub none : (seed count : ℕ) → IsSoFar seed count count seed [] []
+none seed count = record { whole = refl; seen = refl; few = omega arith; counted = omega arith; spelled = All-nil IsFilterRule; numbered = All-nil (IsNumberedBy []) }

@@ -1,0 +1,5 @@
+pub mod Draws
+pub mod DrawnSets
+pub mod DrawnRules
+pub mod Growing
+pub mod Generated

@@ -1,0 +1,21 @@
+//! Rule lists drawn from a seed, for loads that anyone can make again.
+//!
+//! The numbers come from the linear congruential generator that ANSI C gives as an example of `rand`:
+//! `x` becomes `(x * 1103515245 + 12345) mod 2^31`, and `x / 256` is the number drawn. Each rule takes six
+//! draws: source address, destination address, source port, destination port, protocol, decision.
+//!
+//! ```text
+//! let list = generate(alloc, 7, 1000)?;
+//! ```
+#![tactic(auto)]
+
+mod draws;
+pub mod laws;
+mod lists;
+mod rule;
+mod sets;
+#[cfg(test)]
+mod tests;
+
+pub use draws::next;
+pub use lists::generate;
