@@ -1,5 +1,5 @@
 -- The first place at which a test passes.
-use Rattle.std.proofs.Common.{◌≡◌, ◌∷◌, ℕ, ◌<◌, List, [], Bool, true, false, Some, None, length, get_or, take, ap, refl, sym, ◌∙◌, arith, inl, inr}
+use Rattle.std.proofs.Common.{◌≡◌, ◌∷◌, ℕ, ◌+◌, ◌<◌, List, [], Bool, true, false, Some, None, length, get_or, take, ap, refl, sym, subst, ◌∙◌, arith, inl, inr}
 use Rattle.std.specs.Prelude.{◌≢◌, nat_lt, cond, position, slice_get, unwrap_or}
 use Rattle.std.specs.List.{position_or_len}
 use Rattle.std.proofs.lemmas.Bool.{false≢true, cases_lt, lt-ltb, le-ltb}
@@ -11,6 +11,16 @@ use Rattle.std.proofs.lemmas.List.Sums.{position_or_len_is, fails_before_first}
 -- what stands at a place
 pub got : {X : Type 0} (xs : List X) (i : ℕ) (x d : X) → slice_get xs i ≡ Some x → get_or xs i d ≡ x
 got xs i x d at = sym (unwrap_or-slice_get xs i d) ∙ ap (λ o. unwrap_or o d) at
+
+-- what holds of each item before a place, and of the one there, holds of each before the next place
+pub next-holds : {X : Type 0} (P : X → Type 0) (xs : List X) (i : ℕ) (d : X) → d ≡ get_or xs i d → P d → ((k : ℕ) (x : X) → k < i → slice_get xs k ≡ Some x → P x) →
+    (k : ℕ) (x : X) → k < i + 1 → slice_get xs k ≡ Some x → P x
+next-holds {X} P xs i d is here before k x below at = elim (cases_lt k i) [
+  | inl less ↦ before k x less at
+  | inr more ↦
+      let e : i ≡ k = omega arith in
+      subst (λ (y : X). P y) (is ∙ ap (λ n. get_or xs n d) e ∙ got xs k x d at) here
+]
 
 module _ {X : Type 0} (p : X → Bool) where
   -- nothing passes

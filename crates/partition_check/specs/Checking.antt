@@ -26,6 +26,10 @@ pub record Checking : Type 0 where
   pub last : Option (List Interval)
   pub accepted : ℕ
 
+-- no row was accepted yet
+abbrev pub begun : RuleList → Table → Checking
+begun list table = record { list = list; table = table; last = None; accepted = 0 }
+
 -- list and table agree on every header that was passed
 pub record IsSound (c : Checking) : Type 0 where
   pub agree : (header : List ℕ) → IsHeader header → WasPassed c.last header → AgreeOn c.list c.table header

@@ -10,3 +10,4 @@ pub mod Checking
 pub mod Rows
 pub mod RowText
 pub mod RowLines
+pub mod PrefixWords

@@ -7,7 +7,8 @@ ghost use Rattle.partition_check.specs.Checking.{IsLastOfAll, IsNumber};
 use crate::claims::{entry_decision, is_entry_claim, is_rule_claim, rule_decision};
 use crate::names::same_name;
 use crate::next::{GREATEST, may_come, reaches_ends};
-use crate::row::{Row, Why, Wrong};
+use crate::prefix_words::first_other;
+use crate::row::{NotPrefix, Row, Why, Wrong};
 use crate::text::row_of_text;
 use field_boxes::Span;
 use filter_reader::RuleList;
@@ -39,21 +40,36 @@ impl<'a> Model for Checker<'a> {
 }
 
 impl<'a> Checker<'a> {
-    ghost use Rattle.std.specs.Prelude.{◌≡◌, ◌+◌, ◌^◌, ◌<◌, ℕ, None, IsTrue, ◌↔◌, IfOk, IfErr, OnOk, OnErr, MatchOption};
+    ghost use Rattle.std.specs.Prelude.{◌≡◌, ◌+◌, ◌^◌, ◌<◌, ℕ, IsTrue, ◌↔◌, IfOk, IfErr, OnOk, OnErr, MatchOption};
     ghost use Rattle.partition_check.specs.Agreement.{Agree};
-    ghost use Rattle.partition_check.specs.Checking.{Checking, Passes, FailsFirst, EndsWell, EndsWrong, IsFormed, with_row};
+    ghost use Rattle.partition_check.specs.PrefixWords.{ArePrefixes, IsFirstOther};
+    ghost use Rattle.partition_check.specs.Checking.{begun, Checking, Passes, FailsFirst, EndsWell, EndsWrong, IsFormed, with_row};
     ghost use Rattle.partition_check.specs.Rows.{statement};
     ghost use Rattle.partition_check.specs.RowLines.{LineFails, LinePasses};
 
     /// A checker for the list and the table, which has accepted no row.
     pub fn any(list: &'a RuleList, table: &'a Table) -> Checker<'a>
-        ensures { result ≡ record { list = list.now; table = table.now; last = None; accepted = 0 } }
+        ensures { result ≡ begun list.now table.now }
     {
         Checker {
             list,
             table,
             last: None,
             accepted: 0,
+        }
+    }
+
+    /// The same for a table whose words are prefixes in each field, refused with the first entry whose word
+    /// isn't.
+    pub fn new(list: &'a RuleList, table: &'a Table) -> Result<Checker<'a>, NotPrefix>
+        ensures ok { IfOk result (λ checker. (checker ≡ begun list.now table.now) × ArePrefixes table.now.entries.items) }
+        ensures err { IfErr result (λ refused. IsFirstOther table.now.entries.items refused.entry) }
+    {
+        match first_other(&table.entries) {
+            Some(place) => Err(NotPrefix {
+                entry: place as u32,
+            }),
+            None => Ok(Checker::any(list, table)),
         }
     }
 

@@ -24,6 +24,7 @@ pub mod laws;
 mod names;
 mod next;
 mod number;
+mod prefix_words;
 mod row;
 mod text;
 mod word;

@@ -2,7 +2,7 @@
 ghost use Rattle.std.specs.Prelude.{◌≤◌, IsTrue, length};
 ghost use Rattle.ternary_words.specs.Limits.{AreNumbered};
 
-use crate::{Checker, Row, Why, Wrong, write_row};
+use crate::{Checker, NotPrefix, Row, Why, Wrong, write_row};
 use field_boxes::{Decisions, Span};
 use filter_reader::{RuleList, read_list};
 use razor_base::{Failed, MemSink};
@@ -229,6 +229,27 @@ fn lines_of_another_form(rt: HostRuntime) -> Result<(), Fail> {
         1,
         wrong(1, Why::NotNext),
     )
+}
+
+/// The first entry whose word isn't a prefix in each field.
+fn refused<R: Abort + AllocGlobal>(
+    rt: &R,
+    spelled: &[Spelled],
+    want: Option<NotPrefix>,
+) -> Result<(), Fail> {
+    let Ok(list) = read_list(rt.alloc(), ACCEPTS_6) else {
+        panic!(rt);
+    };
+    let table = table(rt, spelled)?;
+    assert!(rt; Checker::new(&list, &table).err() == want);
+    Ok(())
+}
+
+#[test]
+fn tables_of_prefixes(rt: HostRuntime) -> Result<(), Fail> {
+    let merged = ([0, 1], [0, 0xFD], 1);
+    refused(&rt, &[NET_6, REST], None)?;
+    refused(&rt, &[NET_6, merged, merged], Some(NotPrefix { entry: 1 }))
 }
 
 fn open(hi: u32) -> Span {
