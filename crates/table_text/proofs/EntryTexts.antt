@@ -105,10 +105,10 @@ entry-read w name spelled =
     ∙ decided-ok true (word_of w) (Some text) text text refl refl refl spelled.decision
     ∙ ap (λ (d : Option (List ℕ)). Ok (record { word = word_of w; decision = d })) spelled.same
 
-behind : (a b c d e rest : List ℕ) → before a b c d e [] ++ rest ≡ before a b c d e rest
+pub behind : (a b c d e rest : List ℕ) → before a b c d e [] ++ rest ≡ before a b c d e rest
 behind a b c d e rest = simp append_assoc
 
-column-hex : (k v m : ℕ) → column_of (4 * k) v m ≡ column k v m
+pub column-hex : (k v m : ℕ) → column_of (4 * k) v m ≡ column k v m
 column-hex k v m = ap (λ t. t ++ 47 ∷ hex_digits (bits (4 * k) m)) (hex-number k v) ∙ ap (λ t. hex_of k v ++ 47 ∷ t) (hex-number k m)
 
 five_columns : (a b c d e a' b' c' d' e' : List ℕ) → a ≡ a' → b ≡ b' → c ≡ c' → d ≡ d' → e ≡ e' → before a b c d e [] ≡ before a' b' c' d' e' []

@@ -43,7 +43,7 @@ heading-cut : (slot composed entries : List ℕ) (s c e : ℕ) → words_of (fir
 unfolding heading_of
 heading-cut slot composed entries s c e cut hs hc he = rw (cut, hs, hc, he) refl
 
-three_digits : (n a b c : ℕ) → n ≡ a * 100 + b * 10 + c → 0 < a → a < 10 → b < 10 → c < 10 → decimal n ≡ (48 + a) ∷ (48 + b) ∷ (48 + c) ∷ []
+pub three_digits : (n a b c : ℕ) → n ≡ a * 100 + b * 10 + c → 0 < a → a < 10 → b < 10 → c < 10 → decimal n ≡ (48 + a) ∷ (48 + b) ∷ (48 + c) ∷ []
 three_digits n a b c e some ha hb hc =
     let tens : n / 10 ≡ a * 10 + b = omega arith in
     let last : n % 10 ≡ c = omega arith in

@@ -11,3 +11,9 @@ pub mod EntryTexts
 pub mod NameTexts
 pub mod HeadingTexts
 pub mod TableTexts
+pub mod CutBack
+pub mod NumberBack
+pub mod HexBack
+pub mod EntryBack
+pub mod HeadingBack
+pub mod TableBack

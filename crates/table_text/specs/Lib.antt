@@ -13,3 +13,4 @@ pub mod ColumnViews
 pub mod ColumnBounds
 pub mod EntryViews
 pub mod EntriesViews
+pub mod UpperCase

@@ -77,13 +77,13 @@ mask_is zero v a b = refl
 mask_is (suc zero) v a b = refl
 mask_is (suc (suc m)) v a b = absurd (omega arith)
 
-shifted_within : (n m v : ℕ) → bit_and v m ≡ v → bit_and (v / 2 ^ n) (m / 2 ^ n) ≡ v / 2 ^ n
+pub shifted_within : (n m v : ℕ) → bit_and v m ≡ v → bit_and (v / 2 ^ n) (m / 2 ^ n) ≡ v / 2 ^ n
 shifted_within n m v e = sym (and_shr v m n) ∙ ap (λ x. x / 2 ^ n) e
 
 bit_within : (n m v : ℕ) → bit_and v m ≡ v → bit_and (v / 2 ^ n % 2) (m / 2 ^ n % 2) ≡ v / 2 ^ n % 2
 bit_within n m v e = sym (and_mod (v / 2 ^ n) (m / 2 ^ n) 1) ∙ ap (λ x. x % 2) (shifted_within n m v e)
 
-value-bits : (n m v : ℕ) → bit_and v m ≡ v → map value_bit (trits (bits n m) (bits n v)) ≡ bits n v
+pub value-bits : (n m v : ℕ) → bit_and v m ≡ v → map value_bit (trits (bits n m) (bits n v)) ≡ bits n v
 value-bits zero m v e = refl
 value-bits (suc n) m v e =
     ap (λ b. b ∷ map value_bit (trits (bits n m) (bits n v))) (value_is (m / 2 ^ n % 2) (v / 2 ^ n % 2) (omega arith) (omega arith) (bit_within n m v e))

@@ -1,0 +1,17 @@
+pub mod Held
+pub mod Passed
+pub mod Sweeps
+pub mod Places
+pub mod SameSpans
+pub mod Firsts
+pub mod GoingOn
+pub mod FieldBits
+pub mod FieldHalves
+pub mod Outcomes
+pub mod BoxHeaders
+pub mod WordParts
+pub mod FirstPlaces
+pub mod FirstItems
+pub mod Soundness
+pub mod RowParts
+pub mod RowReading

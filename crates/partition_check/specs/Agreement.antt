@@ -1,0 +1,24 @@
+-- List and table that decide alike, by the names of their decisions.
+use Rattle.std.specs.Prelude.{◌≡◌, ℕ, List, Option}
+use Rattle.field_boxes.specs.Fields.{stated, IsHeader}
+use Rattle.field_boxes.specs.Classifier.{source}
+use Rattle.filter_reader.specs.declared.list.RuleList.{RuleList}
+use Rattle.filter_reader.specs.Lists.{filter_list}
+use Rattle.ternary_words.specs.declared.table.Table as code
+use Rattle.ternary_words.specs.Table.{answer}
+use Rattle.ternary_words.specs.Views.{table_of}
+
+-- the name that the list decides on the header, or none
+abbrev pub name_decided : RuleList → List ℕ → Option (List ℕ)
+name_decided list header = source stated header (filter_list list).rules
+
+-- the name that the table answers on the header; an entry that says `miss` answers none
+abbrev pub name_answered : code.Table → List ℕ → Option (List ℕ)
+name_answered table header = answer (table_of table).entries header
+
+abbrev pub AgreeOn : RuleList → code.Table → List ℕ → Type 0
+AgreeOn list table header = name_decided list header ≡ name_answered table header
+
+-- they give every header the same name, or none both
+abbrev pub Agree : RuleList → code.Table → Type 0
+Agree list table = (header : List ℕ) → IsHeader header → AgreeOn list table header

@@ -1,0 +1,13 @@
+pub mod Boxes
+pub mod Partition
+pub mod NextBox
+pub mod Passed
+pub mod NextSpans
+pub mod WordFields
+pub mod Claims
+pub mod Agreement
+pub mod Checking
+pub mod Rows
+pub mod RowText
+pub mod RowLines
+pub mod PrefixWords

@@ -1,0 +1,214 @@
+//! The checker of a certificate.
+ghost use Rattle.std.specs.Prelude.{◌↔◌, IfSome, IsTrue, option_map};
+ghost use Rattle.field_boxes.specs.Spans.{intervals_of};
+ghost use Rattle.partition_check.specs.Boxes.{ends, IsBox};
+ghost use Rattle.partition_check.specs.Checking.{IsLastOfAll, IsNumber};
+
+use crate::claims::{entry_decision, is_entry_claim, is_rule_claim, rule_decision};
+use crate::names::same_name;
+use crate::next::{GREATEST, may_come, reaches_ends};
+use crate::prefix_words::first_other;
+use crate::row::{NotPrefix, Row, Why, Wrong};
+use crate::text::row_of_text;
+use field_boxes::Span;
+use filter_reader::RuleList;
+use std::marker::Model;
+use ternary_words::Table;
+use ternary_words::laws::first_match_answers;
+
+/// Checks the rows of a certificate, one after another, for a list and a table.
+///
+/// It keeps the last accepted box, and that list and table agree on every header up to there. It takes
+/// no memory. A refused row leaves it as it was.
+#[derive(Drop)]
+pub struct Checker<'a> {
+    list: &'a RuleList,
+    table: &'a Table,
+    last: Option<[Span; 5]>,
+    accepted: u64,
+}
+
+impl<'a> Model for Checker<'a> {
+    ghost use Rattle.partition_check.specs.Checking.{Checking, IsSound};
+    ghost use Rattle.partition_check.specs.Rows.{checking};
+
+    ghost Value = { Checking };
+
+    ghost view = { checking };
+
+    ghost invariant = { λ c. IsSound (checking c) };
+}
+
+impl<'a> Checker<'a> {
+    ghost use Rattle.std.specs.Prelude.{◌≡◌, ◌+◌, ◌^◌, ◌<◌, ℕ, IsTrue, ◌↔◌, IfOk, IfErr, OnOk, OnErr, MatchOption};
+    ghost use Rattle.partition_check.specs.Agreement.{Agree};
+    ghost use Rattle.partition_check.specs.PrefixWords.{ArePrefixes, IsFirstOther};
+    ghost use Rattle.partition_check.specs.Checking.{begun, Checking, Passes, FailsFirst, EndsWell, EndsWrong, IsFormed, with_row};
+    ghost use Rattle.partition_check.specs.Rows.{statement};
+    ghost use Rattle.partition_check.specs.RowLines.{LineFails, LinePasses};
+
+    /// A checker for the list and the table, which has accepted no row.
+    pub fn any(list: &'a RuleList, table: &'a Table) -> Checker<'a>
+        ensures { result ≡ begun list.now table.now }
+    {
+        Checker {
+            list,
+            table,
+            last: None,
+            accepted: 0,
+        }
+    }
+
+    /// The same for a table whose words are prefixes in each field, refused with the first entry whose word
+    /// isn't.
+    pub fn new(list: &'a RuleList, table: &'a Table) -> Result<Checker<'a>, NotPrefix>
+        ensures ok { IfOk result (λ checker. (checker ≡ begun list.now table.now) × ArePrefixes table.now.entries.items) }
+        ensures err { IfErr result (λ refused. IsFirstOther table.now.entries.items refused.entry) }
+    {
+        match first_other(&table.entries) {
+            Some(place) => Err(NotPrefix {
+                entry: place as u32,
+            }),
+            None => Ok(Checker::any(list, table)),
+        }
+    }
+
+    /// How many rows were accepted.
+    pub fn accepted(&self) -> u64
+        ensures { result ≡ self.now.accepted }
+    {
+        self.accepted
+    }
+
+    /// Takes a row, or says why it is wrong: the first of the tests that it fails, in the order of [`Why`].
+    ///
+    /// The number of accepted rows must be below 2^63.
+    pub fn row(&mut self, row: &Row) -> Result<(), Wrong>
+        requires { self.old.accepted < 2 ^ 63 }
+        ensures ok { OnOk result (Passes self.old (statement row.now) × (self.new ≡ with_row self.old (statement row.now))) }
+        ensures err { IfErr result (λ wrong. (wrong.row ≡ self.old.accepted + 1) × FailsFirst self.old (statement row.now) wrong.why) }
+        ensures unchanged { OnErr result (self.new ≡ self.old) }
+    {
+        first_match_answers();
+        if let Some(why) = self.refusal(row) {
+            return Err(Wrong {
+                row: self.accepted + 1,
+                why,
+            });
+        }
+        self.last = Some(row.spans);
+        self.accepted += 1;
+        Ok(())
+    }
+
+    /// Takes the row that the line spells, without its end, as [`row`] does; a line of another form is
+    /// refused for its form.
+    ///
+    /// [`row`]: Checker::row
+    pub fn line(&mut self, text: &[u8]) -> Result<(), Wrong>
+        requires { self.old.accepted < 2 ^ 63 }
+        ensures ok { OnOk result (LinePasses self.old text.now self.new) }
+        ensures err { IfErr result (λ wrong. (wrong.row ≡ self.old.accepted + 1) × LineFails self.old text.now wrong.why) }
+        ensures unchanged { OnErr result (self.new ≡ self.old) }
+    {
+        match row_of_text(text) {
+            Some(row) => self.row(&row),
+            None => Err(Wrong {
+                row: self.accepted + 1,
+                why: Why::Form,
+            }),
+        }
+    }
+
+    /// The first test that the row fails.
+    fn refusal(&self, row: &Row) -> Option<Why>
+        ensures { MatchOption result (Passes self.now (statement row.now)) (λ why. FailsFirst self.now (statement row.now) why) }
+    {
+        if !self.is_formed(row) {
+            return Some(Why::Form);
+        }
+        if !may_come(&self.last, &row.spans) {
+            return Some(Why::NotNext);
+        }
+        if !is_rule_claim(&self.list.rules, &row.spans, row.rule) {
+            return Some(Why::RuleClaim);
+        }
+        if !is_entry_claim(&self.table.entries, &row.spans, row.entry) {
+            return Some(Why::EntryClaim);
+        }
+        let left = rule_decision(&self.list.rules, row.rule);
+        let right = entry_decision(&self.table.entries, row.entry);
+        if !same_name(&self.list.names, left, &self.table.names, right) {
+            return Some(Why::Decisions { left, right });
+        }
+        None
+    }
+
+    /// Whether the box lies in the fields, and the numbers are those of a rule and of an entry.
+    fn is_formed(&self, row: &Row) -> bool
+        ensures { IsTrue result ↔ IsFormed self.now (statement row.now) }
+    {
+        in_fields(&row.spans)
+            && is_number(row.rule, self.list.rules.len())
+            && is_number(row.entry, self.table.entries.len())
+    }
+
+    /// Ends the certificate with a last line that states so many rows, and gives their number.
+    ///
+    /// The answer is right whatever the rows were and whoever wrote them: list and table agree on every
+    /// header. A last line before the boxes reach every end is the first thing that is wrong, and a wrong
+    /// number of rows the second.
+    pub fn finish(self, rows: u64) -> Result<u64, Wrong>
+        ensures ok { IfOk result (λ n. (n ≡ rows) × EndsWell self.entry rows) }
+        ensures agree { OnOk result (Agree self.entry.list self.entry.table) }
+        ensures err { IfErr result (λ wrong. (wrong.row ≡ self.entry.accepted + 1) × EndsWrong self.entry rows wrong.why) }
+    {
+        let Checker { last, accepted, .. } = self;
+        let row = accepted + 1;
+        if !is_through(&last) {
+            return Err(Wrong {
+                row,
+                why: Why::EndsEarly,
+            });
+        }
+        if rows != accepted {
+            return Err(Wrong {
+                row,
+                why: Why::Count {
+                    stated: rows,
+                    found: accepted,
+                },
+            });
+        }
+        Ok(rows)
+    }
+}
+
+/// Whether there is a last box, and it ends at the greatest value of every field.
+fn is_through(last: &Option<[Span; 5]>) -> bool
+    requires { IfSome last.now (λ spans. IsBox ends (intervals_of spans)) }
+    ensures { IsTrue result ↔ IsLastOfAll (option_map intervals_of last.now) }
+{
+    match last {
+        Some(last) => reaches_ends(&GREATEST, last),
+        None => false,
+    }
+}
+
+/// Whether no span reaches past its field.
+fn in_fields(spans: &[Span; 5]) -> bool
+    ensures { IsTrue result ↔ IsBox ends (intervals_of spans.now) }
+{
+    let [_, _, source_port, destination_port, protocol] = spans;
+    source_port.hi <= 65_535 && destination_port.hi <= 65_535 && protocol.hi <= 255
+}
+
+/// Whether there is no number, or it is that of one of so many, counted from 1.
+fn is_number(number: Option<u32>, count: usize) -> bool
+    ensures { IsTrue result ↔ IsNumber count number }
+{
+    match number {
+        Some(number) => 1 <= number && number as usize <= count,
+        None => true,
+    }
+}

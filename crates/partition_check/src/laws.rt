@@ -1,0 +1,47 @@
+//! Laws of the definitions, for whoever relies on them. The functions do nothing.
+ghost use Rattle.std.specs.Prelude.{ℕ, List, Option, ◌≡◌, ◌∷◌, ◌↔◌, ◌⊎◌};
+ghost use Rattle.std.specs.List.{Any, AllPairs};
+ghost use Rattle.field_boxes.specs.Classifier.{Interval};
+ghost use Rattle.partition_check.specs.Boxes.{IsBox, AreUpTo, LiesIn};
+ghost use Rattle.partition_check.specs.NextBox.{IsNextBox, IsLastOpen, GoesOnAt, ReachesEnds, IsSweep, AreAccepted, last_box};
+ghost use Rattle.partition_check.specs.Partition.{IsPartition};
+ghost use Rattle.partition_check.specs.Passed.{IsPassed};
+ghost use Rattle.partition_check.specs.Checking.{Statement};
+ghost use Rattle.partition_check.specs.RowText.{row_text, statement_of_text};
+ghost use Rattle.partition_check.specs.RowLines.{IsWritable};
+
+/// Rows are a partition exactly where each box is the next box and the last one reaches every end.
+pub fn partitions_are_sweeps()
+    ensures { (gs : List ℕ) (rows : List (List Interval)) → IsPartition gs rows ↔ IsSweep gs rows }
+{}
+
+/// Each header lies in one row of a partition, and in no two.
+pub fn rows_are_apart()
+    ensures { (gs : List ℕ) (rows : List (List Interval)) (header : List ℕ) → IsPartition gs rows → AreUpTo gs header →
+        Any (λ b. LiesIn b header) rows × AllPairs (λ b c. LiesIn b header → LiesIn c header → ⊥) rows }
+{}
+
+/// A header that the last accepted box has passed lies in one of the accepted boxes.
+pub fn passed_headers_lie_in_rows()
+    ensures { (gs : List ℕ) (b : List Interval) (rows : List (List Interval)) (header : List ℕ) → AreUpTo gs header →
+        AreAccepted gs b rows → IsPassed (last_box b rows) header → Any (λ box. LiesIn box header) (b ∷ rows) }
+{}
+
+/// The next box goes on at the last field in which the box ends below the greatest value.
+pub fn next_box_by_field()
+    ensures some { (gs : List ℕ) (b c : List Interval) (d : Interval) → IsBox gs b → IsBox gs c →
+        (IsNextBox gs b c ↔ ((k : ℕ) × IsLastOpen gs b d k × GoesOnAt gs b c d k)) }
+    ensures known { (gs : List ℕ) (b c : List Interval) (d : Interval) (k : ℕ) → IsBox gs b → IsBox gs c → IsLastOpen gs b d k →
+        (IsNextBox gs b c ↔ GoesOnAt gs b c d k) }
+{}
+
+/// A box has a next one exactly where it doesn't reach every end.
+pub fn a_box_has_a_next_one()
+    ensures some { (gs : List ℕ) (b : List Interval) → IsBox gs b → ReachesEnds gs b ⊎ ((c : List Interval) × IsNextBox gs b c) }
+    ensures none { (gs : List ℕ) (b c : List Interval) → ReachesEnds gs b → IsNextBox gs b c → ⊥ }
+{}
+
+/// Reading the line of a row as it is written, without its end, gives the row.
+pub fn written_rows_are_read()
+    ensures { (s : Statement) → IsWritable s → statement_of_text (row_text s) ≡ Some s }
+{}

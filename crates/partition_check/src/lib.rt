@@ -1,0 +1,38 @@
+//! Certificates that a list and a table decide alike, and their checker.
+//!
+//! A certificate parts all headers into boxes, and names for each box the first rule and the first entry
+//! that every header of it matches. A [`Checker`] takes the rows one after another, and tests each against
+//! the list and the table; what it says at the end of the last row is right whoever wrote the rows. It
+//! shares nothing with the compiler: no diagram, and no memory.
+//!
+//! ```text
+//! let mut checker = Checker::any(&list, &table);
+//! for row in &rows {
+//!     checker.row(row)?;
+//! }
+//! checker.finish(rows.len() as u64)?; // list and table agree on every header
+//! ```
+//!
+//! Boxes are nested intervals of the five fields in the stated order, the first varying slowest, so that
+//! each row has one next box (`specs/NextBox.antt`): [`laws`] ties this to the partition.
+#![tactic(auto)]
+
+mod checker;
+mod claims;
+mod field;
+pub mod laws;
+mod names;
+mod next;
+mod number;
+mod prefix_words;
+mod row;
+mod text;
+mod word;
+mod write;
+
+pub use checker::Checker;
+pub use row::{NotPrefix, Row, Why, Wrong};
+pub use write::{put_row, write_row};
+
+#[cfg(test)]
+mod tests;
