@@ -9,12 +9,14 @@
 //! razor_bench unions 1000 20
 //! razor_bench crossed 256 20
 //! razor_bench read 20 < LIST
+//! razor_bench tables 20 < TABLE
 //! ```
 #![tactic(auto)]
 
 mod access;
 mod build;
 mod crossed;
+mod input;
 mod lists;
 mod minimise;
 mod nodes;
@@ -23,6 +25,7 @@ mod pieces;
 mod plan;
 mod read;
 mod rules;
+mod tables;
 mod tally;
 #[cfg(test)]
 mod tests;
@@ -36,5 +39,6 @@ fn main(rt: HostRuntime) -> anyhow::Result<()> {
         Work::Minimise(count) => minimise::run(&rt, count),
         Work::Build { list, times } => build::run(&rt, list, times),
         Work::Read(times) => read::run(&rt, times),
+        Work::Tables(times) => tables::run(&rt, times),
     }
 }

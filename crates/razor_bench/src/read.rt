@@ -1,9 +1,9 @@
 //! Reading a filter list.
 
+use crate::input::standard_input;
 use anyhow::{Result, bail};
 use field_boxes::{Rule, Span};
 use filter_reader::read_list;
-use razor_base::{HostDesk, read_all};
 use std::fs::Files;
 
 /// As many bytes as a list may have.
@@ -11,14 +11,9 @@ const MOST_BYTES: u64 = 16_777_216;
 
 /// Reads the list on standard input so often, and prints what each time came of it.
 pub fn run(rt: &(impl Files + Input + Print + AllocGlobal), times: u32) -> Result<()> {
-    let alloc = rt.alloc();
-    let mut desk = HostDesk::new(rt, alloc);
-    let mut bytes = Vec::new(alloc);
-    if read_all(&mut desk, "-", MOST_BYTES, &mut bytes).is_err() {
-        bail!("standard input isn't read");
-    }
+    let bytes = standard_input(rt, MOST_BYTES)?;
     for _time in 0..times {
-        let Ok(list) = read_list(alloc, &bytes) else {
+        let Ok(list) = read_list(rt.alloc(), &bytes) else {
             bail!("standard input is no filter list");
         };
         println!(rt;

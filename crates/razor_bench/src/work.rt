@@ -16,6 +16,8 @@ pub enum Work {
     Build { list: RuleList, times: u32 },
     /// Read the filter list on standard input, so often.
     Read(u32),
+    /// Read the table on standard input, so often.
+    Tables(u32),
 }
 
 impl Work {
@@ -37,6 +39,7 @@ impl Work {
                 times,
             }),
             "read" => Ok(Work::Read(size)),
+            "tables" => Ok(Work::Tables(size)),
             _ => bail!("no work is named {name:?}"),
         }
     }
@@ -45,7 +48,7 @@ impl Work {
     pub fn of_words(rt: &(impl Env + AllocGlobal)) -> Result<Work> {
         let mut words = env::args(rt)?.skip(1);
         let name = words.next().context(
-            "nodes, minimise, build, unions, crossed or read, and a size",
+            "nodes, minimise, build, unions, crossed, read or tables, and a size",
         )?;
         let size = words.next().context("a size")?;
         let times = match words.next() {
