@@ -11,8 +11,8 @@
 //! razor_bench read 20 < LIST
 //! razor_bench diagram 20 < LIST
 //! razor_bench cost 20 < LIST
-//! razor_bench table 20 < LIST
-//! razor_bench entries 20 < TABLE
+//! razor_bench compose 20 < LIST
+//! razor_bench tables 20 < TABLE
 //! ```
 #![tactic(auto)]
 
@@ -43,7 +43,7 @@ fn main(rt: HostRuntime) -> anyhow::Result<()> {
         Work::Minimise(count) => minimise::run(&rt, count),
         Work::Build { list, times } => build::run(&rt, list, times),
         Work::Read(times) => read::run(&rt, times),
-        Work::Entries(times) => tables::run(&rt, times),
+        Work::Tables(times) => tables::run(&rt, times),
         Work::Compile { step, times } => compile::run(&rt, step, times),
     }
 }

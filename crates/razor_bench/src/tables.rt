@@ -1,9 +1,10 @@
-//! Reading the text of a table.
+//! Reading a table.
 
 use crate::input::{MOST_TABLE_BYTES, input};
 use anyhow::{Result, bail};
 use std::fs::Files;
 use table_text::read_table;
+use ternary_words::Entry;
 
 /// Reads the table on standard input so often, and prints what each time came of it.
 pub fn run(rt: &(impl Files + Input + Print + AllocGlobal), times: u32) -> Result<()> {
@@ -13,10 +14,28 @@ pub fn run(rt: &(impl Files + Input + Print + AllocGlobal), times: u32) -> Resul
             bail!("standard input is no table");
         };
         println!(rt;
-            "entries {} names {}",
+            "slot {} composed {} entries {} names {} checksum {}",
+            table.slot,
+            table.composed,
             table.entries.len(),
-            table.names.count()
+            table.names.count(),
+            checksum(&table.entries)
         )?;
     }
     Ok(())
+}
+
+/// A number of all words and decisions, for a comparison of the two versions of a text.
+pub fn checksum(entries: &[Entry]) -> u128 {
+    let mut sum = 0u128;
+    for entry in entries {
+        sum = more(sum, entry.word.value);
+        sum = more(sum, entry.word.mask);
+        sum = more(sum, u128::from(entry.decision));
+    }
+    sum
+}
+
+fn more(sum: u128, number: u128) -> u128 {
+    sum.wrapping_mul(31).wrapping_add(number)
 }

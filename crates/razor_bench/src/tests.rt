@@ -30,6 +30,7 @@ fn words_name_the_work(rt: HostRuntime) -> Result<(), Fail> {
         Work::of("crossed", 256, 1)?,
         Work::Build { list, times: 1 }
     );
+    assert_eq!(rt; Work::of("tables", 10, 1)?, Work::Tables(10));
     assert!(rt; Work::of("node", 7, 1).is_err());
     assert_eq!(rt; number("100000")?, 100_000);
     assert!(rt; number("many").is_err());

@@ -40,7 +40,7 @@ fields-read columns a b c d e ha hb hc hd he = rw (ha, hb, hc, hd, he) refl
 abbrev pub column : ℕ → ℕ → ℕ → List ℕ
 column k v m = hex_of k v ++ 47 ∷ hex_of k m
 
-column-all : (p : ℕ → Bool) (k v m : ℕ) → ((n : ℕ) → list_all p (hex_of k n) ≡ true) → p 47 ≡ true → list_all p (column k v m) ≡ true
+pub column-all : (p : ℕ → Bool) (k v m : ℕ) → ((n : ℕ) → list_all p (hex_of k n) ≡ true) → p 47 ≡ true → list_all p (column k v m) ≡ true
 column-all p k v m hex slash = all_joined p (hex_of k v) (47 ∷ hex_of k m) (hex v) (and_from (p 47) (list_all p (hex_of k m)) slash (hex m))
 
 -- the columns of a word
@@ -57,7 +57,7 @@ fields v m = record { source = masked 72 32 v m; destination = masked 40 32 v m;
 within-masked : (n w v m : ℕ) → bit_and v m ≡ v → is_within (masked n w v m) ≡ true
 within-masked n w v m e = eq-eqb (bit_and (v / 2 ^ n % 2 ^ w) (m / 2 ^ n % 2 ^ w)) (v / 2 ^ n % 2 ^ w) (part_within n w v m e)
 
-five_true : (a b c d e : Bool) → a ≡ true → b ≡ true → c ≡ true → d ≡ true → e ≡ true → a && b && c && d && e ≡ true
+pub five_true : (a b c d e : Bool) → a ≡ true → b ≡ true → c ≡ true → d ≡ true → e ≡ true → a && b && c && d && e ≡ true
 five_true a b c d e ha hb hc hd he = rw (ha, hb, hc, hd, he) refl
 
 within-fields : (v m : ℕ) → bit_and v m ≡ v → are_within (fields v m) ≡ true
@@ -78,7 +78,7 @@ line_columns v m rest = record {
 no_space : (k v m : ℕ) → list_all (is_other 32) (column k v m) ≡ true
 no_space k v m = column-all (is_other 32) k v m (hex_all (is_other 32) refl k) refl
 
-columns-read : (v m : ℕ) (rest : List ℕ) → columns_of (columns v m rest) ≡ Some (line_columns v m rest)
+pub columns-read : (v m : ℕ) (rest : List ℕ) → columns_of (columns v m rest) ≡ Some (line_columns v m rest)
 columns-read v m rest =
     columns-cut (column 8 (v / 2 ^ 72) (m / 2 ^ 72)) (column 8 (v / 2 ^ 40) (m / 2 ^ 40)) (column 4 (v / 2 ^ 24) (m / 2 ^ 24)) (column 4 (v / 2 ^ 8) (m / 2 ^ 8)) (column 2 (v / 2 ^ 0) (m / 2 ^ 0)) rest
     (no_space 8 (v / 2 ^ 72) (m / 2 ^ 72)) (no_space 8 (v / 2 ^ 40) (m / 2 ^ 40)) (no_space 4 (v / 2 ^ 24) (m / 2 ^ 24)) (no_space 4 (v / 2 ^ 8) (m / 2 ^ 8)) (no_space 2 (v / 2 ^ 0) (m / 2 ^ 0))

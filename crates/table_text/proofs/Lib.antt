@@ -17,3 +17,4 @@ pub mod HexBack
 pub mod EntryBack
 pub mod HeadingBack
 pub mod TableBack
+pub mod UpperTexts

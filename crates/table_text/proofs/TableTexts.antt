@@ -27,7 +27,7 @@ use Rattle.table_text.proofs.NameTexts.{numbered_spelled}
 use Rattle.table_text.proofs.Resumed.{counted_same}
 
 -- the line of an entry, without its end
-abbrev line_text : List (List ℕ) → code_entry.Entry → List ℕ
+abbrev pub line_text : List (List ℕ) → code_entry.Entry → List ℕ
 line_text names e = columns e.word.value e.word.mask (text_of (name_at names e.decision))
 
 -- the decision's name can be spelled
@@ -62,21 +62,42 @@ table-cut heading line lines h = ap (λ o. after_heading o lines) h
 all_spelled : (names : List (List ℕ)) → All (λ name. IsTrue (is_name name)) names → (es : List code_entry.Entry) → AreNumbered (length names) es → AllByRecursion (Spells names) es
 all_spelled names named es numbered = recursion_from_All (Spells names) es (λ k d lt. numbered_spelled names named (slice_index_or es k d).decision (numbered k d lt))
 
+-- the first line, and a line for each entry
+abbrev pub entry_lines : code_table.Table → List Line
+entry_lines t = map (λ e. whole_line (line_text t.names e) true) t.entries.items
+
+abbrev pub first_of : code_table.Table → List ℕ
+first_of t = first_text (decimal t.slot) (decimal t.composed) (decimal (length (table_of t).entries))
+
+-- what the first line says
+abbrev pub heading_of_table : code_table.Table → Heading
+heading_of_table t = record { version = Columns; slot = t.slot; composed = t.composed; entries = length (table_of t).entries }
+
+few_entries : (t : code_table.Table) → length (table_of t).entries ≤ 262144
+few_entries t = let same = length-map t.entries.items (words.entry_of t.names) in let few = t.few in omega (arith, few, same)
+
+-- a table whose names can be spelled
+abbrev pub HasNames : code_table.Table → Type 0
+HasNames t = All (λ name. IsTrue (is_name name)) t.names
+
+pub table-lines : (t : code_table.Table) → HasNames t → lines_of (table_text (table_of t)) ≡ whole_line (first_of t) true ∷ entry_lines t
+table-lines t named =
+    let whole = table_of t in
+    let few = few_entries t in
+    ap lines_of (heading-written whole (entries_text whole)) ∙ lines_of-line (first_of t) (entries_text whole) (heading-line t.slot t.composed (length whole.entries) t.width (omega (arith, t.counted)) (omega (arith, few)))
+    ∙ ap (λ ls. whole_line (first_of t) true ∷ ls) (lines-cut t.names t.entries.items (all_spelled t.names named t.entries.items t.numbered))
+
+pub table-heading : (t : code_table.Table) → heading_of (first_of t) ≡ Some (heading_of_table t)
+table-heading t = heading-read t.slot t.composed (length (table_of t).entries) t.width t.counted (few_entries t)
+
 -- the text of a table whose names can be spelled spells it
-pub table-read : (t : code_table.Table) → All (λ name. IsTrue (is_name name)) t.names → table_in_text (table_text (table_of t)) ≡ Ok (table_of t)
+pub table-read : (t : code_table.Table) → HasNames t → table_in_text (table_text (table_of t)) ≡ Ok (table_of t)
 table-read t named =
     let whole = table_of t in
     let es = t.entries.items in
-    let count = length whole.entries in
-    let same : count ≡ length es = length-map es (words.entry_of t.names) in
-    let few : count ≤ 262144 = omega (arith, t.few, same) in
-    let heading : Heading = record { version = Columns; slot = t.slot; composed = t.composed; entries = count } in
-    let first = first_text (decimal t.slot) (decimal t.composed) (decimal count) in
-    let spelled = all_spelled t.names named es t.numbered in
-    let lines = map (λ e. whole_line (line_text t.names e) true) es in
-    let size : length lines ≡ count = length-map es (λ e. whole_line (line_text t.names e) true) ∙ sym same in
-    let cut : lines_of (table_text whole) ≡ whole_line first true ∷ lines =
-    ap lines_of (heading-written whole (entries_text whole)) ∙ lines_of-line first (entries_text whole) (heading-line t.slot t.composed count t.width (omega arith) (omega arith)) ∙ ap (λ ls. whole_line first true ∷ ls) (lines-cut t.names es spelled) in
-    ap table_in cut ∙ table-cut heading first lines (heading-read t.slot t.composed count t.width t.counted few)
-    ∙ counted_same heading (length lines) (entries_of heading 2 (take count lines)) whole.entries
-    (ap (entries_of heading 2) (take_all count lines (omega (arith, size))) ∙ entries-read heading 2 t.names es refl spelled) size
+    let heading = heading_of_table t in
+    let lines = entry_lines t in
+    let size : length lines ≡ length whole.entries = length-map es (λ e. whole_line (line_text t.names e) true) ∙ sym (length-map es (words.entry_of t.names)) in
+    ap table_in (table-lines t named) ∙ table-cut heading (first_of t) lines (table-heading t)
+    ∙ counted_same heading (length lines) (entries_of heading 2 (take (length whole.entries) lines)) whole.entries
+    (ap (entries_of heading 2) (take_all (length whole.entries) lines (omega (arith, size))) ∙ entries-read heading 2 t.names es refl (all_spelled t.names named es t.numbered)) size

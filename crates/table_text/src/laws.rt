@@ -18,3 +18,8 @@ pub fn written_tables_are_read()
 pub fn upper_case_texts_are_written_as_they_were_read()
     ensures { (text : List ℕ) (table : Spelled) → table_in_text text ≡ Ok table → IsTrue (is_upper_text text) → table_text table ≡ text }
 {}
+
+/// The text of a table is in upper case, where its names can be spelled.
+pub fn written_tables_are_in_upper_case()
+    ensures { (table : Table) → All (λ name. IsTrue (is_name name)) table.names → IsTrue (is_upper_text (table_text (table_of table))) }
+{}
