@@ -6,8 +6,11 @@ use crate::input::{MOST_LIST_BYTES, input, list_of};
 use anyhow::{Result, bail};
 use fdd_build::build;
 use node_store::{NodeId, Store};
+use redundancy::remove;
+use std::alloc::Global;
 use std::fs::Files;
 use table_compose::{compose, cost};
+use ternary_words::Entry;
 
 /// How far a list is compiled.
 #[derive(Clone, Copy, Debug, PartialEq, Eq)]
@@ -16,8 +19,10 @@ pub enum Step {
     Diagram,
     /// To the cheapest prefix lists of the nodes, and what the diagram costs.
     Cost,
-    /// To the entries of its table.
+    /// To the entries of its composed table.
     Table,
+    /// To those that stay.
+    Removal,
 }
 
 /// As many entries as a table may have.
@@ -42,10 +47,25 @@ fn finish(rt: &(impl Print + AllocGlobal), step: Step, store: &Store, root: Node
     match step {
         Step::Diagram => println!(rt; "nodes {}", store.count())?,
         Step::Cost => println!(rt; "cost {}", cost(rt.alloc(), store, root)?)?,
-        Step::Table => match compose(rt.alloc(), store, root, MOST_ENTRIES) {
-            Ok(entries) => println!(rt; "entries {}", entries.len())?,
-            Err(_) => bail!("no table is made"),
-        },
+        Step::Table => {
+            let entries = composed(rt.alloc(), store, root)?;
+            println!(rt; "entries {}", entries.len())?;
+        }
+        Step::Removal => {
+            let entries = composed(rt.alloc(), store, root)?;
+            let kept = remove(rt.alloc(), entries)?;
+            println!(rt; "entries {}", kept.len())?;
+        }
     }
     Ok(())
+}
+
+/// The entries of the composed table.
+fn composed(alloc: Global, store: &Store, root: NodeId) -> Result<Vec<Entry>>
+    requires { level_of store.now root.0 ≡ 0 }
+{
+    match compose(alloc, store, root, MOST_ENTRIES) {
+        Ok(entries) => Ok(entries),
+        Err(_) => bail!("no table is composed"),
+    }
 }

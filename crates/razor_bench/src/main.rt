@@ -12,6 +12,7 @@
 //! razor_bench diagram 20 < LIST
 //! razor_bench cost 20 < LIST
 //! razor_bench compose 20 < LIST
+//! razor_bench remove 20 < LIST
 //! razor_bench tables 20 < TABLE
 //! ```
 #![tactic(auto)]

@@ -46,6 +46,7 @@ impl Work {
             "diagram" => Ok(Work::compile(Step::Diagram, size)),
             "cost" => Ok(Work::compile(Step::Cost, size)),
             "compose" => Ok(Work::compile(Step::Table, size)),
+            "remove" => Ok(Work::compile(Step::Removal, size)),
             _ => bail!("no work is named {name:?}"),
         }
     }
@@ -58,7 +59,7 @@ impl Work {
     pub fn of_words(rt: &(impl Env + AllocGlobal)) -> Result<Work> {
         let mut words = env::args(rt)?.skip(1);
         let name = words.next().context(
-            "nodes, minimise, build, unions, crossed, read, tables, diagram, cost or compose, and a size",
+            "nodes, minimise, build, unions, crossed, read, tables, diagram, cost, compose or remove, and a size",
         )?;
         let size = words.next().context("a size")?;
         let times = match words.next() {
