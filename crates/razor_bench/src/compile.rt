@@ -2,7 +2,7 @@
 ghost use Rattle.std.specs.Prelude.{◌≡◌};
 ghost use Rattle.node_store.specs.Diagram.{level_of};
 
-use crate::input::{input, list_of};
+use crate::input::{MOST_LIST_BYTES, input, list_of};
 use anyhow::{Result, bail};
 use fdd_build::build;
 use node_store::{NodeId, Store};
@@ -25,7 +25,7 @@ const MOST_ENTRIES: u32 = 262_144;
 
 /// Compiles the list on standard input so far and so often, and prints what each time came of it.
 pub fn run(rt: &(impl Files + Input + Print + AllocGlobal), step: Step, times: u32) -> Result<()> {
-    let bytes = input(rt)?;
+    let bytes = input(rt, MOST_LIST_BYTES)?;
     for _time in 0..times {
         let list = list_of(rt.alloc(), &bytes)?;
         let mut store = Store::new(rt.alloc());

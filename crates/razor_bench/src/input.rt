@@ -1,4 +1,5 @@
-//! Standard input as a filter list.
+//! Standard input, and the filter list that it spells.
+ghost use Rattle.std.specs.Prelude.{◌≤◌};
 
 use anyhow::{Result, bail};
 use filter_reader::{RuleList, read_list};
@@ -7,13 +8,18 @@ use std::alloc::Global;
 use std::fs::Files;
 
 /// As many bytes as a list may have.
-const MOST_BYTES: u64 = 16_777_216;
+pub const MOST_LIST_BYTES: u64 = 16_777_216;
 
-/// The bytes of standard input.
-pub fn input(rt: &(impl Files + Input + AllocGlobal)) -> Result<Vec<u8>> {
+/// As many bytes as a table may have.
+pub const MOST_TABLE_BYTES: u64 = 134_217_728;
+
+/// The bytes of standard input, at most so many.
+pub fn input(rt: &(impl Files + Input + AllocGlobal), most: u64) -> Result<Vec<u8>>
+    requires { most ≤ 268435456 }
+{
     let mut desk = HostDesk::new(rt, rt.alloc());
     let mut bytes = Vec::new(rt.alloc());
-    if read_all(&mut desk, "-", MOST_BYTES, &mut bytes).is_err() {
+    if read_all(&mut desk, "-", most, &mut bytes).is_err() {
         bail!("standard input isn't read");
     }
     Ok(bytes)

@@ -12,6 +12,7 @@
 //! razor_bench diagram 20 < LIST
 //! razor_bench cost 20 < LIST
 //! razor_bench table 20 < LIST
+//! razor_bench entries 20 < TABLE
 //! ```
 #![tactic(auto)]
 
@@ -28,6 +29,7 @@ mod pieces;
 mod plan;
 mod read;
 mod rules;
+mod tables;
 mod tally;
 #[cfg(test)]
 mod tests;
@@ -41,6 +43,7 @@ fn main(rt: HostRuntime) -> anyhow::Result<()> {
         Work::Minimise(count) => minimise::run(&rt, count),
         Work::Build { list, times } => build::run(&rt, list, times),
         Work::Read(times) => read::run(&rt, times),
+        Work::Entries(times) => tables::run(&rt, times),
         Work::Compile { step, times } => compile::run(&rt, step, times),
     }
 }

@@ -1,13 +1,13 @@
 //! Reading a filter list.
 
-use crate::input::{input, list_of};
+use crate::input::{MOST_LIST_BYTES, input, list_of};
 use anyhow::Result;
 use field_boxes::{Rule, Span};
 use std::fs::Files;
 
 /// Reads the list on standard input so often, and prints what each time came of it.
 pub fn run(rt: &(impl Files + Input + Print + AllocGlobal), times: u32) -> Result<()> {
-    let bytes = input(rt)?;
+    let bytes = input(rt, MOST_LIST_BYTES)?;
     for _time in 0..times {
         let list = list_of(rt.alloc(), &bytes)?;
         println!(rt;

@@ -17,6 +17,8 @@ pub enum Work {
     Build { list: RuleList, times: u32 },
     /// Read the filter list on standard input, so often.
     Read(u32),
+    /// Read the table on standard input, so often.
+    Entries(u32),
     /// Compile the filter list on standard input so far, so often.
     Compile { step: Step, times: u32 },
 }
@@ -40,6 +42,7 @@ impl Work {
                 times,
             }),
             "read" => Ok(Work::Read(size)),
+            "entries" => Ok(Work::Entries(size)),
             "diagram" => Ok(Work::compile(Step::Diagram, size)),
             "cost" => Ok(Work::compile(Step::Cost, size)),
             "table" => Ok(Work::compile(Step::Table, size)),
@@ -55,7 +58,7 @@ impl Work {
     pub fn of_words(rt: &(impl Env + AllocGlobal)) -> Result<Work> {
         let mut words = env::args(rt)?.skip(1);
         let name = words.next().context(
-            "nodes, minimise, build, unions, crossed, read, diagram, cost or table, and a size",
+            "nodes, minimise, build, unions, crossed, read, entries, diagram, cost or table, and a size",
         )?;
         let size = words.next().context("a size")?;
         let times = match words.next() {

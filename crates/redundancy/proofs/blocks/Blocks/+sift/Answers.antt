@@ -1,0 +1,87 @@
+use Rattle.std.proofs.Common.{◌∷◌, ◌++◌, [], suc, ap, arith, refl, sym, ◌∙◌, subst}
+use Rattle.std.specs.Prelude.{map}
+use Rattle.redundancy.specs.Rows.{behind}
+use Rattle.redundancy.specs.Blocks.{last_row, rows_of, cover_at}
+use Rattle.redundancy.specs.Sifted.{ArePairs, AreDistinct, node_at}
+use Rattle.redundancy.proofs.Growing.{twice}
+use Rattle.redundancy.proofs.BlockRows.{last_rows, behind_rows, two_rows}
+use Rattle.redundancy.proofs.Kept.{two_end}
+use Rattle.redundancy.proofs.Sifts.{moved, behind_end, cover_stays, leads}
+use Rattle.redundancy.proofs.Trits.{keys_pairs}
+use Rattle.redundancy.proofs.blocks.Blocks.+sift.Goals as goal
+
+pub sift-sift_behind-requires : goal.sift-sift_behind-requires
+sift-sift_behind-requires t c =
+    let f = c.requires.blocks.fits c.args.number _ c.in-Behind.ensures.found in
+    (omega (arith, c.decreases, f.0), (c.requires.blocks, (omega (arith, f.0, c.requires.number), c.requires.contexts)))
+
+pub sift-sift_two-requires : goal.sift-sift_two-requires
+sift-sift_two-requires t c =
+    let f = c.requires.blocks.fits c.args.number _ c.in-Two.ensures.found in
+    (omega (arith, c.decreases, f.0, f.1), (c.requires.blocks, (omega (arith, f.0, c.requires.number), (omega (arith, f.1, c.requires.number), (f.3 ∙ sym f.2, c.requires.contexts)))))
+
+pub sift-returns-in_ok-sifted-in-Last-clause-sifted :
+    goal.sift-returns-in_ok-sifted-in-Last-clause-sifted
+sift-returns-in_ok-sifted-in-Last-clause-sifted t c =
+    let blocks = c.args.self.now.blocks.keys in
+    moved c.last.new.sets 0 (cover_at c.args.self.now.covers.items c.args.number).bits (last_row c.in-Last.decision ∷ []) (rows_of blocks c.args.number) c.args.contexts.now c.in_ok-sifted-in-Last.sifted
+    (c.requires.blocks.fits c.args.number _ c.in-Last.ensures.found) (last_rows blocks c.args.number c.in-Last.decision c.in-Last.ensures.found) c.in_ok-sifted-in-Last.ensures.sifted
+
+pub sift-returns-in_ok-sifted-in-Behind-clause-sifted :
+    goal.sift-returns-in_ok-sifted-in-Behind-clause-sifted
+sift-returns-in_ok-sifted-in-Behind-clause-sifted t c =
+    let blocks = c.args.self.now.blocks.keys in
+    let k = c.in-Behind in
+    let f = c.requires.blocks.fits c.args.number _ k.ensures.found in
+    moved c.sift_behind.new.sets (suc (cover_at c.args.self.now.covers.items k.child).bits) (cover_at c.args.self.now.covers.items c.args.number).bits
+    (map (behind k.trit) (rows_of blocks k.child)) (rows_of blocks c.args.number) c.args.contexts.now c.in_ok-sifted-in-Behind.sifted
+    f.1 (behind_rows blocks c.args.number k.trit k.child (leads c.args.sets.now blocks c.args.self.now.covers.items c.requires.blocks) k.ensures.found) c.in_ok-sifted-in-Behind.ensures.sifted
+
+pub sift-returns-in_ok-sifted-in-Two-clause-sifted :
+    goal.sift-returns-in_ok-sifted-in-Two-clause-sifted
+sift-returns-in_ok-sifted-in-Two-clause-sifted t c =
+    let blocks = c.args.self.now.blocks.keys in
+    let k = c.in-Two in
+    let f = c.requires.blocks.fits c.args.number _ k.ensures.found in
+    moved c.sift_two.new.sets (cover_at c.args.self.now.covers.items k.first).bits (cover_at c.args.self.now.covers.items c.args.number).bits
+    (rows_of blocks k.first ++ rows_of blocks k.second) (rows_of blocks c.args.number) c.args.contexts.now c.in_ok-sifted-in-Two.sifted
+    (sym f.2) (two_rows blocks c.args.number k.first k.second (leads c.args.sets.now blocks c.args.self.now.covers.items c.requires.blocks) k.ensures.found) c.in_ok-sifted-in-Two.ensures.sifted
+
+pub sift_behind-sift-requires : goal.sift_behind-sift-requires
+sift_behind-sift-requires t c =
+    let nodes = c.args.sets.now in
+    let keys = c.in_ok-distinct.distinct.pairs.keys in
+    let h = c.in_ok-lower.ensures in
+    let k = subst (λ ps. AreDistinct ps keys c.in_ok-distinct.distinct.places.items) c.as_slice.ensures.value c.in_ok-distinct.ensures in (
+      omega (arith, c.decreases),
+      (
+        c.requires.blocks,
+        (
+          c.requires.child,
+          subst (ArePairs nodes) (sym c.as_slice-2.ensures.keys) (keys_pairs nodes c.args.trit c.args.contexts.now c.in_ok-lower.lower.items keys c.in_ok-distinct.distinct.places.items h k),
+        ),
+      ),
+    )
+
+pub sift_behind-returns-clause-sifted : goal.sift_behind-returns-clause-sifted
+sift_behind-returns-clause-sifted t c =
+    behind_end c.args.sets.now c.sift.new.sets c.joined.new.sets c.args.trit c.args.contexts.now c.in_ok-lower.lower.items c.in_ok-distinct.distinct.pairs.keys c.as_slice.result.now c.as_slice-2.result.now
+    c.in_ok-distinct.distinct.places.items c.as_slice-3.result.now c.in_ok-answers.answers.items c.as_slice-4.result.now c.as_slice-5.result.now c.in_ok-inner.inner _
+    (cover_at c.args.self.now.covers.items c.args.child).bits (rows_of c.args.self.now.blocks.keys c.args.child) c.in_ok-inner.ensures.grows c.in_ok-after.ensures.grows c.requires.contexts
+    c.in_ok-lower.ensures c.as_slice.ensures.value c.in_ok-distinct.ensures c.as_slice-2.ensures.keys c.in_ok-inner.ensures.sifted c.as_slice-3.ensures.value c.as_slice-4.ensures.value
+    c.in_ok-answers.ensures.count c.in_ok-answers.ensures.each c.as_slice-5.ensures.value c.in_ok-after.ensures.count c.in_ok-after.ensures.each refl
+
+pub sift_two-returns-clause-sifted : goal.sift_two-returns-clause-sifted
+sift_two-returns-clause-sifted t c =
+    let blocks = c.args.self.now.blocks.keys in
+    let nodes = c.sift-2.new.sets in
+    let covers = c.args.self.now.covers.items in
+    two_end c.args.sets.now c.behind_cover.new.sets c.sift.new.sets nodes (rows_of blocks c.args.first) (rows_of blocks c.args.second) c.args.contexts.now
+    c.in_ok-behind.behind.items c.in_ok-before.before.items c.as_slice.result.now c.as_slice-3.result.now (cover_at covers c.args.first) c.cover.result (cover_at covers c.args.second).bits
+    c.in_ok-later.later c.in_ok-earlier.earlier _ c.in_ok-behind.ensures.grows c.in_ok-later.ensures.grows c.in_ok-earlier.ensures.grows c.requires.contexts
+    (cover_stays c.args.sets.now nodes (cover_at covers c.args.first) (rows_of blocks c.args.first)
+    (twice c.args.sets.now c.behind_cover.new.sets nodes c.in_ok-behind.ensures.grows (twice c.behind_cover.new.sets c.sift.new.sets nodes c.in_ok-later.ensures.grows c.in_ok-earlier.ensures.grows))
+    (c.requires.blocks.covered c.args.first c.requires.first))
+    c.cover.ensures c.requires.bits c.as_slice.ensures.value c.as_slice-3.ensures.value c.in_ok-behind.ensures.count c.in_ok-before.ensures.count c.in_ok-behind.ensures.each
+    (λ k less. c.in_ok-before.ensures.after k less ∙ ap (λ ids. node_at ids k) c.as_slice-2.ensures.value) c.in_ok-before.ensures.met
+    c.in_ok-later.ensures.sifted c.in_ok-earlier.ensures.sifted (c.in_ok-extend_from_slice.ensures.items ∙ ap (λ ks. c.in_ok-earlier.earlier.kept.items ++ ks) c.as_slice-4.ensures.value) refl

@@ -1,0 +1,11 @@
+pub mod Rows
+pub mod Marks
+pub mod Pass
+pub mod Entries
+pub mod Contexts
+pub mod Diagram
+pub mod Unions
+pub mod Blocks
+pub mod Sifted
+pub mod Built
+pub mod Flags

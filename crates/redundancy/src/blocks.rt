@@ -1,0 +1,44 @@
+//! Blocks by number.
+
+use crate::block::{Block, Cover};
+use indexmap::IndexSet;
+use std::alloc::Global;
+
+/// Blocks, each once, and for each its cover.
+#[derive(Drop)]
+pub(crate) struct Blocks {
+    pub blocks: IndexSet<Block>,
+    pub covers: Vec<Cover>,
+}
+
+impl Blocks {
+    ghost use Rattle.std.specs.Prelude.{◌≡◌, ◌<◌, ℕ, List, Some, length, slice_get};
+    ghost use Rattle.redundancy.specs.declared.node.Node.{Node};
+    ghost use Rattle.redundancy.specs.Blocks.{IsBlocks, FitsAt, cover_at};
+
+    /// No blocks.
+    pub fn new(alloc: Global) -> Blocks
+        ensures { (nodes : List Node) → IsBlocks nodes result }
+    {
+        Blocks {
+            blocks: IndexSet::new(alloc),
+            covers: Vec::new(alloc),
+        }
+    }
+
+    /// The block under the number.
+    pub fn block(&self, number: usize) -> Block
+        requires { number < length self.now.blocks.keys }
+        ensures found { slice_get self.now.blocks.keys number ≡ Some result }
+    {
+        self.blocks[number]
+    }
+
+    /// The cover of the block under the number.
+    pub fn cover(&self, number: usize) -> Cover
+        requires { number < length self.now.covers.items }
+        ensures { result ≡ cover_at self.now.covers.items number }
+    {
+        self.covers[number]
+    }
+}
