@@ -19,10 +19,15 @@ answer_step names true e o n h = refl
 answer_step names false e o n h = h
 
 -- what a table answers by name is the name of what it answers by number
-pub answer_named : (names : List (List ℕ)) (es : List code.Entry) (header : List ℕ) → answer (map (entry_of names) es) header ≡ name_at names (numbers.answer es header)
+answer_named : (names : List (List ℕ)) (es : List code.Entry) (header : List ℕ) → answer (map (entry_of names) es) header ≡ name_at names (numbers.answer es header)
 answer_named names [] header = refl
 answer_named names (e ∷ es) header =
     answer_step names (agrees (word_of e.word) (header_bits header)) e (find (entry_matches header) (map (entry_of names) es)) (numbers.answer es header) (answer_named names es header)
+
+-- what is answered alike by number is answered alike by name
+pub answers_stay : (names : List (List ℕ)) (xs ys : List code.Entry) (header : List ℕ) → numbers.answer xs header ≡ numbers.answer ys header →
+    answer (map (entry_of names) xs) header ≡ answer (map (entry_of names) ys) header
+answers_stay names xs ys header same = answer_named names xs header ∙ ap (name_at names) same ∙ sym (answer_named names ys header)
 
 bounded_step : (count : ℕ) (t : Bool) (e : code.Entry) (n : ℕ) → e.decision ≤ count → n ≤ count → cond t e.decision n ≤ count
 bounded_step count true e n h rest = h
@@ -63,9 +68,12 @@ remove-map f (x ∷ xs) (suc place) = ap (λ es. f x ∷ es) (remove-map f xs pl
 pub tight_named : (names : List (List ℕ)) (es : List code.Entry) → AreDistinct names → AreNumbered (length names) es → numbers.IsTight es → IsTight (map (entry_of names) es)
 tight_named names es distinct numbered tight place less =
     let found = tight place (omega (arith, less, length-map es (entry_of names))) in
-    let header = found.0 in
-    (header, found.1, λ same. found.2
-    (distinct (numbers.answer (remove es place) header) (numbers.answer es header)
-    (bounded (length names) (remove es place) header (all_left (λ x. x.decision ≤ length names) es place numbered))
-    (bounded (length names) es header numbered)
-    (sym (answer_named names (remove es place) header) ∙ ap (λ ts. answer ts header) (sym (remove-map (entry_of names) es place)) ∙ same ∙ answer_named names es header)))
+    let header = found.0 in (
+      header,
+      found.1,
+      λ same. found.2
+          (distinct (numbers.answer (remove es place) header) (numbers.answer es header)
+          (bounded (length names) (remove es place) header (all_left (λ x. x.decision ≤ length names) es place numbered))
+          (bounded (length names) es header numbered)
+          (sym (answer_named names (remove es place) header) ∙ ap (λ ts. answer ts header) (sym (remove-map (entry_of names) es place)) ∙ same ∙ answer_named names es header)),
+    )
