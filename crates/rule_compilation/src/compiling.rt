@@ -11,6 +11,7 @@ ghost use Rattle.rule_compilation.specs.Entries.{AreEntriesOf};
 use fdd_build::build;
 use field_boxes::{Decisions, Rule};
 use node_store::Store;
+use redundancy::remove;
 use std::alloc::Global;
 use table_compose::laws::{decisions_have_names, distinct_names_tell_apart, one_least_cost};
 use table_compose::{ComposeError, compose};
@@ -39,11 +40,14 @@ pub fn compile(
     ensures room { IfOk result (λ table. (needed : ℕ) → IsLeastCost stated (named_rules names.now rules.now) needed → needed ≤ limit) }
 {
     one_least_cost();
+    names.are_names();
     let entries = composed_entries(alloc, rules, names, limit)?;
+    let composed = entries.len() as u32;
+    let entries = remove(alloc, entries)?;
     let names = names.copy(alloc)?;
     Ok(Table {
         slot,
-        composed: entries.len() as u32,
+        composed,
         entries,
         names,
     })

@@ -1,0 +1,79 @@
+-- Tables of which entries were removed, by number and by name.
+use Rattle.std.proofs.Common.{◌≡◌, ◌∷◌, ℕ, zero, suc, ◌<◌, ◌≤◌, List, [], Bool, true, false, cond, length, map, ap, arith, refl, sym, subst, ◌∙◌, Some, inl, inr}
+use Rattle.std.specs.Prelude.{find, Option, option_and_then}
+use Rattle.std.specs.List.{All, remove}
+use Rattle.std.proofs.lemmas.List.{length-map}
+use Rattle.std.proofs.lemmas.List.Elements.{All-nil, All-cons, All-head, All-tail}
+use Rattle.field_boxes.specs.Names.{AreDistinct, name_at}
+use Rattle.ternary_words.specs.declared.entry.Entry as code
+use Rattle.ternary_words.specs.Limits.{AreNumbered}
+use Rattle.ternary_words.specs.Table.{Entry, answer, entry_matches}
+use Rattle.ternary_words.specs.Views.{entry_of, word_of}
+use Rattle.ternary_words.specs.Word.{agrees, header_bits}
+use Rattle.redundancy.specs.Entries as numbers
+use Rattle.rule_compilation.specs.Compiled.{IsTight}
+
+answer_step : (names : List (List ℕ)) (t : Bool) (e : code.Entry) (o : Option Entry) (n : ℕ) → option_and_then (λ x. x.decision) o ≡ name_at names n →
+    option_and_then (λ x. x.decision) (cond t (Some (entry_of names e)) o) ≡ name_at names (cond t e.decision n)
+answer_step names true e o n h = refl
+answer_step names false e o n h = h
+
+-- what a table answers by name is the name of what it answers by number
+answer_named : (names : List (List ℕ)) (es : List code.Entry) (header : List ℕ) → answer (map (entry_of names) es) header ≡ name_at names (numbers.answer es header)
+answer_named names [] header = refl
+answer_named names (e ∷ es) header =
+    answer_step names (agrees (word_of e.word) (header_bits header)) e (find (entry_matches header) (map (entry_of names) es)) (numbers.answer es header) (answer_named names es header)
+
+-- what is answered alike by number is answered alike by name
+pub answers_stay : (names : List (List ℕ)) (xs ys : List code.Entry) (header : List ℕ) → numbers.answer xs header ≡ numbers.answer ys header →
+    answer (map (entry_of names) xs) header ≡ answer (map (entry_of names) ys) header
+answers_stay names xs ys header same = answer_named names xs header ∙ ap (name_at names) same ∙ sym (answer_named names ys header)
+
+bounded_step : (count : ℕ) (t : Bool) (e : code.Entry) (n : ℕ) → e.decision ≤ count → n ≤ count → cond t e.decision n ≤ count
+bounded_step count true e n h rest = h
+bounded_step count false e n h rest = rest
+
+-- the number that a table answers is one of its names', or 0
+bounded : (count : ℕ) (es : List code.Entry) (header : List ℕ) → AreNumbered count es → numbers.answer es header ≤ count
+bounded count [] header h = omega arith
+bounded count (e ∷ es) header h =
+    bounded_step count (agrees (word_of e.word) (header_bits header)) e (numbers.answer es header) (All-head (λ x. x.decision ≤ count) e es h)
+    (bounded count es header (All-tail (λ x. x.decision ≤ count) e es h))
+
+-- what holds of all entries holds of a part of them
+pub all_of_part : (P : code.Entry → Type 0) (xs ys : List code.Entry) → numbers.IsPart xs ys → All P ys → All P xs
+all_of_part P xs [] part all = subst (All P) (sym part) (All-nil P)
+all_of_part P xs (y ∷ ys) (inl kept) all = subst (All P) (sym kept.1) (All-cons P y kept.0 (All-head P y ys all) (all_of_part P kept.0 ys kept.2 (All-tail P y ys all)))
+all_of_part P xs (y ∷ ys) (inr part) all = all_of_part P xs ys part (All-tail P y ys all)
+
+-- a part is no longer than the whole
+pub part_few : (xs ys : List code.Entry) → numbers.IsPart xs ys → length xs ≤ length ys
+part_few xs [] part = omega (arith, ap length part)
+part_few xs (y ∷ ys) (inl kept) = omega (arith, ap length kept.1, part_few kept.0 ys kept.2)
+part_few xs (y ∷ ys) (inr part) = omega (arith, part_few xs ys part)
+
+all_left : (P : code.Entry → Type 0) (xs : List code.Entry) (place : ℕ) → All P xs → All P (remove xs place)
+all_left P [] zero all = All-nil P
+all_left P [] (suc place) all = All-nil P
+all_left P (x ∷ xs) zero all = All-tail P x xs all
+all_left P (x ∷ xs) (suc place) all = All-cons P x (remove xs place) (All-head P x xs all) (all_left P xs place (All-tail P x xs all))
+
+remove-map : (f : code.Entry → Entry) (xs : List code.Entry) (place : ℕ) → remove (map f xs) place ≡ map f (remove xs place)
+remove-map f [] zero = refl
+remove-map f [] (suc place) = refl
+remove-map f (x ∷ xs) zero = refl
+remove-map f (x ∷ xs) (suc place) = ap (λ es. f x ∷ es) (remove-map f xs place)
+
+-- a table that is tight by number is tight by name
+pub tight_named : (names : List (List ℕ)) (es : List code.Entry) → AreDistinct names → AreNumbered (length names) es → numbers.IsTight es → IsTight (map (entry_of names) es)
+tight_named names es distinct numbered tight place less =
+    let found = tight place (omega (arith, less, length-map es (entry_of names))) in
+    let header = found.0 in (
+      header,
+      found.1,
+      λ same. found.2
+          (distinct (numbers.answer (remove es place) header) (numbers.answer es header)
+          (bounded (length names) (remove es place) header (all_left (λ x. x.decision ≤ length names) es place numbered))
+          (bounded (length names) es header numbered)
+          (sym (answer_named names (remove es place) header) ∙ ap (λ ts. answer ts header) (sym (remove-map (entry_of names) es place)) ∙ same ∙ answer_named names es header)),
+    )
