@@ -1,0 +1,27 @@
+-- The slots of a ternary memory, and what a look-up in them finds.
+use Rattle.std.specs.Prelude.{ℕ, Bool, false, List, Option, Some, None, option_map, position, slice_index_or}
+use Rattle.ternary_words.specs.Word.{Trit, agrees, header_bits}
+use Rattle.ternary_words.specs.Views.{word_of}
+use Rattle.ternary_words.specs.declared.entry.Entry.{Entry}
+
+-- an entry as a slot holds it: its word, and the number of its decision
+pub record Stored : Type 0 where
+  pub word : List Trit
+  pub decision : ℕ
+
+abbrev pub stored : Entry → Stored
+stored e = record { word = word_of e.word; decision = e.decision }
+
+-- whether the slot holds a word that matches the header: an empty one doesn't
+abbrev pub slot_matches : List ℕ → Option Stored → Bool
+slot_matches values None = false
+slot_matches values (Some s) = agrees s.word (header_bits values)
+
+-- the decision in a slot, 0 in an empty one
+abbrev pub decision_in : Option Stored → ℕ
+decision_in None = 0
+decision_in (Some s) = s.decision
+
+-- the least slot whose word matches the header, if there is one, and the decision in it
+abbrev pub look_up : List (Option Stored) → List ℕ → Option (ℕ × ℕ)
+look_up slots values = option_map (λ k. (k, decision_in (slice_index_or slots k None))) (position (slot_matches values) slots)
