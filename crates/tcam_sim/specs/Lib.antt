@@ -1,1 +1,5 @@
 pub mod Slots
+pub mod Columns
+pub mod Keys
+pub mod Bank
+pub mod Search

@@ -12,10 +12,14 @@ pub record Stored : Type 0 where
 abbrev pub stored : Entry → Stored
 stored e = record { word = word_of e.word; decision = e.decision }
 
--- whether the slot holds a word that matches the header: an empty one doesn't
+-- whether the slot holds a word that agrees with the bits of a key: an empty one doesn't
+abbrev pub slot_agrees : List Bool → Option Stored → Bool
+slot_agrees key None = false
+slot_agrees key (Some s) = agrees s.word key
+
+-- whether the slot matches the header
 abbrev pub slot_matches : List ℕ → Option Stored → Bool
-slot_matches values None = false
-slot_matches values (Some s) = agrees s.word (header_bits values)
+slot_matches values slot = slot_agrees (header_bits values) slot
 
 -- the decision in a slot, 0 in an empty one
 abbrev pub decision_in : Option Stored → ℕ

@@ -3,6 +3,11 @@
 //! A [`Device`] is any such memory. The layers above are proved over every device.
 #![tactic(auto)]
 
+mod bank;
 mod device;
+mod halves;
+mod key;
+mod search;
 
+pub use bank::Bank;
 pub use device::Device;

@@ -1,0 +1,5 @@
+pub mod Columns
+pub mod KeyNumbers
+pub mod Differing
+pub mod BankSlots
+pub mod Searches
