@@ -3,3 +3,4 @@ pub mod KeyNumbers
 pub mod Differing
 pub mod BankSlots
 pub mod Searches
+pub mod Filling

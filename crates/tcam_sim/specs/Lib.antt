@@ -3,3 +3,4 @@ pub mod Columns
 pub mod Keys
 pub mod Bank
 pub mod Search
+pub mod FaultyBank

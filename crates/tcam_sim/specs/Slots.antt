@@ -1,5 +1,5 @@
 -- The slots of a ternary memory, and what a look-up in them finds.
-use Rattle.std.specs.Prelude.{ℕ, Bool, false, List, Option, Some, None, option_map, position, slice_index_or}
+use Rattle.std.specs.Prelude.{ℕ, ◌-◌, ◌++◌, Bool, false, List, length, map, replicate, Option, Some, None, option_map, position, slice_index_or}
 use Rattle.ternary_words.specs.Word.{Trit, agrees, header_bits}
 use Rattle.ternary_words.specs.Views.{word_of}
 use Rattle.ternary_words.specs.declared.entry.Entry.{Entry}
@@ -29,3 +29,7 @@ decision_in (Some s) = s.decision
 -- the least slot whose word matches the header, if there is one, and the decision in it
 abbrev pub look_up : List (Option Stored) → List ℕ → Option (ℕ × ℕ)
 look_up slots values = option_map (λ k. (k, decision_in (slice_index_or slots k None))) (position (slot_matches values) slots)
+
+-- so many slots with these entries in the first of them, and the others empty
+abbrev pub filled : ℕ → List Entry → List (Option Stored)
+filled count entries = map (λ e. Some (stored e)) entries ++ replicate (count - length entries) None

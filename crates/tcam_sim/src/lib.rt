@@ -5,9 +5,13 @@
 
 mod bank;
 mod device;
+mod faulty_bank;
 mod halves;
 mod key;
+mod loading;
 mod search;
 
 pub use bank::Bank;
 pub use device::Device;
+pub use faulty_bank::FaultyBank;
+pub use loading::load;
