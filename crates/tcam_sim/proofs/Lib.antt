@@ -4,3 +4,5 @@ pub mod Differing
 pub mod BankSlots
 pub mod Searches
 pub mod Filling
+pub mod LaneByLane
+pub mod Eights

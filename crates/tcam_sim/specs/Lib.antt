@@ -3,4 +3,5 @@ pub mod Columns
 pub mod Keys
 pub mod Bank
 pub mod Search
+pub mod Vectors
 pub mod FaultyBank

@@ -8,8 +8,11 @@ mod device;
 mod faulty_bank;
 mod halves;
 mod key;
+mod lanes;
 mod loading;
 mod search;
+#[cfg(test)]
+mod tests;
 
 pub use bank::Bank;
 pub use device::Device;
