@@ -1,0 +1,9 @@
+pub mod Places
+pub mod Feeds
+pub mod Traces
+pub mod SoFar
+pub mod PutLines
+pub mod Within
+pub mod Standing
+pub mod Ending
+pub mod Flushing

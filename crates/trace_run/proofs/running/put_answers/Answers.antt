@@ -1,0 +1,98 @@
+use Rattle.std.proofs.Common.{◌≡◌, ℕ, ◌-◌, ◌<◌, ◌≤◌, List, ◌++◌, length, take, drop, take-append-drop, length-drop, ap, sym, subst, ◌∙◌, arith, rules}
+use Rattle.std.specs.Io.KnownBytes.{Consumes, prepend_known}
+use Rattle.std.proofs.lemmas.List.{length-take-le, take-take}
+use Rattle.trace_run.proofs.PutLines.{handed_on}
+use Rattle.trace_run.proofs.Standing.{so_far-next}
+use Rattle.trace_run.proofs.Ending.{so_far-few, ends_fault, ends_whole, ends_at_last_as, ends_in_piece_as, ends_long, consumes-first}
+use Rattle.trace_run.proofs.running.put_answers.Goals as goal
+
+pub returns-in_default-clause-outcome : goal.returns-in_default-clause-outcome
+returns-in_default-clause-outcome g c = ends_fault (g.D.Desk.remaining c.read.new.self c.args.name.now) c.pieces.invariant.stands c.in_default.ensures.bytes
+
+pub take_kept-requires-clause-lines : goal.take_kept-requires-clause-lines
+take_kept-requires-clause-lines g c = let few = so_far-few c.pieces.invariant.stands in omega (arith, few.0)
+
+pub take_kept-requires-clause-headers : goal.take_kept-requires-clause-headers
+take_kept-requires-clause-headers g c = let few = so_far-few c.pieces.invariant.stands in omega (arith, few.1)
+
+pub returns-in_err-take_kept-clause-outcome : goal.returns-in_err-take_kept-clause-outcome
+returns-in_err-take_kept-clause-outcome g c =
+    let left = g.D.Desk.remaining c.read.new.self c.args.name.now in
+    let buffer = c.read.new.piece in
+    let long : 0 < length buffer = search rules in
+    let none = subst (λ n. Consumes (g.D.Desk.remaining c.pieces.desk c.args.name.now) left (take n buffer)) c.if-count-eq0.true c.in-Ok.ensures.bytes.0 in
+    let error = c.in_err-take_kept.field-0.0 in
+    ends_at_last_as left error c.from_residual.result (handed_on error c.from_residual.result c.from_residual.ensures.1) c.pieces.invariant.stands none (c.in-Ok.ensures.bytes.1 c.if-count-eq0.true long) c.in_err-take_kept.ensures.puts c.in_err-take_kept.ensures.stops
+
+pub returns-then-count-eq0-clause-outcome : goal.returns-then-count-eq0-clause-outcome
+returns-then-count-eq0-clause-outcome g c =
+    let left = g.D.Desk.remaining c.read.new.self c.args.name.now in
+    let buffer = c.read.new.piece in
+    let long : 0 < length buffer = search rules in
+    let none = subst (λ n. Consumes (g.D.Desk.remaining c.pieces.desk c.args.name.now) left (take n buffer)) c.if-count-eq0.true c.in-Ok.ensures.bytes.0 in
+    ends_whole (g.D.Desk.remaining c.args.desk.now c.args.name.now) left c.take_kept.new.self c.pieces.invariant.stands none (c.in-Ok.ensures.bytes.1 c.if-count-eq0.true long)
+    c.in_ok-take_kept.ensures.puts c.in_ok-take_kept.ensures.moved
+
+pub take_piece-requires-clause-lines : goal.take_piece-requires-clause-lines
+take_piece-requires-clause-lines g c =
+    let few = so_far-few c.pieces.invariant.stands in
+    let taken = length-take-le c.min-taken.result c.read.new.piece (omega (arith, c.min-taken.ensures, c.in-Ok.ensures.within)) in
+    omega (arith, few.0, taken, c.min-taken.ensures)
+
+pub take_piece-requires-clause-headers : goal.take_piece-requires-clause-headers
+take_piece-requires-clause-headers g c = let few = so_far-few c.pieces.invariant.stands in omega (arith, few.1)
+
+-- what is taken of the bytes that were read, and what isn't
+parted : (buffer : List ℕ) (count taken : ℕ) → taken ≤ count → take count buffer ≡ take taken buffer ++ drop taken (take count buffer)
+parted buffer count taken le = sym (take-append-drop taken (take count buffer)) ∙ ap (λ bs. bs ++ drop taken (take count buffer)) (take-take taken count buffer le)
+
+pub returns-in_err-take_piece-clause-outcome : goal.returns-in_err-take_piece-clause-outcome
+returns-in_err-take_piece-clause-outcome g c =
+    let middle = g.D.Desk.remaining c.pieces.desk c.args.name.now in
+    let left = g.D.Desk.remaining c.read.new.self c.args.name.now in
+    let buffer = c.read.new.piece in
+    let count = c.in-Ok.count in
+    let taken = c.min-taken.result in
+    let parts = parted buffer count taken (omega (arith, c.min-taken.ensures)) in
+    let long = length-take-le taken buffer (omega (arith, c.min-taken.ensures, c.in-Ok.ensures.within)) in
+    let error = c.in_err-take_piece.field-0.0 in
+    let residual = c.from_residual-in_err-take_piece in
+    ends_in_piece_as (take taken buffer) (drop taken (take count buffer)) left error residual.result (handed_on error residual.result residual.ensures.1) c.pieces.invariant.stands (subst (Consumes middle left) parts c.in-Ok.ensures.bytes.0) (omega (arith, long, c.min-taken.ensures))
+    c.in_err-take_piece.ensures.puts c.in_err-take_piece.ensures.stops
+
+pub returns-then-count-taken-clause-outcome : goal.returns-then-count-taken-clause-outcome
+returns-then-count-taken-clause-outcome g c =
+    let middle = g.D.Desk.remaining c.pieces.desk c.args.name.now in
+    let left = g.D.Desk.remaining c.read.new.self c.args.name.now in
+    let buffer = c.read.new.piece in
+    let count = c.in-Ok.count in
+    let taken = c.min-taken.result in
+    let extra = drop taken (take count buffer) in
+    let parts = parted buffer count taken (omega (arith, c.min-taken.ensures)) in
+    let long = length-take-le taken buffer (omega (arith, c.min-taken.ensures, c.in-Ok.ensures.within)) in
+    let whole = length-take-le count buffer c.in-Ok.ensures.within in
+    let rest = length-drop taken (take count buffer) in
+    let consumed = consumes-first middle left (take taken buffer) extra (subst (Consumes middle left) parts c.in-Ok.ensures.bytes.0) in
+    let ensured = c.in_ok-take_piece.ensures in
+    ends_long (g.D.Desk.remaining c.args.desk.now c.args.name.now) left extra
+    (so_far-next c.take_piece.new.self (prepend_known extra left) (take taken buffer) 0 c.pieces.invariant.stands consumed (omega (arith, long, c.min-taken.ensures, c.if-count-taken.true))
+    ensured.puts ensured.moved ensured.rest ensured.unfinished)
+    (omega (arith, rest, whole, c.if-count-taken.true))
+
+pub pieces-preserved : goal.pieces-preserved
+pieces-preserved g c =
+    let middle = g.D.Desk.remaining c.pieces.desk c.args.name.now in
+    let left = g.D.Desk.remaining c.read.new.self c.args.name.now in
+    let buffer = c.read.new.piece in
+    let count = c.in-Ok.count in
+    let taken = c.min-taken.result in
+    let same : count ≡ taken = omega (arith, c.min-taken.ensures, c.if-count-taken.false) in
+    let long = length-take-le taken buffer (omega (arith, c.min-taken.ensures, c.in-Ok.ensures.within)) in
+    let consumed = subst (λ n. Consumes middle left (take n buffer)) same c.in-Ok.ensures.bytes.0 in
+    let ensured = c.in_ok-take_piece.ensures in
+    record {
+      stands = so_far-next c.take_piece.new.self left (take taken buffer) (c.pieces.room - taken) c.pieces.invariant.stands consumed (omega (arith, long, c.min-taken.ensures))
+          ensured.puts ensured.moved ensured.rest ensured.unfinished;
+      others = search rules;
+      counts = search rules;
+    }

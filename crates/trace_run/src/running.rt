@@ -1,0 +1,109 @@
+ghost use Rattle.std.specs.Prelude.{◌≡◌, ◌≢◌, ◌≤◌, ℕ, List, IsErrOf};
+ghost use Rattle.std.specs.Io.KnownBytes.{Appends, Keeps};
+ghost use Rattle.razor_base.specs.Faults.{Rose};
+ghost use Rattle.razor_base.specs.Output.{AppendsFront};
+ghost use Rattle.trace_run.specs.Answers.{HaveNames, answers_text};
+ghost use Rattle.trace_run.specs.Outcome.{Begun, Outcome, Written};
+ghost use Rattle.trace_run.specs.Progress.{OnWriteFault, is_lost};
+ghost use Rattle.trace_run.specs.declared.error.TraceError.TheVariants.{ReadFault};
+
+use crate::error::TraceError;
+use crate::progress::Progress;
+use field_boxes::Decisions;
+use razor_base::{Desk, Pending, Sink};
+use std::alloc::Global;
+use tcam_sim::Device;
+
+/// As many bytes as are asked for at once.
+const PIECE: usize = 65_536;
+
+/// As many bytes as a trace may have.
+const LIMIT: usize = 67_108_864;
+
+/// Puts the answers to the headers of a trace, and answers how many there are.
+fn put_answers<V: Device, D: Desk, K: Sink>(
+    alloc: Global,
+    device: &V,
+    names: &Decisions,
+    desk: &mut D,
+    name: &str,
+    pending: &mut Pending,
+    out: &mut K,
+) -> Result<u64, TraceError>
+    requires { HaveNames names.now (V.held device.now) }
+    ensures outcome { Outcome (Written K.written out.old out.new pending.old pending.new) (Begun K.written out.old out.new pending.old)
+        (answers_text names.now (V.held device.now)) 67108864 (D.remaining desk.old name.now) (D.remaining desk.new name.now) result }
+    ensures write_fault { OnWriteFault result (Rose (K.faults out.old) (K.faults out.new)) }
+    ensures written { K.faults out.old ≤ K.faults out.new }
+    ensures read_fault { IsErrOf result ReadFault → Rose (D.faults desk.old name.now) (D.faults desk.new name.now) }
+    ensures others { (other : List ℕ) → other ≢ name.now → Keeps (D.remaining desk.old other) (D.remaining desk.new other) }
+    ensures counts { (other : List ℕ) → D.faults desk.old other ≤ D.faults desk.new other }
+{
+    let mut progress = Progress::new(alloc);
+    let mut piece = [0; PIECE];
+    let mut room = LIMIT;
+    'pieces: loop {
+        let Ok(count) = desk.read(name, &mut piece) else {
+            return Err(TraceError::ReadFault);
+        };
+        if count == 0 {
+            progress.take_kept(device, names, pending, out)?;
+            return Ok(progress.headers);
+        }
+        let taken = count.min(room);
+        progress.take_piece(device, names, &piece[..taken], pending, out)?;
+        if count > taken {
+            return Err(TraceError::TooLong);
+        }
+        room -= taken;
+    }
+}
+
+/// Whether the answers that wait can't be written any more.
+fn is_lost(ended: &Result<u64, TraceError>) -> bool
+    ensures { result ≡ is_lost ended.now }
+{
+    match ended {
+        Ok(_) => false,
+        Err(error) => match error {
+            TraceError::WriteFault | TraceError::Memory => true,
+            TraceError::BadLine { .. } | TraceError::ReadFault | TraceError::TooLong => false,
+        },
+    }
+}
+
+/// Writes the answer to each header of the trace, and answers how many headers there are.
+///
+/// The answer is the name of the decision in the least slot that matches, or `miss`. The trace is taken
+/// piece by piece, and only the line that isn't finished is kept. A line whose end wasn't read, because a
+/// read failed or the limit of 67,108,864 bytes came first, isn't taken; what was answered before a bad
+/// line, a failed read or the limit is written.
+pub fn run<V: Device, D: Desk, K: Sink>(
+    alloc: Global,
+    device: &V,
+    names: &Decisions,
+    desk: &mut D,
+    name: &str,
+    out: &mut K,
+) -> Result<u64, TraceError>
+    requires { HaveNames names.now (V.held device.now) }
+    ensures outcome { Outcome (Appends (K.written out.old) (K.written out.new)) (AppendsFront (K.written out.old) (K.written out.new))
+        (answers_text names.now (V.held device.now)) 67108864 (D.remaining desk.old name.now) (D.remaining desk.new name.now) result }
+
+    // A fault comes only where its count rose, and no count falls.
+    ensures read_fault { IsErrOf result ReadFault → Rose (D.faults desk.old name.now) (D.faults desk.new name.now) }
+    ensures write_fault { OnWriteFault result (Rose (K.faults out.old) (K.faults out.new)) }
+    ensures counts { (other : List ℕ) → D.faults desk.old other ≤ D.faults desk.new other }
+    ensures written { K.faults out.old ≤ K.faults out.new }
+
+    // The other inputs keep what they had.
+    ensures others { (other : List ℕ) → other ≢ name.now → Keeps (D.remaining desk.old other) (D.remaining desk.new other) }
+{
+    let mut pending = Pending::new();
+    let ended = put_answers(alloc, device, names, desk, name, &mut pending, out);
+    if is_lost(&ended) {
+        return ended;
+    }
+    pending.flush(out)?;
+    ended
+}
