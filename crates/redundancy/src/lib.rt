@@ -41,5 +41,7 @@ mod sets;
 mod sifted;
 mod sifting;
 mod splitting;
+#[cfg(test)]
+mod tests;
 
 pub use removing::remove;
