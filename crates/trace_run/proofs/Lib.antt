@@ -7,3 +7,4 @@ pub mod Within
 pub mod Standing
 pub mod Ending
 pub mod Flushing
+pub mod Loaded
