@@ -16,3 +16,4 @@ pub mod Splits
 pub mod Passes
 pub mod Headers
 pub mod Chosen
+pub mod Recalled

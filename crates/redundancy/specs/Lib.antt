@@ -9,3 +9,4 @@ pub mod Blocks
 pub mod Sifted
 pub mod Built
 pub mod Flags
+pub mod Remembered

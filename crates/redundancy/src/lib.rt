@@ -17,7 +17,7 @@
 //! and the set of what an entry before it matches. Of two blocks in sequence the second stands behind the first
 //! one's set, and the first before the second one's answers. Below a trit only the distinct contexts matter that
 //! follow the bits which the trit allows. With no trit left the entry stays exactly where some context doesn't
-//! meet an entry before it and is answered otherwise.
+//! meet an entry before it and is answered otherwise. A block of two is gone through once for the same contexts.
 //!
 //! Sets and answers are binary decision diagrams over the bits of a header's key, whose nodes are shared. A
 //! step costs the same whatever the number of entries, so the whole goes by the entries, their trits, and
@@ -34,6 +34,7 @@ mod distinct;
 mod joining;
 mod last;
 pub mod laws;
+mod memo;
 mod node;
 mod pair;
 mod removing;

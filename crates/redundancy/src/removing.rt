@@ -5,6 +5,7 @@ ghost use Rattle.redundancy.specs.Pass.{Keeps};
 ghost use Rattle.redundancy.specs.Flags.{AreRightFlags, with_flags};
 
 use crate::blocks::Blocks;
+use crate::memo::Memo;
 use crate::pair::Pair;
 use crate::sets::Sets;
 use razor_base::Memory;
@@ -45,7 +46,8 @@ fn flags(alloc: Global, entries: &[Entry]) -> Result<Vec<bool>, Memory>
         after: none,
         met: none,
     };
-    let sifted = blocks.sift(alloc, &mut sets, root, &[context])?;
+    let mut memo = Memo::new(alloc);
+    let sifted = blocks.sift(alloc, &mut sets, &mut memo, root, &[context])?;
     Ok(sifted.kept)
 }
 

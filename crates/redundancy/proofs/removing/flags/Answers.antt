@@ -11,3 +11,6 @@ returns c =
     flags_are c.sift.new.sets c.of.new.self c.args.entries.now c.in_ok-root.root (record { after = none; met = none }) c.in_ok-sifted.sifted none.0 refl refl
     (λ bits. c.in_ok-sifted.ensures.grows.answers none.0 bits c.in_ok-none.ensures.number ∙ c.in_ok-none.ensures.answers bits)
     c.in_ok-root.ensures.width_is c.in_ok-root.ensures.rows_are c.in_ok-sifted.ensures.sifted
+
+pub sift-requires-clause-memo : goal.sift-requires-clause-memo
+sift-requires-clause-memo c = c.new-memo.ensures c.leaf.new.self c.of.new.self

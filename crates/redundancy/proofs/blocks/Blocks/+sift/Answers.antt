@@ -1,24 +1,24 @@
 use Rattle.std.proofs.Common.{◌∷◌, ◌++◌, [], suc, ap, arith, refl, sym, ◌∙◌, subst}
-use Rattle.std.specs.Prelude.{map}
+use Rattle.std.specs.HashMap.{get}
+use Rattle.std.specs.Prelude.{map, IfSome}
+use Rattle.std.proofs.lemmas.Option.{slice_get_within}
+use Rattle.redundancy.specs.declared.block.Block.TheVariants.{Two}
 use Rattle.redundancy.specs.Rows.{behind}
 use Rattle.redundancy.specs.Blocks.{last_row, rows_of, cover_at}
 use Rattle.redundancy.specs.Sifted.{ArePairs, AreDistinct, node_at}
 use Rattle.redundancy.proofs.Growing.{twice}
 use Rattle.redundancy.proofs.BlockRows.{last_rows, behind_rows, two_rows}
-use Rattle.redundancy.proofs.Kept.{two_end}
-use Rattle.redundancy.proofs.Sifts.{moved, behind_end, cover_stays, leads}
+use Rattle.redundancy.proofs.Kept.{two_end, behind_pairs, pairs_stay}
+use Rattle.redundancy.proofs.Sifts.{moved, behind_end, blocks_stay, cover_stays, leads}
+use Rattle.redundancy.specs.Remembered.{IsAnswered, same_asked}
+use Rattle.redundancy.proofs.Recalled.{memo_stays}
 use Rattle.redundancy.proofs.Trits.{keys_pairs}
 use Rattle.redundancy.proofs.blocks.Blocks.+sift.Goals as goal
 
 pub sift-sift_behind-requires : goal.sift-sift_behind-requires
 sift-sift_behind-requires t c =
     let f = c.requires.blocks.fits c.args.number _ c.in-Behind.ensures.found in
-    (omega (arith, c.decreases, f.0), (c.requires.blocks, (omega (arith, f.0, c.requires.number), c.requires.contexts)))
-
-pub sift-sift_two-requires : goal.sift-sift_two-requires
-sift-sift_two-requires t c =
-    let f = c.requires.blocks.fits c.args.number _ c.in-Two.ensures.found in
-    (omega (arith, c.decreases, f.0, f.1), (c.requires.blocks, (omega (arith, f.0, c.requires.number), (omega (arith, f.1, c.requires.number), (f.3 ∙ sym f.2, c.requires.contexts)))))
+    (omega (arith, c.decreases, f.0), (c.requires.blocks, (c.requires.memo, (omega (arith, f.0, c.requires.number), c.requires.contexts))))
 
 pub sift-returns-in_ok-sifted-in-Last-clause-sifted :
     goal.sift-returns-in_ok-sifted-in-Last-clause-sifted
@@ -37,16 +37,6 @@ sift-returns-in_ok-sifted-in-Behind-clause-sifted t c =
     (map (behind k.trit) (rows_of blocks k.child)) (rows_of blocks c.args.number) c.args.contexts.now c.in_ok-sifted-in-Behind.sifted
     f.1 (behind_rows blocks c.args.number k.trit k.child (leads c.args.sets.now blocks c.args.self.now.covers.items c.requires.blocks) k.ensures.found) c.in_ok-sifted-in-Behind.ensures.sifted
 
-pub sift-returns-in_ok-sifted-in-Two-clause-sifted :
-    goal.sift-returns-in_ok-sifted-in-Two-clause-sifted
-sift-returns-in_ok-sifted-in-Two-clause-sifted t c =
-    let blocks = c.args.self.now.blocks.keys in
-    let k = c.in-Two in
-    let f = c.requires.blocks.fits c.args.number _ k.ensures.found in
-    moved c.sift_two.new.sets (cover_at c.args.self.now.covers.items k.first).bits (cover_at c.args.self.now.covers.items c.args.number).bits
-    (rows_of blocks k.first ++ rows_of blocks k.second) (rows_of blocks c.args.number) c.args.contexts.now c.in_ok-sifted-in-Two.sifted
-    (sym f.2) (two_rows blocks c.args.number k.first k.second (leads c.args.sets.now blocks c.args.self.now.covers.items c.requires.blocks) k.ensures.found) c.in_ok-sifted-in-Two.ensures.sifted
-
 pub sift_behind-sift-requires : goal.sift_behind-sift-requires
 sift_behind-sift-requires t c =
     let nodes = c.args.sets.now in
@@ -57,8 +47,11 @@ sift_behind-sift-requires t c =
       (
         c.requires.blocks,
         (
-          c.requires.child,
-          subst (ArePairs nodes) (sym c.as_slice-2.ensures.keys) (keys_pairs nodes c.args.trit c.args.contexts.now c.in_ok-lower.lower.items keys c.in_ok-distinct.distinct.places.items h k),
+          c.requires.memo,
+          (
+            c.requires.child,
+            subst (ArePairs nodes) (sym c.as_slice-2.ensures.keys) (keys_pairs nodes c.args.trit c.args.contexts.now c.in_ok-lower.lower.items keys c.in_ok-distinct.distinct.places.items h k),
+          ),
         ),
       ),
     )
@@ -85,3 +78,58 @@ sift_two-returns-clause-sifted t c =
     c.cover.ensures c.requires.bits c.as_slice.ensures.value c.as_slice-3.ensures.value c.in_ok-behind.ensures.count c.in_ok-before.ensures.count c.in_ok-behind.ensures.each
     (λ k less. c.in_ok-before.ensures.after k less ∙ ap (λ ids. node_at ids k) c.as_slice-2.ensures.value) c.in_ok-before.ensures.met
     c.in_ok-later.ensures.sifted c.in_ok-earlier.ensures.sifted (c.in_ok-extend_from_slice.ensures.items ∙ ap (λ ks. c.in_ok-earlier.earlier.kept.items ++ ks) c.as_slice-4.ensures.value) refl
+
+pub sift_once-sift_two-requires : goal.sift_once-sift_two-requires
+sift_once-sift_two-requires t c =
+    let f = c.requires.blocks.fits c.args.number _ c.requires.two in
+    let w = slice_get_within c.args.self.now.blocks.keys c.args.number (Two c.args.first c.args.second) c.requires.two in
+    (omega (arith, c.decreases, f.0, f.1), (c.requires.blocks, (c.requires.memo, (omega (arith, f.0, w), (omega (arith, f.1, w), (f.3 ∙ sym f.2, c.requires.contexts))))))
+
+pub sift_once-returns-clause-sifted : goal.sift_once-returns-clause-sifted
+sift_once-returns-clause-sifted t c =
+    let blocks = c.args.self.now.blocks.keys in
+    let f = c.requires.blocks.fits c.args.number _ c.requires.two in
+    moved c.sift_two.new.sets (cover_at c.args.self.now.covers.items c.args.first).bits (cover_at c.args.self.now.covers.items c.args.number).bits
+    (rows_of blocks c.args.first ++ rows_of blocks c.args.second) (rows_of blocks c.args.number) c.args.contexts.now c.in_ok-sifted.sifted
+    (sym f.2) (two_rows blocks c.args.number c.args.first c.args.second (leads c.args.sets.now blocks c.args.self.now.covers.items c.requires.blocks) c.requires.two) c.in_ok-sifted.ensures.sifted
+
+pub sift-returns-in_ok-sifted-in-Last-clause-memo :
+    goal.sift-returns-in_ok-sifted-in-Last-clause-memo
+sift-returns-in_ok-sifted-in-Last-clause-memo t c =
+    memo_stays c.args.sets.now c.last.new.sets c.args.self.now (λ q. get same_asked c.args.memo.now.done q) c.in_ok-sifted-in-Last.ensures.grows c.requires.memo
+
+pub sift_behind-returns-clause-memo : goal.sift_behind-returns-clause-memo
+sift_behind-returns-clause-memo t c =
+    memo_stays c.sift.new.sets c.joined.new.sets c.args.self.now (λ q. get same_asked c.sift.new.memo.done q) c.in_ok-after.ensures.grows c.in_ok-inner.ensures.memo
+
+pub sift_once-returns-in-Some-clause-sifted : goal.sift_once-returns-in-Some-clause-sifted
+sift_once-returns-in-Some-clause-sifted t c =
+    (subst (λ k. IfSome k (λ s. IsAnswered c.args.sets.now c.args.self.now c.args.number c.args.contexts.now s)) c.in-Some.is (c.in_ok-known.ensures c.args.sets.now c.args.self.now c.requires.memo)).sifted
+
+pub sift_once-returns-clause-memo : goal.sift_once-returns-clause-memo
+sift_once-returns-clause-memo t c =
+    let blocks = c.args.self.now.blocks.keys in
+    let f = c.requires.blocks.fits c.args.number _ c.requires.two in
+    let once_sifted = moved c.sift_two.new.sets (cover_at c.args.self.now.covers.items c.args.first).bits (cover_at c.args.self.now.covers.items c.args.number).bits
+    (rows_of blocks c.args.first ++ rows_of blocks c.args.second) (rows_of blocks c.args.number) c.args.contexts.now c.in_ok-sifted.sifted
+    (sym f.2) (two_rows blocks c.args.number c.args.first c.args.second (leads c.args.sets.now blocks c.args.self.now.covers.items c.requires.blocks) c.requires.two) c.in_ok-sifted.ensures.sifted in
+    c.in_ok-keep.ensures c.sift_two.new.sets c.args.self.now c.in_ok-sifted.ensures.memo
+    (record { contexts = pairs_stay c.args.sets.now c.sift_two.new.sets c.args.contexts.now c.in_ok-sifted.ensures.grows c.requires.contexts; sifted = once_sifted })
+
+pub sift_two-sift-requires : goal.sift_two-sift-requires
+sift_two-sift-requires t c =
+    let nodes = c.behind_cover.new.sets in
+    let g = c.in_ok-behind.ensures.grows in (
+      omega (arith, c.decreases),
+      (
+        blocks_stay c.args.sets.now nodes c.args.self.now.blocks.keys c.args.self.now.covers.items g c.requires.blocks,
+        (
+          memo_stays c.args.sets.now nodes c.args.self.now (λ q. get same_asked c.args.memo.now.done q) g c.requires.memo,
+          (
+            c.requires.second,
+            subst (ArePairs nodes) (sym c.as_slice.ensures.value)
+                (behind_pairs c.args.sets.now nodes c.cover.result.bits c.cover.result.set c.args.contexts.now c.in_ok-behind.behind.items g c.requires.contexts c.in_ok-behind.ensures.count c.in_ok-behind.ensures.each),
+          ),
+        ),
+      ),
+    )

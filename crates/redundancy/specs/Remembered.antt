@@ -1,0 +1,29 @@
+-- What was worked out of blocks before.
+use Rattle.std.specs.Prelude.{◌≡◌, ℕ, ◌&&◌, nat_eq, Bool, List, Some}
+use Rattle.std.specs.Cmp.Lexicographic.{pointwise}
+use Rattle.std.specs.HashMap.{get}
+use Rattle.redundancy.specs.declared.node.Node.{Node}
+use Rattle.redundancy.specs.declared.pair.Pair.{Pair}
+use Rattle.redundancy.specs.declared.blocks.Blocks.{Blocks}
+use Rattle.redundancy.specs.declared.sifted.Sifted.{Sifted}
+use Rattle.redundancy.specs.declared.memo.Asked.{Asked}
+use Rattle.redundancy.specs.declared.memo.Memo.{Memo}
+use Rattle.redundancy.specs.Blocks.{rows_of, cover_at}
+use Rattle.redundancy.specs.Sifted.{ArePairs, IsSifted}
+
+-- the pairs are of the same nodes
+abbrev pub same_pair : Pair → Pair → Bool
+same_pair p q = nat_eq p.after.0 q.after.0 && nat_eq p.met.0 q.met.0
+
+-- the block under the number was gone through for these contexts
+pub record IsAnswered (nodes : List Node) (blocks : Blocks) (number : ℕ) (pairs : List Pair) (s : Sifted) : Type 0 where
+  pub contexts : ArePairs nodes pairs
+  pub sifted : IsSifted nodes (cover_at blocks.covers.items number).bits (rows_of blocks.blocks.keys number) pairs s
+
+-- the blocks are the same and the contexts too
+abbrev pub same_asked : Asked → Asked → Bool
+same_asked p q = nat_eq p.number q.number && pointwise same_pair p.contexts.items q.contexts.items
+
+-- what is kept was worked out
+abbrev pub IsMemo : List Node → Blocks → Memo → Type 0
+IsMemo nodes blocks memo = (asked : Asked) (s : Sifted) → get same_asked memo.done asked ≡ Some s → IsAnswered nodes blocks asked.number asked.contexts.items s
