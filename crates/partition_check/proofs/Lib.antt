@@ -15,3 +15,12 @@ pub mod FirstItems
 pub mod Soundness
 pub mod RowParts
 pub mod RowReading
+pub mod Lines
+pub mod Taking
+pub mod LeftLines
+pub mod JoinedLines
+pub mod LongNumbers
+pub mod LongLines
+pub mod Streaming
+pub mod Buffers
+pub mod OneVerdict

@@ -11,3 +11,8 @@ pub mod Rows
 pub mod RowText
 pub mod RowLines
 pub mod PrefixWords
+pub mod CertificateText
+pub mod Verdict
+pub mod Streams
+pub mod Readers
+pub mod Left

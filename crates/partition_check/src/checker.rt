@@ -163,24 +163,29 @@ impl<'a> Checker<'a> {
         ensures agree { OnOk result (Agree self.entry.list self.entry.table) }
         ensures err { IfErr result (λ wrong. (wrong.row ≡ self.entry.accepted + 1) × EndsWrong self.entry rows wrong.why) }
     {
-        let Checker { last, accepted, .. } = self;
-        let row = accepted + 1;
-        if !is_through(&last) {
-            return Err(Wrong {
-                row,
-                why: Why::EndsEarly,
+        match self.end_refusal(rows) {
+            Some(why) => Err(Wrong {
+                row: self.accepted + 1,
+                why,
+            }),
+            None => Ok(rows),
+        }
+    }
+
+    /// What is wrong with a last line that states so many rows.
+    pub(crate) fn end_refusal(&self, rows: u64) -> Option<Why>
+        ensures { MatchOption result (EndsWell self.now rows) (λ why. EndsWrong self.now rows why) }
+    {
+        if !is_through(&self.last) {
+            return Some(Why::EndsEarly);
+        }
+        if rows != self.accepted {
+            return Some(Why::Count {
+                stated: rows,
+                found: self.accepted,
             });
         }
-        if rows != accepted {
-            return Err(Wrong {
-                row,
-                why: Why::Count {
-                    stated: rows,
-                    found: accepted,
-                },
-            });
-        }
-        Ok(rows)
+        None
     }
 }
 

@@ -6,7 +6,9 @@ ghost use Rattle.partition_check.specs.Boxes.{IsBox, AreUpTo, LiesIn};
 ghost use Rattle.partition_check.specs.NextBox.{IsNextBox, IsLastOpen, GoesOnAt, ReachesEnds, IsSweep, AreAccepted, last_box};
 ghost use Rattle.partition_check.specs.Partition.{IsPartition};
 ghost use Rattle.partition_check.specs.Passed.{IsPassed};
-ghost use Rattle.partition_check.specs.Checking.{Statement};
+ghost use Rattle.partition_check.specs.Checking.{Checking, Statement};
+ghost use Rattle.partition_check.specs.Verdict.{IsValid, IsWrong};
+ghost use Rattle.partition_check.specs.declared.row.Wrong.{Wrong};
 ghost use Rattle.partition_check.specs.RowText.{row_text, statement_of_text};
 ghost use Rattle.partition_check.specs.RowLines.{IsWritable};
 
@@ -44,4 +46,10 @@ pub fn a_box_has_a_next_one()
 /// Reading the line of a row as it is written, without its end, gives the row.
 pub fn written_rows_are_read()
     ensures { (s : Statement) → IsWritable s → statement_of_text (row_text s) ≡ Some s }
+{}
+
+/// A text that is valid isn't wrong, and it states one number of rows.
+pub fn a_text_has_one_verdict()
+    ensures apart { (c : Checking) (text : List ℕ) (rows : ℕ) (w : Wrong) → IsValid c text rows → IsWrong c text w → ⊥ }
+    ensures one { (c : Checking) (text : List ℕ) (m n : ℕ) → IsValid c text m → IsValid c text n → m ≡ n }
 {}

@@ -13,6 +13,9 @@
 //! checker.finish(rows.len() as u64)?; // list and table agree on every header
 //! ```
 //!
+//! [`check_stream`] takes a certificate's text from a [`Desk`](razor_base::Desk), line by line, through a
+//! buffer of fixed size; `specs/Verdict.antt` says what its text means.
+//!
 //! Boxes are nested intervals of the five fields in the stated order, the first varying slowest, so that
 //! each row has one next box (`specs/NextBox.antt`): [`laws`] ties this to the partition.
 #![tactic(auto)]
@@ -25,13 +28,16 @@ mod names;
 mod next;
 mod number;
 mod prefix_words;
+mod reader;
 mod row;
+mod stream;
 mod text;
 mod word;
 mod write;
 
 pub use checker::Checker;
 pub use row::{NotPrefix, Row, Why, Wrong};
+pub use stream::{Stop, check_stream};
 pub use write::{put_row, write_row};
 
 #[cfg(test)]

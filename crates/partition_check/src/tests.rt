@@ -1,4 +1,6 @@
 //! Worked certificates, each checked line by line.
+mod streams;
+
 ghost use Rattle.std.specs.Prelude.{◌≤◌, IsTrue, length};
 ghost use Rattle.ternary_words.specs.Limits.{AreNumbered};
 

@@ -18,7 +18,7 @@ fn place_of(text: &[u8], separator: u8) -> Option<usize>
 }
 
 /// What stands before the first separator, and what stands after it; none where there is no separator.
-fn split_once(text: &[u8], separator: u8) -> Option<(&[u8], &[u8])>
+pub(crate) fn split_once(text: &[u8], separator: u8) -> Option<(&[u8], &[u8])>
     ensures { option_map (λ parts. (parts.0.now, parts.1.now)) result ≡ split_once separator text.now }
 {
     let place = place_of(text, separator)?;

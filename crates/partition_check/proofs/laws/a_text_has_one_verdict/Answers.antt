@@ -1,0 +1,8 @@
+use Rattle.partition_check.proofs.OneVerdict.{valid-apart, valid-one}
+use Rattle.partition_check.proofs.laws.a_text_has_one_verdict.Goals as goal
+
+pub returns-clause-apart : goal.returns-clause-apart
+returns-clause-apart c = λ checking text rows w valid wrong. valid-apart checking text rows w valid wrong
+
+pub returns-clause-one : goal.returns-clause-one
+returns-clause-one c = λ checking text m n u v. valid-one checking text m n u v

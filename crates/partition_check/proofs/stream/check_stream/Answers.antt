@@ -1,0 +1,84 @@
+use Rattle.std.proofs.Common.{◌∙◌, ◌+◌, [], take, ap, sym, subst, refl, arith, rules}
+use Rattle.std.specs.Prelude.{IfSome}
+use Rattle.std.proofs.lemmas.List.{length-take}
+use Rattle.partition_check.specs.declared.row.Wrong.{Wrong}
+use Rattle.partition_check.specs.Streams.{ReadsWrong}
+use Rattle.partition_check.proofs.Buffers.{piece-length, cut-behind, all-behind}
+use Rattle.partition_check.proofs.Streaming.{rows-read, end-well, agree-before, faulted, end-valid, end-wrong, cut-wrong, cut-past, whole-wrong, whole-read, told-wrong, rose-since}
+use Rattle.partition_check.proofs.stream.check_stream.Goals as goal
+
+pub returns-in_err-count-clause-fault : goal.returns-in_err-count-clause-fault
+returns-in_err-count-clause-fault g c = λ is. (
+  rose-since _ _ _ (c.pieces.invariant.counts c.args.name.now) c.in_err-count.ensures.failed.0,
+  faulted _ _ _ _ _ _ _ c.pieces.invariant.read _ c.in_err-count.ensures.failed.1,
+)
+
+pub end-requires-clause-rows : goal.end-requires-clause-rows
+end-requires-clause-rows g c = let few = rows-read _ _ _ _ _ _ _ c.pieces.invariant.read c.requires.rows in omega (arith, few)
+
+pub end-requires-clause-well : goal.end-requires-clause-well
+end-requires-clause-well g c = end-well _ _ _ _ _ _ _ c.pieces.invariant.read
+
+pub returns-in_err-rows-clause-wrong : goal.returns-in_err-rows-clause-wrong
+returns-in_err-rows-clause-wrong g c = λ w e.
+    subst (λ (x : Wrong). IfSome (g.D.Desk.remaining c.args.desk.now c.args.name.now) (λ all. ReadsWrong c.args.checker 268435456 all x))
+    (told-wrong c.from_residual-in_err-rows.result _ w c.from_residual-in_err-rows.ensures.1 e)
+    (end-wrong _ _ _ _ _ _ _ c.pieces.invariant.read _ _ _ c.in_ok-count.ensures.bytes.0 _ _ _ refl c.if-count-eq0.true (c.in_ok-count.ensures.bytes.1 c.if-count-eq0.true) c.in_ok-count.ensures.kept c.in_err-rows.ensures.err)
+
+pub returns-then-count-eq0-clause-valid : goal.returns-then-count-eq0-clause-valid
+returns-then-count-eq0-clause-valid g c =
+    end-valid _ _ _ _ _ _ _ c.pieces.invariant.read _ _ [] c.in_ok-count.ensures.bytes.0 c.in_ok-rows.rows _ _ refl c.if-count-eq0.true
+    (c.in_ok-count.ensures.bytes.1 c.if-count-eq0.true) c.in_ok-rows.ensures.ok.0 (sym c.in_ok-count.ensures.kept ∙ c.in_ok-rows.ensures.ok.1)
+
+pub returns-then-count-eq0-clause-agree : goal.returns-then-count-eq0-clause-agree
+returns-then-count-eq0-clause-agree g c = agree-before _ _ _ _ _ _ _ c.pieces.invariant.read c.in_ok-rows.ensures.agree
+
+pub take_lines-requires : goal.take_lines-requires
+take_lines-requires g c =
+    let few = rows-read _ _ _ _ _ _ _ c.pieces.invariant.read c.requires.rows in
+    let cut = length-take (c.pieces.kept + c.pieces.room) c.read_behind.new.buffer in
+    let kept = c.pieces.invariant.few in
+    omega (arith, few, cut, kept)
+
+pub returns-in_err-_rest-clause-wrong : goal.returns-in_err-_rest-clause-wrong
+returns-in_err-_rest-clause-wrong g c = λ w e.
+    subst (λ (x : Wrong). IfSome (g.D.Desk.remaining c.args.desk.now c.args.name.now) (λ all. ReadsWrong c.args.checker 268435456 all x))
+    (told-wrong c.from_residual-in_err-_rest.result _ w c.from_residual-in_err-_rest.ensures.1 e)
+    (cut-wrong _ _ _ _ _ _ _ c.pieces.invariant.read _ _ _ c.in_ok-count.ensures.bytes.0 _
+    (cut-behind c.pieces.kept c.in_ok-count.count c.pieces.buffer c.read_behind.new.buffer c.in_ok-count.ensures.kept c.in_ok-count.ensures.bytes.2 c.pieces.room (omega (arith, c.if-count-room.true)))
+    c.in_err-_rest.ensures.err)
+
+pub returns-then-count-room-clause-too_long : goal.returns-then-count-room-clause-too_long
+returns-then-count-room-clause-too_long g c = λ is.
+    let long = piece-length c.pieces.kept c.in_ok-count.count c.pieces.buffer c.read_behind.new.buffer c.in_ok-count.ensures.kept c.in_ok-count.ensures.bytes.2 in
+    cut-past _ _ _ _ _ _ _ c.pieces.invariant.read _ _ _ c.in_ok-count.ensures.bytes.0 _
+    (cut-behind c.pieces.kept c.in_ok-count.count c.pieces.buffer c.read_behind.new.buffer c.in_ok-count.ensures.kept c.in_ok-count.ensures.bytes.2 c.pieces.room (omega (arith, c.if-count-room.true)))
+    (omega (arith, long, c.if-count-room.true)) c.in_ok-_rest.ensures.takes
+
+pub take_lines-requires-in-pieces : goal.take_lines-requires-in-pieces
+take_lines-requires-in-pieces g c =
+    let few = rows-read _ _ _ _ _ _ _ c.pieces.invariant.read c.requires.rows in
+    let cut = length-take (c.pieces.kept + c.in_ok-count.count) c.read_behind.new.buffer in
+    let kept = c.pieces.invariant.few in
+    omega (arith, few, cut, kept, c.if-count-room.false)
+
+pub returns-in_err-start-clause-wrong : goal.returns-in_err-start-clause-wrong
+returns-in_err-start-clause-wrong g c = λ w e.
+    let long = piece-length c.pieces.kept c.in_ok-count.count c.pieces.buffer c.read_behind.new.buffer c.in_ok-count.ensures.kept c.in_ok-count.ensures.bytes.2 in
+    subst (λ (x : Wrong). IfSome (g.D.Desk.remaining c.args.desk.now c.args.name.now) (λ all. ReadsWrong c.args.checker 268435456 all x))
+    (told-wrong c.from_residual-in_err-start.result _ w c.from_residual-in_err-start.ensures.1 e)
+    (whole-wrong _ _ _ _ _ _ _ c.pieces.invariant.read _ _ _ c.in_ok-count.ensures.bytes.0 _
+    (all-behind c.pieces.kept c.in_ok-count.count c.pieces.buffer c.read_behind.new.buffer c.in_ok-count.ensures.kept c.in_ok-count.ensures.bytes.2)
+    (omega (arith, long, c.if-count-room.false)) c.in_err-start.ensures.err)
+
+pub pieces-preserved : goal.pieces-preserved
+pieces-preserved g c = record {
+  read =
+      whole-read _ _ _ _ _ _ _ c.pieces.invariant.read _ _ _ c.in_ok-count.ensures.bytes.0 _ c.in_ok-count.count _
+      (all-behind c.pieces.kept c.in_ok-count.count c.pieces.buffer c.read_behind.new.buffer c.in_ok-count.ensures.kept c.in_ok-count.ensures.bytes.2)
+      (piece-length c.pieces.kept c.in_ok-count.count c.pieces.buffer c.read_behind.new.buffer c.in_ok-count.ensures.kept c.in_ok-count.ensures.bytes.2)
+      c.if-count-room.false c.in_ok-start.ensures.takes (c.keep-kept.ensures.kept ∙ ap (take 129) c.in_ok-start.ensures.start.1);
+  few = c.keep-kept.ensures.few;
+  others = search rules;
+  counts = search rules;
+}

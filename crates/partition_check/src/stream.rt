@@ -1,0 +1,133 @@
+//! Checking a certificate as it is read.
+ghost use Rattle.std.specs.Prelude.{◌≡◌, ◌≢◌, ◌≤◌, ◌<◌, ◌+◌, ◌-◌, ℕ, List, Err, IfSome, IfOk, OnOk, IsErrOf, MatchResult, OnErr, length, take, drop, min};
+ghost use Rattle.std.specs.Io.KnownBytes.{Consumes, IsAtEnd, Keeps};
+ghost use Rattle.razor_base.specs.Faults.{Rose};
+ghost use Rattle.partition_check.specs.declared.row.Wrong.{Wrong as wrong_row};
+ghost use Rattle.partition_check.specs.Agreement.{Agree};
+ghost use Rattle.partition_check.specs.Streams.{ReadsUpTo, ReadsTooMuch, ReadsValid, ReadsWrong};
+
+use crate::checker::Checker;
+use crate::reader::Reader;
+use crate::row::Wrong;
+use razor_base::{Desk, Failed};
+
+/// As many bytes as a certificate may have.
+const LIMIT: u64 = 268_435_456;
+
+/// As many bytes of an unfinished line as are kept: more than any line has that isn't wrong.
+const KEPT: usize = 129;
+
+/// Why a certificate was not found valid.
+#[derive(Clone, Copy, Debug, PartialEq, Eq)]
+pub enum Stop {
+    /// It is wrong.
+    Wrong(Wrong),
+    /// A read failed.
+    ReadFault,
+    /// It has more than 268,435,456 bytes.
+    TooLong,
+}
+
+impl From<Failed> for Stop {
+    ghost use Rattle.std.specs.Prelude.{◌≡◌};
+    ghost use Rattle.partition_check.specs.declared.stream.Stop.TheVariants.{ReadFault};
+
+    ghost from_gives = { λ _ e. e ≡ ReadFault };
+
+    fn from(_failed: Failed) -> Self {
+        Stop::ReadFault
+    }
+}
+
+impl From<Wrong> for Stop {
+    ghost use Rattle.std.specs.Prelude.{◌≡◌};
+    ghost use Rattle.partition_check.specs.declared.stream.Stop.TheVariants.{Wrong as wrong_stop};
+
+    ghost from_gives = { λ w e. e ≡ wrong_stop w };
+
+    fn from(wrong: Wrong) -> Self {
+        Stop::Wrong(wrong)
+    }
+}
+
+/// Reads the next bytes into the buffer, behind so many that are kept.
+fn read_behind<D: Desk>(
+    desk: &mut D,
+    name: &str,
+    buffer: &mut [u8],
+    kept: usize,
+) -> Result<usize, Failed>
+    requires { kept < length buffer.old }
+    ensures bytes { IfOk result (λ n. Consumes (D.remaining desk.old name.now) (D.remaining desk.new name.now) (take n (drop kept buffer.new))
+        × (n ≡ 0 → IsAtEnd (D.remaining desk.new name.now)) × (kept + n ≤ length buffer.new)) }
+    ensures failed { OnErr result (Rose (D.faults desk.old name.now) (D.faults desk.new name.now)
+        × Keeps (D.remaining desk.old name.now) (D.remaining desk.new name.now)) }
+    ensures kept { take kept buffer.new ≡ take kept buffer.old }
+    ensures others { (other : List ℕ) → other ≢ name.now → Keeps (D.remaining desk.old other) (D.remaining desk.new other) }
+    ensures counts { (other : List ℕ) → D.faults desk.old other ≤ D.faults desk.new other }
+{
+    desk.read(name, &mut buffer[kept..])
+}
+
+/// Moves what lies from `start` to `end` to the front of the buffer, at most 129 bytes of it, and gives
+/// how many.
+fn keep(buffer: &mut [u8], start: usize, end: usize) -> usize
+    requires start { start ≤ end }
+    requires end { end ≤ length buffer.old }
+    ensures few { result ≤ 129 }
+    ensures kept { take result buffer.new ≡ take 129 (drop start (take end buffer.old)) }
+{
+    let count = (end - start).min(KEPT);
+    buffer.copy_within(start..start + count, 0);
+    count
+}
+
+/// Checks the certificate under the name, line by line, through the buffer.
+///
+/// The buffer has at least 256 bytes, and the checker has accepted no row. `Ok` gives the number of rows.
+/// The first line that is wrong decides, if its end was read before a fault and within the limit; the
+/// call takes no memory.
+pub fn check_stream<D: Desk>(
+    checker: Checker<'_>,
+    desk: &mut D,
+    name: &str,
+    buffer: &mut [u8],
+) -> Result<u64, Stop>
+    requires buffer { 256 ≤ length buffer.old }
+    requires rows { checker.accepted ≡ 0 }
+    ensures valid { IfOk result (λ rows. IfSome (D.remaining desk.old name.now)
+        (λ all. ReadsValid checker.entry 268435456 all (D.remaining desk.new name.now) rows)) }
+    ensures agree { OnOk result (Agree checker.entry.list checker.entry.table) }
+    ensures wrong { (w : wrong_row) → result ≡ Err (Stop.Wrong w) → IfSome (D.remaining desk.old name.now)
+        (λ all. ReadsWrong checker.entry 268435456 all w) }
+    ensures too_long { IsErrOf result Stop.TooLong → IfSome (D.remaining desk.old name.now)
+        (λ all. ReadsTooMuch checker.entry 268435456 all) }
+    ensures fault { IsErrOf result Stop.ReadFault → Rose (D.faults desk.old name.now) (D.faults desk.new name.now)
+        × IfSome (D.remaining desk.old name.now) (λ all. ReadsUpTo checker.entry all (D.remaining desk.new name.now)) }
+
+    // The other inputs keep what they had, and no count falls.
+    ensures others { (other : List ℕ) → other ≢ name.now → Keeps (D.remaining desk.old other) (D.remaining desk.new other) }
+    ensures counts { (other : List ℕ) → D.faults desk.old other ≤ D.faults desk.new other }
+{
+    let mut reader = Reader {
+        checker,
+        ended: None,
+    };
+    let mut kept = 0;
+    let mut room = LIMIT;
+    'pieces: loop {
+        let count = read_behind(desk, name, buffer, kept)?;
+        if count == 0 {
+            let rows = reader.end(&buffer[..kept])?;
+            return Ok(rows);
+        }
+        if count as u64 > room {
+            let _rest = reader.take_lines(&buffer[..kept + room as usize])?;
+            return Err(Stop::TooLong);
+        }
+        let end = kept + count;
+        let start = reader.take_lines(&buffer[..end])?;
+        room -= count as u64;
+        kept = keep(buffer, start, end);
+    }
+}
