@@ -3,3 +3,6 @@ pub mod Ends
 pub mod Heads
 pub mod Levels
 pub mod Differences
+pub mod Kept
+pub mod Meeting
+pub mod Rest

@@ -1,2 +1,4 @@
 pub mod Difference
 pub mod Parting
+pub mod Agreement
+pub mod Agreed

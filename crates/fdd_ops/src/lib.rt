@@ -11,12 +11,26 @@
 //! }
 //! ```
 //!
+//! Whether one diagram decides as it should wherever another one gives some answer is asked of all
+//! headers of a box at once: [`agrees_where`] goes through pairs of nodes, each once.
+//!
+//! ```text
+//! if agrees_where(alloc, &store, &spans, first_match, 3, decisions, 1)? {
+//!     /* where the third rule is the first match in the box, the decision is 1 */
+//! }
+//! ```
+//!
 //! `specs/Difference.antt` says what a least difference is.
 #![tactic(auto)]
 
+mod agreed;
+mod agreement;
 mod difference;
+mod pair;
 mod parting;
+mod question;
 #[cfg(test)]
 mod tests;
 
+pub use agreement::agrees_where;
 pub use difference::least_difference;

@@ -1,4 +1,6 @@
 //! Worked differences of small diagrams.
+mod agreement;
+
 ghost use Rattle.std.specs.Prelude.{◌≡◌, ◌<◌, ◌≤◌, length};
 ghost use Rattle.field_boxes.specs.Fields.{greatest_of};
 ghost use Rattle.node_store.specs.Diagram.{level_of};
