@@ -164,3 +164,24 @@ fn a_front_is_written_at_a_fault(rt: HostRuntime) -> Result<(), Fail> {
     let _added = desk.add("tr", b"1 2 3 4 5\n6 7 8 9 0\n")?;
     check_run(&rt, &mut desk, 7, Err(TraceError::WriteFault), b"deny\nde")
 }
+
+/// Runs over a line, a comment up to ten bytes before the limit, and this end.
+fn check_end<R: Abort + AllocGlobal>(
+    rt: &R,
+    end: &[u8],
+    answer: Result<u64, TraceError>,
+    written: &[u8],
+) -> Result<(), Fail> {
+    let mut text = Vec::from_slice(rt.alloc(), b"1 2 3 4 5\n")?;
+    text.resize(67_108_854, b'#')?;
+    text.extend_from_slice(end)?;
+    let mut desk = MemDesk::new(rt.alloc());
+    let _added = desk.add("tr", &text)?;
+    check_run(rt, &mut desk, 100, answer, written)
+}
+
+#[test]
+fn a_line_that_ends_past_the_limit_is_not_taken(rt: HostRuntime) -> Result<(), Fail> {
+    check_end(&rt, b"\n1 2 3 4 5", Ok(2), b"deny\ndeny\n")?;
+    check_end(&rt, b"\n1 2 3 4 5\n", Err(TraceError::TooLong), b"deny\n")
+}
