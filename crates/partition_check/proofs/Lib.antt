@@ -25,3 +25,4 @@ pub mod Streaming
 pub mod Buffers
 pub mod OneVerdict
 pub mod Certificates
+pub mod Extracted

@@ -57,8 +57,10 @@ pub fn a_text_has_one_verdict()
     ensures one { (c : Checking) (text : List ℕ) (m n : ℕ) → IsValid c text m → IsValid c text n → m ≡ n }
 {}
 
-/// The text of a good certificate is valid.
-pub fn good_certificates_are_valid()
-    ensures { (list : RuleList) (table : Table) (rows : List Statement) → IsGood list table rows → length rows < 2 ^ 64 →
+/// The text of a good certificate is valid, and the rows of a valid text are one.
+pub fn valid_texts_are_good_certificates()
+    ensures written { (list : RuleList) (table : Table) (rows : List Statement) → IsGood list table rows → length rows < 2 ^ 64 →
         IsValid (begun list table) (certificate_text rows) (length rows) }
+    ensures read { (list : RuleList) (table : Table) (text : List ℕ) (n : ℕ) → IsValid (begun list table) text n →
+        (rows : List Statement) × IsGood list table rows × (length rows ≡ n) }
 {}
