@@ -24,3 +24,5 @@ pub mod LongLines
 pub mod Streaming
 pub mod Buffers
 pub mod OneVerdict
+pub mod Certificates
+pub mod Extracted

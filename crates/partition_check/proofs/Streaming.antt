@@ -25,7 +25,7 @@ use Rattle.partition_check.proofs.LongLines.{long-fails, long-form, long-taken}
 
 -- Lines that are taken, one list after another.
 
-takes-append : (a b : List (List ℕ)) (r m after : Reading) → TakesAll r a m → TakesAll m b after → TakesAll r (a ++ b) after
+pub takes-append : (a b : List (List ℕ)) (r m after : Reading) → TakesAll r a m → TakesAll m b after → TakesAll r (a ++ b) after
 takes-append [] b r m after h k = subst (λ (x : Reading). TakesAll x b after) h k
 takes-append (line ∷ a) b r m after h k = (h.0, h.1, takes-append a b h.0 m after h.2 k)
 

@@ -16,3 +16,4 @@ pub mod Verdict
 pub mod Streams
 pub mod Readers
 pub mod Left
+pub mod Good

@@ -1,16 +1,19 @@
 //! Laws of the definitions, for whoever relies on them. The functions do nothing.
-ghost use Rattle.std.specs.Prelude.{ℕ, List, Option, ◌≡◌, ◌∷◌, ◌↔◌, ◌⊎◌};
+ghost use Rattle.std.specs.Prelude.{ℕ, List, Option, ◌≡◌, ◌∷◌, ◌↔◌, ◌⊎◌, ◌<◌, ◌^◌, length};
 ghost use Rattle.std.specs.List.{Any, AllPairs};
 ghost use Rattle.field_boxes.specs.Classifier.{Interval};
 ghost use Rattle.partition_check.specs.Boxes.{IsBox, AreUpTo, LiesIn};
 ghost use Rattle.partition_check.specs.NextBox.{IsNextBox, IsLastOpen, GoesOnAt, ReachesEnds, IsSweep, AreAccepted, last_box};
 ghost use Rattle.partition_check.specs.Partition.{IsPartition};
 ghost use Rattle.partition_check.specs.Passed.{IsPassed};
-ghost use Rattle.partition_check.specs.Checking.{Checking, Statement};
+ghost use Rattle.partition_check.specs.Checking.{Checking, Statement, begun};
 ghost use Rattle.partition_check.specs.Verdict.{IsValid, IsWrong};
 ghost use Rattle.partition_check.specs.declared.row.Wrong.{Wrong};
 ghost use Rattle.partition_check.specs.RowText.{row_text, statement_of_text};
 ghost use Rattle.partition_check.specs.RowLines.{IsWritable};
+ghost use Rattle.partition_check.specs.Good.{IsGood, certificate_text};
+ghost use Rattle.filter_reader.specs.declared.list.RuleList.{RuleList};
+ghost use Rattle.ternary_words.specs.declared.table.Table.{Table};
 
 /// Rows are a partition exactly where each box is the next box and the last one reaches every end.
 pub fn partitions_are_sweeps()
@@ -52,4 +55,12 @@ pub fn written_rows_are_read()
 pub fn a_text_has_one_verdict()
     ensures apart { (c : Checking) (text : List ℕ) (rows : ℕ) (w : Wrong) → IsValid c text rows → IsWrong c text w → ⊥ }
     ensures one { (c : Checking) (text : List ℕ) (m n : ℕ) → IsValid c text m → IsValid c text n → m ≡ n }
+{}
+
+/// The text of a good certificate is valid, and the rows of a valid text are one.
+pub fn valid_texts_are_good_certificates()
+    ensures written { (list : RuleList) (table : Table) (rows : List Statement) → IsGood list table rows → length rows < 2 ^ 64 →
+        IsValid (begun list table) (certificate_text rows) (length rows) }
+    ensures read { (list : RuleList) (table : Table) (text : List ℕ) (n : ℕ) → IsValid (begun list table) text n →
+        (rows : List Statement) × IsGood list table rows × (length rows ≡ n) }
 {}
