@@ -1,5 +1,4 @@
 use super::{call, calm, check};
-use std::process::Abort;
 use std::test::Fail;
 
 #[test]
@@ -25,26 +24,33 @@ fn lists_are_drawn(rt: HostRuntime) -> Result<(), Fail> {
     Ok(())
 }
 
-/// What was drawn is a list without a bad line.
-fn check_drawn(rt: &(impl Abort + AllocGlobal), seed: &str, rules: &str) -> Result<(), Fail> {
-    let drawn = call(rt.alloc(), &["gen", seed, rules], calm(b""))?;
-    assert_eq!(rt; drawn.status, 0);
-    check(
-        rt,
-        &["equiv", "in", "in "],
-        calm(drawn.out.bytes()),
-        5,
-        b"",
-        b"in : read fault\n",
-    )
-}
+/// Three seeds, with no rule, one and many.
+const DRAWINGS: [[&str; 3]; 9] = [
+    ["gen", "1", "0"],
+    ["gen", "1", "1"],
+    ["gen", "1", "5000"],
+    ["gen", "7", "0"],
+    ["gen", "7", "1"],
+    ["gen", "7", "5000"],
+    ["gen", "2147483647", "0"],
+    ["gen", "2147483647", "1"],
+    ["gen", "2147483647", "5000"],
+];
 
+/// What is drawn is a list without a bad line: its turn passes, and that of a missing list fails.
 #[test]
 fn drawn_lists_are_read(rt: HostRuntime) -> Result<(), Fail> {
-    for seed in ["1", "7", "2147483647"] {
-        for rules in ["0", "1", "5000"] {
-            check_drawn(&rt, seed, rules)?;
-        }
+    for words in DRAWINGS {
+        let drawn = call(rt.alloc(), &words, calm(b""))?;
+        assert_eq!(rt; drawn.status, 0);
+        check(
+            &rt,
+            &["equiv", "in", "missing"],
+            calm(drawn.out.bytes()),
+            5,
+            b"",
+            b"missing: read fault\n",
+        )?;
     }
     Ok(())
 }
