@@ -1,5 +1,6 @@
 mod comparing;
 mod compiling;
+mod crossing;
 mod faults;
 mod generating;
 mod limits;
