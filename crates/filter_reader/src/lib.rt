@@ -25,9 +25,12 @@ mod take;
 mod token;
 mod write;
 
+pub use lines::{is_skipped, next_line, next_whole_line, without_return};
 pub use list::{ListError, RuleList};
+pub use number::{capped, digits};
 pub use reading::read_list;
 pub use reason::Reason;
+pub use token::is_blank;
 pub use write::write_list;
 
 #[cfg(test)]

@@ -9,7 +9,7 @@ use crate::token::is_blank;
 
 /// The first line of the text with all its bytes but the line feed, and what stands after it; none where
 /// the text is empty.
-fn next_whole_line(text: &[u8]) -> Option<(&[u8], &[u8])>
+pub fn next_whole_line(text: &[u8]) -> Option<(&[u8], &[u8])>
     ensures line { IfSome result (λ parts. lines_of text.now ≡ parts.0.now ∷ lines_of parts.1.now) }
     ensures shorter { IfSome result (λ parts. length parts.1.now < length text.now) }
     ensures none { IfNone result (text.now ≡ []) }
@@ -24,7 +24,7 @@ fn next_whole_line(text: &[u8]) -> Option<(&[u8], &[u8])>
 }
 
 /// The line, less one carriage return at its end.
-fn without_return(line: &[u8]) -> &[u8]
+pub fn without_return(line: &[u8]) -> &[u8]
     ensures { result.now ≡ without_return line.now }
 {
     if line.ends_with(b"\r") {

@@ -1,3 +1,4 @@
+pub mod CalmDesk
 pub mod FaultPlan
 pub mod Faults
 pub mod HostDesk

@@ -2,7 +2,8 @@
 //!
 //! A [`Desk`] gives the bytes of named inputs, a [`Sink`] takes bytes. Both are traits, so that the
 //! layers above are proved over every desk and every sink; [`MemDesk`] and [`MemSink`] lie in memory
-//! and tell all their bytes, [`HostDesk`] and [`HostSink`] are the real files and streams.
+//! and tell all their bytes, [`CalmDesk`] and [`CountSink`] never fail, and [`HostDesk`] and [`HostSink`]
+//! are the real files and streams.
 //!
 //! ```text
 //! let mut desk = HostDesk::new(&rt, rt.alloc());
@@ -12,6 +13,8 @@
 //! ```
 #![tactic(auto)]
 
+mod calm_desk;
+mod count_sink;
 mod decimal;
 mod desk;
 mod failure;
@@ -32,6 +35,8 @@ mod stream_desk;
 mod stream_sink;
 mod write;
 
+pub use calm_desk::CalmDesk;
+pub use count_sink::CountSink;
 pub use desk::Desk;
 pub use failure::{Failed, Memory};
 pub use host_desk::HostDesk;

@@ -4,8 +4,8 @@ mod script;
 mod streams;
 
 use crate::{
-    Desk, Failed, HostDesk, HostSink, MemDesk, MemSink, Pending, ReadError, Sink, read_all,
-    write_all, write_number,
+    CalmDesk, CountSink, Desk, Failed, HostDesk, HostSink, MemDesk, MemSink, Pending, ReadError,
+    Sink, read_all, write_all, write_number,
 };
 use std::alloc::Global;
 use std::process::Abort;
@@ -103,6 +103,29 @@ fn a_name_is_put_once(rt: HostRuntime) -> Result<(), Fail> {
     assert!(rt; desk.read("missing", &mut []).is_ok());
     assert!(rt; desk.read("other", &mut piece) == Ok(4));
     assert!(rt; piece.as_slice() == b"seco".as_slice());
+    Ok(())
+}
+
+#[test]
+fn a_calm_desk_reads_a_missing_name_as_empty(rt: HostRuntime) -> Result<(), Fail> {
+    let mut desk = CalmDesk::new(rt.alloc());
+    assert!(rt; desk.add("in", b"first")?);
+    assert!(rt; !desk.add("in", b"second")?);
+    let mut piece = [0; 4];
+    assert!(rt; desk.read("missing", &mut piece) == Ok(0));
+    assert!(rt; desk.read("in", &mut piece) == Ok(4));
+    assert!(rt; piece.as_slice() == b"firs".as_slice());
+    assert!(rt; desk.read("in", &mut piece) == Ok(1));
+    assert!(rt; desk.read("in", &mut piece) == Ok(0));
+    Ok(())
+}
+
+#[test]
+fn a_count_sink_counts(rt: HostRuntime) -> Result<(), Fail> {
+    let mut sink = CountSink::new();
+    assert_eq!(rt; sink.written(), 0);
+    write_both(&mut sink)?;
+    assert_eq!(rt; sink.written(), 5);
     Ok(())
 }
 
