@@ -5,3 +5,5 @@ pub mod Halving
 pub mod Intervals
 pub mod Unions
 pub mod Few
+pub mod Enclosed
+pub mod Both

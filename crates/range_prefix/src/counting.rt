@@ -7,6 +7,7 @@ ghost use Rattle.field_boxes.specs.Prefix.{FitsWidth};
 ghost use Rattle.range_prefix.specs.Shortest.{shortest_below, shortest_cover};
 ghost use Rattle.range_prefix.specs.Spans.{AreApart, union_of, values_of};
 
+use crate::enclosing::enclosing;
 use crate::share::Share;
 use field_boxes::{Prefix, Span};
 
@@ -34,8 +35,8 @@ pub fn count_all(spans: &[Span], width: u8) -> u32
     ensures value { result ≡ length (shortest_cover width (union_of spans.now)) }
     ensures few { result ≤ length spans.now * max 1 (2 * width - 2) }
 {
-    let field = Prefix { value: 0, len: 0 };
-    count_below(spans, width, field)
+    let block = enclosing(spans, width);
+    count_below(spans, width, block)
 }
 
 /// How many prefixes the spans' values among those of the prefix need.

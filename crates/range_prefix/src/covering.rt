@@ -6,6 +6,7 @@ ghost use Rattle.range_prefix.specs.Cover.{IsShortestCover};
 ghost use Rattle.range_prefix.specs.Shortest.{shortest_below, shortest_cover};
 ghost use Rattle.range_prefix.specs.Spans.{AreApart, union_of, values_of};
 
+use crate::enclosing::enclosing;
 use crate::share::Share;
 use field_boxes::{Prefix, Span};
 use razor_base::Memory;
@@ -34,9 +35,9 @@ pub fn cover_all(alloc: Global, spans: &[Span], width: u8) -> Result<Vec<Prefix>
     ensures shortest { IfOk result (λ prefixes. IsShortestCover width (union_of spans.now) prefixes.items) }
     ensures value { IfOk result (λ prefixes. prefixes.items ≡ shortest_cover width (union_of spans.now)) }
 {
-    let field = Prefix { value: 0, len: 0 };
+    let block = enclosing(spans, width);
     let mut prefixes = Vec::new(alloc);
-    cover_below(spans, width, field, &mut prefixes)?;
+    cover_below(spans, width, block, &mut prefixes)?;
     Ok(prefixes)
 }
 

@@ -2,12 +2,12 @@ use Rattle.std.proofs.Common.{◌≤◌, ◌*◌, ◌-◌, ◌∙◌, ap, length
 use Rattle.range_prefix.specs.Shortest.{shortest_cover}
 use Rattle.range_prefix.specs.Spans.{union_of}
 use Rattle.range_prefix.proofs.Few.{few_union}
-use Rattle.range_prefix.proofs.Halving.{is-shortest, whole_field}
+use Rattle.range_prefix.proofs.Halving.{is-shortest}
 use Rattle.range_prefix.proofs.Unions.{apart-from}
 use Rattle.range_prefix.proofs.counting.count_all.Goals as goal
 
 pub returns-clause-value : goal.returns-clause-value
-returns-clause-value c = c.count_below.ensures ∙ ap length (whole_field c.args.width (union_of c.args.spans.now))
+returns-clause-value c = c.count_below.ensures ∙ ap length c.enclosing-block.ensures.cover
 
 pub returns-clause-shortest : goal.returns-clause-shortest
 returns-clause-shortest c =
