@@ -1,7 +1,7 @@
 -- The commands that are built.
 use Rattle.std.specs.Prelude.{ℕ, List, [], ◌∷◌, codes}
 use Rattle.command_words.specs.declared.form.CommandName.{CommandName}
-use Rattle.command_words.specs.declared.form.CommandName.TheVariants.{Expand, Compile, Equiv, Gen, Migrate}
+use Rattle.command_words.specs.declared.form.CommandName.TheVariants.{Expand, Compile, Equiv, Check, Trace, Gen, Migrate}
 use Rattle.command_words.specs.declared.form.Need.TheVariants.{Never, Maybe}
 use Rattle.command_words.specs.declared.form.Operands.{Operands}
 use Rattle.command_words.specs.declared.form.Operands.TheVariants.{Files, Numbers}
@@ -21,6 +21,8 @@ built_forms =
     table_form Expand (codes "expand")
     ∷ table_form Compile (codes "compile")
     ∷ plain_form Equiv (codes "equiv") (Files 2 2) (codes "A B")
+    ∷ plain_form Check (codes "check") (Files 3 3) (codes "LIST TABLE CERT")
+    ∷ plain_form Trace (codes "trace") (Files 2 2) (codes "TABLE TRACE")
     ∷ plain_form Gen (codes "gen") (Numbers (2147483647 ∷ 65536 ∷ [])) (codes "SEED N")
     ∷ plain_form Migrate (codes "migrate") (Files 1 1) (codes "TABLE")
     ∷ []

@@ -48,17 +48,20 @@ fn plain_form(
 }
 
 /// The forms of the commands that are built, in the order of the usage text.
-pub fn built_forms() -> [CommandForm; 5]
+pub fn built_forms() -> [CommandForm; 7]
     ensures forms { map form_seen result ≡ built_forms }
     ensures few { HaveFewWords result }
 {
     let one = Operands::Files { fewest: 1, most: 1 };
     let two = Operands::Files { fewest: 2, most: 2 };
+    let three = Operands::Files { fewest: 3, most: 3 };
     let drawing = Operands::Numbers([2_147_483_647, 65_536]);
     [
         table_form(CommandName::Expand, "expand"),
         table_form(CommandName::Compile, "compile"),
         plain_form(CommandName::Equiv, "equiv", two, "A B"),
+        plain_form(CommandName::Check, "check", three, "LIST TABLE CERT"),
+        plain_form(CommandName::Trace, "trace", two, "TABLE TRACE"),
         plain_form(CommandName::Gen, "gen", drawing, "SEED N"),
         plain_form(CommandName::Migrate, "migrate", one, "TABLE"),
     ]

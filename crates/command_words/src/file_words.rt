@@ -1,5 +1,5 @@
 //! The plain words of a command that has file words.
-ghost use Rattle.std.specs.Prelude.{◌≡◌, map};
+ghost use Rattle.std.specs.Prelude.{◌≡◌, map, IfSome, IsTrue};
 ghost use Rattle.std.specs.List.{list_any};
 ghost use Rattle.std.specs.Option.{option_map};
 ghost use Rattle.std.specs.Str.{bytes_eq};
@@ -27,7 +27,8 @@ fn all_differ(words: &[&str]) -> bool
 
 /// The file words among the plain words; none where they are too few or too many, or two are equal.
 pub(crate) fn files<'a>(operands: Operands, plain: &PlainWords<'a>) -> Option<PlainWords<'a>>
-    ensures { option_map plain_seen result ≡ files_of operands (plain_seen plain.now) }
+    ensures files { option_map plain_seen result ≡ files_of operands (plain_seen plain.now) }
+    ensures apart { IfSome result (λ words. IsTrue (all_differ (plain_seen words))) }
 {
     match operands {
         Operands::Files { fewest, most } => {

@@ -9,6 +9,8 @@ pub enum CommandName {
     Expand,
     Compile,
     Equiv,
+    Check,
+    Trace,
     Gen,
     Migrate,
 }

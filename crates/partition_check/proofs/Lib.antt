@@ -23,6 +23,8 @@ pub mod LongNumbers
 pub mod LongLines
 pub mod Streaming
 pub mod Buffers
+pub mod NamedReasons
 pub mod OneVerdict
+pub mod SeenAlike
 pub mod Certificates
 pub mod Extracted

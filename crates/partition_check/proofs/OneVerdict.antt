@@ -74,18 +74,18 @@ all_one (line ∷ lines) r a b s t =
     let same = line_one r.checking r.ended line s.0 t.0 s.1 t.1 in
     all_one lines t.0 a b (subst (λ (x : Reading). TakesAll x lines a) same s.2) t.2
 
-all_apart : (lines : List (List ℕ)) (r a : Reading) (w : Wrong) → TakesAll r lines a → FindsWrong r lines w → ⊥
-all_apart [] r a w t f = f
-all_apart (line ∷ lines) r a w t (inl f) = line_apart r.checking r.ended line t.0 w.why t.1 f.why
-all_apart (line ∷ lines) r a w t (inr f) =
+pub all-apart : (lines : List (List ℕ)) (r a : Reading) (w : Wrong) → TakesAll r lines a → FindsWrong r lines w → ⊥
+all-apart [] r a w t f = f
+all-apart (line ∷ lines) r a w t (inl f) = line_apart r.checking r.ended line t.0 w.why t.1 f.why
+all-apart (line ∷ lines) r a w t (inr f) =
     let same = line_one r.checking r.ended line t.0 f.0 t.1 f.1 in
-    all_apart lines f.0 a w (subst (λ (x : Reading). TakesAll x lines a) same t.2) f.2
+    all-apart lines f.0 a w (subst (λ (x : Reading). TakesAll x lines a) same t.2) f.2
 
 ended_apart : (ended : Option ℕ) (rest : List ℕ) (n : ℕ) (why : Why) → ended ≡ Some n → rest ≡ [] → LacksEnd ended rest why → ⊥
 ended_apart ended rest n why e none h = subst (λ (o : Option ℕ). LacksEnd o [] why) e (subst (λ (t : List ℕ). LacksEnd ended t why) none h)
 
 pub valid-apart : (c : Checking) (text : List ℕ) (n : ℕ) (w : Wrong) → IsValid c text n → IsWrong c text w → ⊥
-valid-apart c text n w v (inl f) = all_apart (lines_of text).whole (started c) v.after w v.takes f
+valid-apart c text n w v (inl f) = all-apart (lines_of text).whole (started c) v.after w v.takes f
 valid-apart c text n w v (inr u) =
     let same = all_one (lines_of text).whole (started c) u.after v.after u.takes v.takes in
     ended_apart u.after.ended (lines_of text).rest n w.why (ap (λ (x : Reading). x.ended) same ∙ v.ended) v.whole u.ends.why

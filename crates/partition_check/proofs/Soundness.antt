@@ -28,7 +28,7 @@ use Rattle.partition_check.proofs.FirstPlaces.{got}
 use Rattle.partition_check.proofs.BoxHeaders.{up_to-header, header-up_to}
 
 -- what decides has no part in whether it matches
-matches_by_sets : {A B : Type 0} (fields values : List ℕ) (r : Rule A) (s : Rule B) → r.sets ≡ s.sets → matches fields values r ≡ matches fields values s
+pub matches_by_sets : {A B : Type 0} (fields values : List ℕ) (r : Rule A) (s : Rule B) → r.sets ≡ s.sets → matches fields values r ≡ matches fields values s
 matches_by_sets [] values r s e = refl
 matches_by_sets (f ∷ fields) [] r s e = refl
 matches_by_sets (f ∷ fields) (v ∷ values) r s e =
@@ -44,7 +44,7 @@ found_at : {A : Type 0} (p : A → Bool) (xs : List A) → option_and_then (slic
 found_at p xs = place_step xs (position_or_len p xs) (nat_lt (position_or_len p xs) (length xs)) refl ∙ sym (find_at p xs)
 
 -- the name of a decision
-abbrev name_of : List (List ℕ) → code.Rule → List ℕ
+abbrev pub name_of : List (List ℕ) → code.Rule → List ℕ
 name_of names r = text_of (name_at names r.decision)
 
 named_step : (names : List (List ℕ)) (r : code.Rule) (t : Bool) (o : Option code.Rule) (s : Option (Rule (List ℕ))) → option_map (λ r. r.decision) s ≡ option_map (name_of names) o →
@@ -70,7 +70,7 @@ pub named-some : (names : List (List ℕ)) (n : ℕ) → (n ≡ 0 → ⊥) → n
 named-some names n some h = some_name names n (let less : 0 < n = grind (arith, some) in less, h)
 
 -- the rule with a number is one of those of the list
-numbered_by : (names : List (List ℕ)) (rs : List code.Rule) → All (IsNumberedBy names) rs → (k : ℕ) (r : code.Rule) → slice_get rs k ≡ Some r → IsNumberedBy names r
+pub numbered_by : (names : List (List ℕ)) (rs : List code.Rule) → All (IsNumberedBy names) rs → (k : ℕ) (r : code.Rule) → slice_get rs k ≡ Some r → IsNumberedBy names r
 numbered_by names rs all k r at = subst (IsNumberedBy names) (got rs k r r at) (all k r (slice_get_within rs k r at))
 
 rule_name : (names : List (List ℕ)) (rs : List code.Rule) → All (IsNumberedBy names) rs → (k : ℕ) (o : Option code.Rule) → slice_get rs k ≡ o →
@@ -79,7 +79,7 @@ rule_name names rs all k None at = refl
 rule_name names rs all k (Some r) at = some_name names r.decision (numbered_by names rs all k r at)
 
 -- the decision of the rule with a number, by name
-numbered_name : (names : List (List ℕ)) (rs : List code.Rule) → All (IsNumberedBy names) rs → (number : Option ℕ) →
+pub numbered_name : (names : List (List ℕ)) (rs : List code.Rule) → All (IsNumberedBy names) rs → (number : Option ℕ) →
     option_map (name_of names) (option_and_then (slice_get rs) (place_of number)) ≡ name_at names (rule_decision rs number)
 numbered_name names rs all None = refl
 numbered_name names rs all (Some n) = rule_name names rs all (n - 1) (slice_get rs (n - 1)) refl

@@ -39,11 +39,11 @@ finds-behind [] b r m w h f = subst (λ (x : Reading). FindsWrong x b w) h f
 finds-behind (line ∷ a) b r m w h f = inr (h.0, h.1, finds-behind a b h.0 m w h.2 f)
 
 -- What a line that is taken keeps: the list, the table, the count but for one, and that an end is well.
-record Keeps (r after : Reading) : Type 0 where
-  list : after.checking.list ≡ r.checking.list
-  table : after.checking.table ≡ r.checking.table
-  rows : after.checking.accepted ≤ r.checking.accepted + 1
-  well : IfSome after.ended (EndsWell after.checking)
+pub record Keeps (r after : Reading) : Type 0 where
+  pub list : after.checking.list ≡ r.checking.list
+  pub table : after.checking.table ≡ r.checking.table
+  pub rows : after.checking.accepted ≤ r.checking.accepted + 1
+  pub well : IfSome after.ended (EndsWell after.checking)
 
 row_keeps : (c : Checking) (line : List ℕ) (after : Reading) → TakesRow c line after → Keeps (started c) after
 row_keeps c line after h =
@@ -72,7 +72,7 @@ kind_keeps : (c : Checking) (line : List ℕ) (t : Bool) (after : Reading) → M
 kind_keeps c line true after h = last_keeps c (stated_rows line) after h
 kind_keeps c line false after h = row_keeps c line after h
 
-line_keeps : (c : Checking) (o : Option ℕ) (line : List ℕ) (after : Reading) → Takes c o line after → Keeps (record { checking = c; ended = o }) after
+pub line_keeps : (c : Checking) (o : Option ℕ) (line : List ℕ) (after : Reading) → Takes c o line after → Keeps (record { checking = c; ended = o }) after
 line_keeps c None line after h = let k = kind_keeps c line (is_last_line line) after h in record { list = k.list; table = k.table; rows = k.rows; well = k.well }
 line_keeps c (Some n) line after h = absurd h
 

@@ -1,10 +1,12 @@
 -- List and table that decide alike, by the names of their decisions.
-use Rattle.std.specs.Prelude.{◌≡◌, ℕ, List, Option}
+use Rattle.std.specs.Prelude.{◌≡◌, ℕ, ◌≤◌, List, length, Option}
 use Rattle.field_boxes.specs.Fields.{stated, IsHeader}
 use Rattle.field_boxes.specs.Classifier.{source}
 use Rattle.filter_reader.specs.declared.list.RuleList.{RuleList}
 use Rattle.filter_reader.specs.Lists.{filter_list}
 use Rattle.ternary_words.specs.declared.table.Table as code
+use Rattle.partition_check.specs.declared.row.Why.{Why}
+use Rattle.partition_check.specs.declared.row.Why.TheVariants.{Form, NotNext, RuleClaim, EntryClaim, Decisions, EndsEarly, Count}
 use Rattle.ternary_words.specs.Table.{answer}
 use Rattle.ternary_words.specs.Views.{table_of}
 
@@ -22,3 +24,13 @@ AgreeOn list table header = name_decided list header ≡ name_answered table hea
 -- they give every header the same name, or none both
 abbrev pub Agree : RuleList → code.Table → Type 0
 Agree list table = (header : List ℕ) → IsHeader header → AgreeOn list table header
+
+-- where two decisions are what is wrong, they are 0 or numbers of names of the list and of the table
+abbrev pub HaveNames : RuleList → code.Table → Why → Type 0
+HaveNames list table Form = Unit {0}
+HaveNames list table NotNext = Unit {0}
+HaveNames list table RuleClaim = Unit {0}
+HaveNames list table EntryClaim = Unit {0}
+HaveNames list table (Decisions left right) = (left ≤ length list.names) × (right ≤ length table.names)
+HaveNames list table EndsEarly = Unit {0}
+HaveNames list table (Count said found) = Unit {0}

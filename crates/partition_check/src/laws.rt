@@ -12,7 +12,10 @@ ghost use Rattle.partition_check.specs.declared.row.Wrong.{Wrong};
 ghost use Rattle.partition_check.specs.RowText.{row_text, statement_of_text};
 ghost use Rattle.partition_check.specs.RowLines.{IsWritable};
 ghost use Rattle.partition_check.specs.Good.{IsGood, certificate_text};
+ghost use Rattle.partition_check.specs.Streams.{ReadsTooMuch, ReadsWrong};
+ghost use Rattle.filter_reader.specs.Lists.{filter_list};
 ghost use Rattle.filter_reader.specs.declared.list.RuleList.{RuleList};
+ghost use Rattle.ternary_words.specs.Views.{table_of};
 ghost use Rattle.ternary_words.specs.declared.table.Table.{Table};
 
 /// Rows are a partition exactly where each box is the next box and the last one reaches every end.
@@ -55,6 +58,13 @@ pub fn written_rows_are_read()
 pub fn a_text_has_one_verdict()
     ensures apart { (c : Checking) (text : List ℕ) (rows : ℕ) (w : Wrong) → IsValid c text rows → IsWrong c text w → ⊥ }
     ensures one { (c : Checking) (text : List ℕ) (m n : ℕ) → IsValid c text m → IsValid c text n → m ≡ n }
+{}
+
+/// Whether a certificate is wrong depends on what list and table are, and not on how they are kept: one that
+/// goes on after a limit, with no wrong line before it, isn't wrong within the limit.
+pub fn equal_lists_have_one_verdict()
+    ensures { (a b : RuleList) (s t : Table) (limit : ℕ) (text : List ℕ) (w : Wrong) → filter_list a ≡ filter_list b → table_of s ≡ table_of t →
+        ReadsTooMuch (begun a s) limit text → ReadsWrong (begun b t) limit text w → ⊥ }
 {}
 
 /// The text of a good certificate is valid, and the rows of a valid text are one.

@@ -3,7 +3,7 @@ ghost use Rattle.std.specs.Prelude.{◌≡◌, ◌≢◌, ◌≤◌, ◌<◌, �
 ghost use Rattle.std.specs.Io.KnownBytes.{Consumes, IsAtEnd, Keeps};
 ghost use Rattle.razor_base.specs.Faults.{Rose};
 ghost use Rattle.partition_check.specs.declared.row.Wrong.{Wrong as wrong_row};
-ghost use Rattle.partition_check.specs.Agreement.{Agree};
+ghost use Rattle.partition_check.specs.Agreement.{Agree, HaveNames};
 ghost use Rattle.partition_check.specs.Streams.{ReadsUpTo, ReadsTooMuch, ReadsValid, ReadsWrong};
 
 use crate::checker::Checker;
@@ -100,6 +100,7 @@ pub fn check_stream<D: Desk>(
     ensures agree { OnOk result (Agree checker.entry.list checker.entry.table) }
     ensures wrong { (w : wrong_row) → result ≡ Err (Stop.Wrong w) → IfSome (D.remaining desk.old name.now)
         (λ all. ReadsWrong checker.entry 268435456 all w) }
+    ensures named { (w : wrong_row) → result ≡ Err (Stop.Wrong w) → HaveNames checker.entry.list checker.entry.table w.why }
     ensures too_long { IsErrOf result Stop.TooLong → IfSome (D.remaining desk.old name.now)
         (λ all. ReadsTooMuch checker.entry 268435456 all) }
     ensures fault { IsErrOf result Stop.ReadFault → Rose (D.faults desk.old name.now) (D.faults desk.new name.now)

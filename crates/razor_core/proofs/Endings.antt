@@ -1,51 +1,61 @@
 -- What an ending shows of the status, whatever the command.
-use Rattle.std.proofs.Common.{◌≡◌, ◌≢◌, ℕ, List, [], refl, ap, arith, subst, inl, inr}
-use Rattle.std.specs.Prelude.{◌⊎◌, Ok, Err, Result, true, false}
+use Rattle.std.proofs.Common.{◌≡◌, ◌≢◌, ℕ, List, [], ◌∷◌, Some, None, refl, ap, arith, subst, inl, inr}
+use Rattle.std.specs.Prelude.{◌⊎◌, Ok, Err, Option, Result, option_map, true, false}
 use Rattle.std.specs.Io.KnownBytes.{Keeps}
 use Rattle.razor_core.specs.declared.ending.Ending.{Ending}
 use Rattle.razor_core.specs.declared.ending.Ending.TheVariants.{Done, No, BadLine as Bad, TooLong, TooMany, ReadFault, WriteFault, Memory}
-use Rattle.razor_core.specs.Command.{Command}
-use Rattle.razor_core.specs.Inputs.{BadLine, Value, inputs}
+use Rattle.trace_run.specs.Outcome.{GoesOn}
+use Rattle.trace_run.specs.Trace as traces
+use Rattle.trace_run.specs.Trace.{trace_within}
+use Rattle.razor_core.specs.Command.{Command, Make, Equiv, Check, Trace, Gen, Migrate}
+use Rattle.razor_core.specs.Inputs.{BadLine, Value, list_value, table_value, lines_value, inputs, most_bytes, text_of_trace}
 use Rattle.razor_core.specs.Outside.{Outside, Tells}
-use Rattle.razor_core.specs.Turns.{Stop, bad_line, too_long, too_many, stop_status, turns_of, Needs, Pass, IsStopped}
-use Rattle.razor_core.specs.Ending.{status_of, ending_line, summary_text, IsDone, IsCutOff, FailsToRead, Ends}
+use Rattle.razor_core.specs.Standing.{IsCutOff, Stands, StandsCut, StandsShort, WritesInTurn, WritesLast}
+use Rattle.razor_core.specs.Traced.{HasBadLine, bad_line_of, taken_of}
+use Rattle.razor_core.specs.Turns.{Stop, bad_line, too_long, too_many, stop_status, turns_of, Pass, IsFree, IsStopped, StopsLater}
+use Rattle.razor_core.specs.Ending.{status_of, ending_line, summary_text, IsDone, FailsToRead, Ends}
+use Rattle.razor_core.proofs.Ended.{passed_or_stopped, same_values}
 use Rattle.razor_core.specs.Messages.{stop_line, read_fault_line, write_fault_line, memory_line}
 use Rattle.razor_base.specs.Faults.{Rose}
 use Rattle.razor_core.specs.Promise.{IsStatusOfPass, IsStatusOfStop, KeepsPromise, IsLineOf}
 
--- turns that all pass are ended by nothing
-passed_or_stopped : (turns : Result (List Value) Stop) (values : List Value) (stop : Stop) → turns ≡ Ok values → turns ≡ Err stop → ⊥
-passed_or_stopped turns values stop p s = cc
-
-same_values : (turns : Result (List Value) Stop) (a b : List Value) → turns ≡ Ok a → turns ≡ Ok b → a ≡ b
-same_values turns a b p q = cc
-
 same_stop : (turns : Result (List Value) Stop) (a b : Stop) → turns ≡ Err a → turns ≡ Err b → a ≡ b
 same_stop turns a b p q = cc
 
--- turns that all pass, with room for the entries, are ended by nothing
+-- a command that passes is ended by nothing
 pass_or_stopped : (command : Command) (before : Outside) (values : List Value) (stop : Stop) → Pass command before values → IsStopped command before stop → ⊥
-pass_or_stopped command before values (bad_line name bad) pass h = passed_or_stopped (turns_of before (inputs command)) values (bad_line name bad) pass.turns h
-pass_or_stopped command before values (too_long name limit) pass h = passed_or_stopped (turns_of before (inputs command)) values (too_long name limit) pass.turns h
-pass_or_stopped command before values (too_many needed limit) pass h =
-    let same = same_values (turns_of before (inputs command)) h.0 values h.1.turns pass.turns in
-    let needs = subst (λ (vs : List Value). Needs command vs needed) same h.1.needs in
-    let room = pass.room needed needs in
-    let above = h.1.above in
-    let limited = h.1.limited in
-    omega arith
+pass_or_stopped command before values stop pass (inl h) = passed_or_stopped (turns_of before (inputs command)) values stop pass.turns h
+pass_or_stopped command before values stop pass (inr h) =
+    pass.free stop (subst (λ (vs : List Value). StopsLater command vs stop) (same_values (turns_of before (inputs command)) h.values values h.turns pass.turns) h.later)
 
--- what ends the turns has one status
+no_bad_line : (o : Option traces.BadLine) (bad : BadLine) → o ≡ None → option_map bad_line_of o ≡ Some bad → ⊥
+no_bad_line o bad none some = cc
+
+-- a trace with a bad line that is taken doesn't go on after its limit
+bad_or_long : (text : List ℕ) (bad : BadLine) (most : ℕ) → HasBadLine text bad → most ≡ most_bytes text_of_trace → GoesOn most text → ⊥
+bad_or_long text bad most h same long = no_bad_line (taken_of text).bad bad (subst (λ (n : ℕ). (trace_within n text).bad ≡ None) same long.good) h
+
+-- what ends a command later has one status
+later_alike : (command : Command) (values : List Value) (a b : Stop) → StopsLater command values a → StopsLater command values b → stop_status a ≡ stop_status b
+later_alike (Make method sizes file) (list_value list ∷ values) (too_many needed limit) (too_many more most) h k = refl
+later_alike (Make method sizes file) (list_value list ∷ values) (too_many needed limit) b h k = absurd k
+later_alike (Check list table certificate) (list_value rules ∷ table_value entries ∷ lines_value text ∷ values) (too_long name limit) (too_long other most) h k = refl
+later_alike (Check list table certificate) (list_value rules ∷ table_value entries ∷ lines_value text ∷ values) (too_long name limit) b h k = absurd k
+later_alike (Trace table trace) (table_value entries ∷ lines_value text ∷ values) (bad_line name bad) (bad_line other worse) h k = refl
+later_alike (Trace table trace) (table_value entries ∷ lines_value text ∷ values) (bad_line name bad) (too_long other most) h k = absurd (bad_or_long text bad most h.1 k.1 k.2)
+later_alike (Trace table trace) (table_value entries ∷ lines_value text ∷ values) (bad_line name bad) b h k = absurd k
+later_alike (Trace table trace) (table_value entries ∷ lines_value text ∷ values) (too_long name limit) (too_long other most) h k = refl
+later_alike (Trace table trace) (table_value entries ∷ lines_value text ∷ values) (too_long other most) (bad_line name bad) h k = absurd (bad_or_long text bad most k.1 h.1 h.2)
+later_alike (Trace table trace) (table_value entries ∷ lines_value text ∷ values) (too_long other most) b h k = absurd k
+later_alike command values a b h k = absurd h
+
+-- what ends a command has one status
 one_status : (command : Command) (before : Outside) (a b : Stop) → IsStopped command before a → IsStopped command before b → stop_status a ≡ stop_status b
-one_status command before (bad_line name bad) (bad_line other worse) h k = refl
-one_status command before (bad_line name bad) (too_long other most) h k = ap stop_status (same_stop (turns_of before (inputs command)) (bad_line name bad) (too_long other most) h k)
-one_status command before (bad_line name bad) (too_many needed limit) h k = absurd (passed_or_stopped (turns_of before (inputs command)) k.0 (bad_line name bad) k.1.turns h)
-one_status command before (too_long name limit) (bad_line other worse) h k = ap stop_status (same_stop (turns_of before (inputs command)) (too_long name limit) (bad_line other worse) h k)
-one_status command before (too_long name limit) (too_long other most) h k = refl
-one_status command before (too_long name limit) (too_many needed most) h k = refl
-one_status command before (too_many needed limit) (bad_line other worse) h k = absurd (passed_or_stopped (turns_of before (inputs command)) h.0 (bad_line other worse) h.1.turns k)
-one_status command before (too_many needed limit) (too_long other most) h k = refl
-one_status command before (too_many needed limit) (too_many more most) h k = refl
+one_status command before a b (inl h) (inl k) = ap stop_status (same_stop (turns_of before (inputs command)) a b h k)
+one_status command before a b (inl h) (inr k) = absurd (passed_or_stopped (turns_of before (inputs command)) k.values a k.turns h)
+one_status command before a b (inr h) (inl k) = absurd (passed_or_stopped (turns_of before (inputs command)) h.values b h.turns k)
+one_status command before a b (inr h) (inr k) =
+    later_alike command k.values a b (subst (λ (vs : List Value). StopsLater command vs a) (same_values (turns_of before (inputs command)) h.values k.values h.turns k.turns) h.later) k.later
 
 done_by : (command : Command) (before after : Outside) (ending : Ending) → Ends command before after ending → status_of ending ≡ 0 → Tells before command → (line : List ℕ) × IsDone command before after true line
 done_by command before after (Done summary) h e tells = (summary_text summary, h tells)
@@ -65,9 +75,19 @@ too_much_by command before after (TooLong file limit) h e tells = inl (file.now,
 too_much_by command before after (TooMany needed limit) h e tells = inr (needed, limit, h.stopped tells)
 too_much_by command before after ending h e tells = absurd (omega (arith, e))
 
-read_fault_by : (command : Command) (before after : Outside) (ending : Ending) → Ends command before after ending → status_of ending ≡ 5 → (file : List ℕ) × FailsToRead before after file (inputs command)
-read_fault_by command before after (ReadFault file) h e = (file.now, h.1)
+stands_by : (command : Command) (before after : Outside) (ending : Ending) → Ends command before after ending → (status_of ending ≡ 3) ⊎ (status_of ending ≡ 4) → Tells before command → Stands command before after
+stands_by command before after (Bad file line reason) h e tells = h.stands tells
+stands_by command before after (TooLong file limit) h e tells = h.stands tells
+stands_by command before after (TooMany needed limit) h e tells = h.stands tells
+stands_by command before after ending h e tells = absurd (grind (arith, e))
+
+read_fault_by : (command : Command) (before after : Outside) (ending : Ending) → Ends command before after ending → status_of ending ≡ 5 → (file : List ℕ) × FailsToRead before after file (inputs command) × StandsCut command before after file
+read_fault_by command before after (ReadFault file) h e = (file.now, h.0, h.1)
 read_fault_by command before after ending h e = absurd (omega (arith, e))
+
+short_by : (command : Command) (before after : Outside) (ending : Ending) → Ends command before after ending → status_of ending ≡ 7 → StandsShort command before after
+short_by command before after Memory h e = h
+short_by command before after ending h e = absurd (omega (arith, e))
 
 write_fault_by : (command : Command) (before after : Outside) (ending : Ending) → Ends command before after ending → status_of ending ≡ 6 → Rose before.write_faults after.write_faults
 write_fault_by command before after WriteFault h e = h.0
@@ -87,15 +107,20 @@ complete_by command before after (ReadFault file) h tells values pass = inr (inr
 complete_by command before after WriteFault h tells values pass = inr (inr (inr (inl refl)))
 complete_by command before after Memory h tells values pass = inr (inr (inr (inr refl)))
 
-stopped_by_turns : (command : Command) (before after : Outside) (ending : Ending) → Ends command before after ending → Tells before command → (stop : Stop) → IsStopped command before stop → IsStatusOfStop stop (status_of ending)
+-- a command that writes last isn't cut off where something ends it
+cut_by_stop : (command : Command) (before : Outside) (stop : Stop) (values : List Value) → turns_of before (inputs command) ≡ Ok values → IsFree command values ⊎ WritesInTurn command → IsStopped command before stop → IsStatusOfStop command stop 6
+cut_by_stop command before stop values turns (inl free) s = absurd (pass_or_stopped command before values stop (record { turns = turns; free = free }) s)
+cut_by_stop command before stop values turns (inr writes) s = inr (inr (inr (refl, writes)))
+
+stopped_by_turns : (command : Command) (before after : Outside) (ending : Ending) → Ends command before after ending → Tells before command → (stop : Stop) → IsStopped command before stop → IsStatusOfStop command stop (status_of ending)
 stopped_by_turns command before after (Done summary) h tells stop s = absurd (pass_or_stopped command before (h tells).values stop (h tells).pass s)
 stopped_by_turns command before after No h tells stop s = absurd (pass_or_stopped command before (h tells).values stop (h tells).pass s)
 stopped_by_turns command before after (Bad file line reason) h tells stop s = inl (one_status command before (bad_line file.now (record { line = line; reason = reason })) stop (h.stopped tells) s)
 stopped_by_turns command before after (TooLong file limit) h tells stop s = inl (one_status command before (too_long file.now limit) stop (h.stopped tells) s)
 stopped_by_turns command before after (TooMany needed limit) h tells stop s = inl (one_status command before (too_many needed limit) stop (h.stopped tells) s)
 stopped_by_turns command before after (ReadFault file) h tells stop s = inr (inl refl)
-stopped_by_turns command before after WriteFault h tells stop s = absurd (pass_or_stopped command before (h.1 tells).values stop (h.1 tells).pass s)
-stopped_by_turns command before after Memory h tells stop s = inr (inr refl)
+stopped_by_turns command before after WriteFault h tells stop s = cut_by_stop command before stop (h.1 tells).values (h.1 tells).turns (h.1 tells).free s
+stopped_by_turns command before after Memory h tells stop s = inr (inr (inl refl))
 
 not_two : (ending : Ending) → status_of ending ≢ 2
 not_two (Done summary) = λ e. omega (arith, e)
@@ -107,15 +132,32 @@ not_two (ReadFault file) = λ e. omega (arith, e)
 not_two WriteFault = λ e. omega (arith, e)
 not_two Memory = λ e. omega (arith, e)
 
-pub unchanged_by : (command : Command) (before after : Outside) (ending : Ending) → Ends command before after ending → status_of ending ≢ 0 → status_of ending ≢ 1 → status_of ending ≢ 6 → Keeps before.written after.written
-unchanged_by command before after (Done summary) h zero one six = absurd (zero refl)
-unchanged_by command before after No h zero one six = absurd (one refl)
-unchanged_by command before after (Bad file line reason) h zero one six = h.unchanged
-unchanged_by command before after (TooLong file limit) h zero one six = h.unchanged
-unchanged_by command before after (TooMany needed limit) h zero one six = h.unchanged
-unchanged_by command before after (ReadFault file) h zero one six = h.0
-unchanged_by command before after WriteFault h zero one six = absurd (six refl)
-unchanged_by command before after Memory h zero one six = h
+cut_unchanged : (command : Command) (before after : Outside) (file : List ℕ) → WritesLast (Some command) → StandsCut command before after file → Keeps before.written after.written
+cut_unchanged (Make method sizes list) before after file last h = h
+cut_unchanged (Equiv left right) before after file last h = h
+cut_unchanged (Check list table certificate) before after file last h = h
+cut_unchanged (Trace table trace) before after file last h = absurd last
+cut_unchanged (Gen seed rules) before after file last h = h
+cut_unchanged (Migrate table) before after file last h = h
+
+short_unchanged : (command : Command) (before after : Outside) → WritesLast (Some command) → StandsShort command before after → Keeps before.written after.written
+short_unchanged (Make method sizes list) before after last h = h
+short_unchanged (Equiv left right) before after last h = h
+short_unchanged (Check list table certificate) before after last h = h
+short_unchanged (Trace table trace) before after last h = absurd last
+short_unchanged (Gen seed rules) before after last h = h
+short_unchanged (Migrate table) before after last h = h
+
+pub unchanged_by : (command : Command) (before after : Outside) (ending : Ending) → Ends command before after ending → WritesLast (Some command) → status_of ending ≢ 0 → status_of ending ≢ 1 → status_of ending ≢ 6 →
+    Keeps before.written after.written
+unchanged_by command before after (Done summary) h last zero one six = absurd (zero refl)
+unchanged_by command before after No h last zero one six = absurd (one refl)
+unchanged_by command before after (Bad file line reason) h last zero one six = h.unchanged last
+unchanged_by command before after (TooLong file limit) h last zero one six = h.unchanged last
+unchanged_by command before after (TooMany needed limit) h last zero one six = h.unchanged last
+unchanged_by command before after (ReadFault file) h last zero one six = cut_unchanged command before after file.now last h.1
+unchanged_by command before after WriteFault h last zero one six = absurd (six refl)
+unchanged_by command before after Memory h last zero one six = short_unchanged command before after last h
 
 -- what a command's ending promises
 pub kept_by : (command : Command) (before after : Outside) (ending : Ending) → Ends command before after ending → KeepsPromise command before after (status_of ending) × (status_of ending ≢ 2)
@@ -125,9 +167,11 @@ kept_by command before after ending h = (
     answered_no = no_by command before after ending h;
     bad_line = bad_line_by command before after ending h;
     too_much = too_much_by command before after ending h;
+    stands = stands_by command before after ending h;
     read_fault = read_fault_by command before after ending h;
     write_fault = write_fault_by command before after ending h;
     cut_off = cut_off_by command before after ending h;
+    short = short_by command before after ending h;
     complete = complete_by command before after ending h;
     stopped = stopped_by_turns command before after ending h;
   },
@@ -149,7 +193,7 @@ line_stopped command before after (TooMany needed limit) h e tells = (too_many n
 line_stopped command before after ending h e tells = absurd (grind (arith, e))
 
 line_read_fault : (command : Command) (before after : Outside) (ending : Ending) → Ends command before after ending → status_of ending ≡ 5 → (file : List ℕ) × FailsToRead before after file (inputs command) × (ending_line ending ≡ read_fault_line file)
-line_read_fault command before after (ReadFault file) h e = (file.now, h.1, refl)
+line_read_fault command before after (ReadFault file) h e = (file.now, h.0, refl)
 line_read_fault command before after ending h e = absurd (omega (arith, e))
 
 line_write_fault : (ending : Ending) → status_of ending ≡ 6 → ending_line ending ≡ write_fault_line

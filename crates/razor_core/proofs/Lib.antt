@@ -1,6 +1,8 @@
+pub mod Apart
+pub mod Certified
+pub mod Compared
 pub mod DifferText
+pub mod Ended
 pub mod Endings
-pub mod Inputs
-pub mod OneInput
-pub mod TwoLists
-pub mod NoInput
+pub mod Traced
+pub mod Turns

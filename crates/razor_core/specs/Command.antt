@@ -1,6 +1,5 @@
 -- The commands, and which one the words of the command line spell.
 use Rattle.std.specs.Prelude.{ℕ, nat_le, ◌&&◌, List, [], ◌∷◌, Option, Some, None, option_and_then, unwrap_or, if◌then◌else◌}
-use Rattle.std.specs.Str.{bytes_eq}
 use Rattle.command_words.specs.declared.form.CommandName.{CommandName}
 use Rattle.command_words.specs.declared.form.CommandName.TheVariants as names
 use Rattle.command_words.specs.Built.{built_forms}
@@ -17,18 +16,14 @@ pub record Sizes : Type 0 where
 pub data Command : Type 0 where
   Make : Method → Sizes → List ℕ → Command
   Equiv : List ℕ → List ℕ → Command
+  Check : List ℕ → List ℕ → List ℕ → Command
+  Trace : List ℕ → List ℕ → Command
   Gen : ℕ → ℕ → Command
   Migrate : List ℕ → Command
 
 -- the sizes of a table where these options are given or left out
 abbrev pub sizes_given : Option ℕ → Option ℕ → Sizes
 sizes_given limit slot = record { limit = unwrap_or limit 262144; slot = unwrap_or slot 144 }
-
--- the command that makes a table of the only file
-abbrev pub making : Method → Sizes → List (List ℕ) → Option Command
-making method sizes [] = None
-making method sizes (list ∷ []) = Some (Make method sizes list)
-making method sizes (list ∷ other ∷ files) = None
 
 -- the command that draws so many rules from a seed
 abbrev pub drawing : List ℕ → Option Command
@@ -37,18 +32,36 @@ drawing (seed ∷ []) = None
 drawing (seed ∷ rules ∷ []) = if nat_le seed 2147483647 && nat_le rules 65536 then Some (Gen seed rules) else None
 drawing (seed ∷ rules ∷ other ∷ numbers) = None
 
--- a command by its name, its sizes, its numbers and its file words; two equal file words are no command
+-- the command over the only file
+abbrev pub over_one : (List ℕ → Command) → List (List ℕ) → Option Command
+over_one command [] = None
+over_one command (file ∷ []) = Some (command file)
+over_one command (file ∷ other ∷ files) = None
+
+-- the command over the only two files
+abbrev pub over_two : (List ℕ → List ℕ → Command) → List (List ℕ) → Option Command
+over_two command [] = None
+over_two command (first ∷ []) = None
+over_two command (first ∷ second ∷ []) = Some (command first second)
+over_two command (first ∷ second ∷ other ∷ files) = None
+
+-- the command over the only three files
+abbrev pub over_three : (List ℕ → List ℕ → List ℕ → Command) → List (List ℕ) → Option Command
+over_three command [] = None
+over_three command (first ∷ []) = None
+over_three command (first ∷ second ∷ []) = None
+over_three command (first ∷ second ∷ third ∷ []) = Some (command first second third)
+over_three command (first ∷ second ∷ third ∷ other ∷ files) = None
+
+-- a command by its name, its sizes, its numbers and its file words, of which no two are equal
 abbrev pub command_named : CommandName → Sizes → List ℕ → List (List ℕ) → Option Command
-command_named names.Expand sizes numbers files = making Expand sizes files
-command_named names.Compile sizes numbers files = making Compile sizes files
-command_named names.Equiv sizes numbers [] = None
-command_named names.Equiv sizes numbers (left ∷ []) = None
-command_named names.Equiv sizes numbers (left ∷ right ∷ []) = if bytes_eq left right then None else Some (Equiv left right)
-command_named names.Equiv sizes numbers (left ∷ right ∷ other ∷ files) = None
+command_named names.Expand sizes numbers files = over_one (Make Expand sizes) files
+command_named names.Compile sizes numbers files = over_one (Make Compile sizes) files
+command_named names.Equiv sizes numbers files = over_two Equiv files
+command_named names.Check sizes numbers files = over_three Check files
+command_named names.Trace sizes numbers files = over_two Trace files
 command_named names.Gen sizes numbers files = drawing numbers
-command_named names.Migrate sizes numbers [] = None
-command_named names.Migrate sizes numbers (table ∷ []) = Some (Migrate table)
-command_named names.Migrate sizes numbers (table ∷ other ∷ files) = None
+command_named names.Migrate sizes numbers files = over_one Migrate files
 
 -- the command that the words spell, or none
 abbrev pub command_of : List (List ℕ) → Option Command

@@ -2,7 +2,6 @@
 use Rattle.std.specs.Prelude.{◌≡◌, ℕ, ◌⊎◌, Bool, true, false, List, [], ◌∷◌, Some, Ok}
 use Rattle.std.specs.Io.KnownBytes.{Appends, Keeps}
 use Rattle.razor_base.specs.Faults.{Rose}
-use Rattle.razor_base.specs.Output.{AppendsFront}
 use Rattle.razor_core.specs.declared.ending.Ending.{Ending}
 use Rattle.razor_core.specs.declared.ending.Ending.TheVariants.{Done, No, BadLine as Bad, TooLong, TooMany, ReadFault, WriteFault, Memory}
 use Rattle.razor_core.specs.declared.ending.Summary.{Summary}
@@ -10,13 +9,14 @@ use Rattle.razor_core.specs.declared.ending.Summary.TheVariants.{Nothing, Rules}
 use Rattle.razor_core.specs.declared.making.CompileError.{CompileError}
 use Rattle.razor_core.specs.declared.making.CompileError.TheVariants as errors
 use Rattle.razor_core.specs.Command.{Command}
-use Rattle.razor_core.specs.Inputs.{Input, Value, inputs}
-use Rattle.razor_core.specs.Outside.{Outside, Tells, IsReadThrough}
-use Rattle.razor_core.specs.Turns.{Pass, IsStopped, bad_line, too_long, too_many, turn}
+use Rattle.razor_core.specs.Inputs.{Input, Value, inputs, read_by}
+use Rattle.razor_core.specs.Outside.{Outside, Tells, AreReadThrough}
+use Rattle.razor_core.specs.Standing.{IsCutOff, Stands, StandsCut, StandsShort, WritesLast}
+use Rattle.razor_core.specs.Turns.{Stop, Pass, IsStopped, bad_line, too_long, too_many, turn}
 use Rattle.razor_core.specs.Outcome.{Outcome, Gives}
 use Rattle.razor_core.specs.Messages.{rules_line, bad_line_line, too_long_line, too_many_line, read_fault_line, write_fault_line, memory_line}
 
--- all turns passed, all that the command defines was written, and every input was read to its end
+-- all turns passed, all that the command defines was written, and its inputs were read to their end
 pub record IsDone (command : Command) (before after : Outside) (answer : Bool) (line : List ℕ) : Type 0 where
   pub values : List Value
   pub outcome : Outcome
@@ -25,15 +25,7 @@ pub record IsDone (command : Command) (before after : Outside) (answer : Bool) (
   pub answered : outcome.yes ≡ answer
   pub lined : outcome.line ≡ line
   pub written : Appends before.written after.written outcome.text
-  pub read : IsReadThrough after command
-
--- all turns passed, and a front of what the command defines was written
-pub record IsCutOff (command : Command) (before after : Outside) : Type 0 where
-  pub values : List Value
-  pub outcome : Outcome
-  pub pass : Pass command before values
-  pub gives : Gives command values outcome
-  pub written : AppendsFront before.written after.written outcome.text
+  pub read : AreReadThrough after (read_by command answer)
 
 -- the turn of the input passes, where the desk tells its bytes
 abbrev pub PassesTurn : Outside → Input → Type 0
@@ -70,21 +62,22 @@ ending_line (ReadFault file) = read_fault_line file.now
 ending_line WriteFault = write_fault_line
 ending_line Memory = memory_line
 
--- nothing was written, and where the desk tells, the turns are ended by this
-pub record Stops (command : Command) (before after : Outside) (Stopped : Type 0) : Type 0 where
-  pub unchanged : Keeps before.written after.written
-  pub stopped : Tells before command → Stopped
+-- where the desk tells, the command is ended by this, and what stands then
+pub record Stops (command : Command) (before after : Outside) (stop : Stop) : Type 0 where
+  pub unchanged : WritesLast (Some command) → Keeps before.written after.written
+  pub stopped : Tells before command → IsStopped command before stop
+  pub stands : Tells before command → Stands command before after
 
 -- what stands when a command ends so
 abbrev pub Ends : Command → Outside → Outside → Ending → Type 0
 Ends command before after (Done summary) = Tells before command → IsDone command before after true (summary_text summary)
 Ends command before after No = Tells before command → IsDone command before after false []
-Ends command before after (Bad file line reason) = Stops command before after (IsStopped command before (bad_line file.now (record { line = line; reason = reason })))
-Ends command before after (TooLong file limit) = Stops command before after (IsStopped command before (too_long file.now limit))
-Ends command before after (TooMany needed limit) = Stops command before after (IsStopped command before (too_many needed limit))
-Ends command before after (ReadFault file) = Keeps before.written after.written × FailsToRead before after file.now (inputs command)
+Ends command before after (Bad file line reason) = Stops command before after (bad_line file.now (record { line = line; reason = reason }))
+Ends command before after (TooLong file limit) = Stops command before after (too_long file.now limit)
+Ends command before after (TooMany needed limit) = Stops command before after (too_many needed limit)
+Ends command before after (ReadFault file) = FailsToRead before after file.now (inputs command) × StandsCut command before after file.now
 Ends command before after WriteFault = Rose before.write_faults after.write_faults × (Tells before command → IsCutOff command before after)
-Ends command before after Memory = Keeps before.written after.written
+Ends command before after Memory = StandsShort command before after
 
 -- the ending of a command whose table wasn't made for this reason
 abbrev pub IsEndingOf : CompileError → Ending → Type 0

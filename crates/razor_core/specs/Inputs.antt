@@ -1,16 +1,18 @@
 -- The inputs of a command, in the order in which they are read, and what their texts come to.
-use Rattle.std.specs.Prelude.{ℕ, List, [], ◌∷◌, Result, Ok, Err}
+use Rattle.std.specs.Prelude.{ℕ, Bool, true, false, nat_lt, List, [], ◌∷◌, Result, Ok, Err}
 use Rattle.filter_reader.specs.FilterList as lists
 use Rattle.table_text.specs.Reading as tables
 use Rattle.ternary_words.specs.Table.{Table}
-use Rattle.razor_core.specs.Command.{Command, Make, Equiv, Gen, Migrate}
+use Rattle.razor_core.specs.Command.{Command, Make, Equiv, Check, Trace, Gen, Migrate}
 use Rattle.razor_core.specs.declared.line_reason.LineReason.{LineReason}
 use Rattle.razor_core.specs.declared.line_reason.LineReason.TheVariants.{OfList, OfTable}
 
--- the kinds of texts that are read whole
+-- the kinds of texts: lists and tables are read whole, traces and certificates are taken line by line
 pub data Kind : Type 0 where
   text_of_list : Kind
   text_of_table : Kind
+  text_of_trace : Kind
+  text_of_certificate : Kind
 
 -- an input: its file word, and the kind of its text
 pub record Input : Type 0 where
@@ -25,22 +27,47 @@ list_input name = record { name = name; kind = text_of_list }
 abbrev pub table_input : List ℕ → Input
 table_input name = record { name = name; kind = text_of_table }
 
+-- a trace under this name
+abbrev pub trace_input : List ℕ → Input
+trace_input name = record { name = name; kind = text_of_trace }
+
+-- a certificate under this name
+abbrev pub certificate_input : List ℕ → Input
+certificate_input name = record { name = name; kind = text_of_certificate }
+
 -- the inputs of a command
 abbrev pub inputs : Command → List Input
 inputs (Make method sizes list) = list_input list ∷ []
 inputs (Equiv left right) = list_input left ∷ list_input right ∷ []
+inputs (Check list table certificate) = list_input list ∷ table_input table ∷ certificate_input certificate ∷ []
+inputs (Trace table trace) = table_input table ∷ trace_input trace ∷ []
 inputs (Gen seed rules) = []
 inputs (Migrate table) = table_input table ∷ []
+
+-- the inputs that a command reads to their end where its answer is yes, or no: a certificate that is wrong needn't be
+abbrev pub read_by : Command → Bool → List Input
+read_by (Check list table certificate) false = list_input list ∷ table_input table ∷ []
+read_by command answer = inputs command
 
 -- the greatest number of bytes of a text
 abbrev pub most_bytes : Kind → ℕ
 most_bytes text_of_list = 16777216
 most_bytes text_of_table = 134217728
+most_bytes text_of_trace = 67108864
+most_bytes text_of_certificate = 268435456
 
--- what a text without a bad line comes to
+-- whether a text of so many bytes is too long to be read whole
+abbrev pub is_too_long : Kind → ℕ → Bool
+is_too_long text_of_list bytes = nat_lt (most_bytes text_of_list) bytes
+is_too_long text_of_table bytes = nat_lt (most_bytes text_of_table) bytes
+is_too_long text_of_trace bytes = false
+is_too_long text_of_certificate bytes = false
+
+-- what a text without a bad line comes to; the lines of one that is taken line by line are for the command to take
 pub data Value : Type 0 where
   list_value : lists.FilterList → Value
   table_value : Table → Value
+  lines_value : List ℕ → Value
 
 -- a bad line of a text, counted from 1, and its first reason
 pub record BadLine : Type 0 where
@@ -61,3 +88,5 @@ as_table (Err bad) = Err (record { line = bad.line; reason = OfTable bad.reason 
 abbrev pub spelled_by : Kind → List ℕ → Result Value BadLine
 spelled_by text_of_list text = as_list (lists.list_of text)
 spelled_by text_of_table text = as_table (tables.table_in_text text)
+spelled_by text_of_trace text = Ok (lines_value text)
+spelled_by text_of_certificate text = Ok (lines_value text)

@@ -2,8 +2,8 @@
 use Rattle.std.specs.Prelude.{◌≡◌, ◌⊎◌, ℕ, Bool, true, false, List, [], ◌∷◌, length}
 use Rattle.ternary_words.specs.Table.{Table}
 use Rattle.ternary_words.specs.TableText.{table_text}
-use Rattle.razor_core.specs.Command.{Command, Make, Equiv, Gen, Migrate}
-use Rattle.razor_core.specs.Inputs.{Value, list_value, table_value}
+use Rattle.razor_core.specs.Command.{Command, Make, Equiv, Check, Trace, Gen, Migrate}
+use Rattle.razor_core.specs.Inputs.{Value, list_value, table_value, lines_value, most_bytes, text_of_certificate}
 use Rattle.field_boxes.specs.Classifier.{Rule, source}
 use Rattle.field_boxes.specs.Fields.{stated}
 use Rattle.razor_core.specs.Comparison.{DecideAlike, IsFirstDifference, equal_line, differ_line}
@@ -12,6 +12,10 @@ use Rattle.filter_reader.specs.FilterList.{FilterList}
 use Rattle.filter_reader.specs.ListText.{list_text}
 use Rattle.list_generator.specs.DrawnRules.{generated}
 use Rattle.razor_core.specs.Making.{IsMade}
+use Rattle.partition_check.specs.declared.row.Wrong.{Wrong}
+use Rattle.partition_check.specs.Streams.{ReadsWrong}
+use Rattle.razor_core.specs.Traced.{answers_text, taken_of}
+use Rattle.razor_core.specs.Certified.{Checks, Validates, checking_of, valid_line, wrong_line}
 
 -- whether the answer is yes, the output, and the line on standard error
 pub record Outcome : Type 0 where
@@ -33,10 +37,19 @@ Compares left right outcome =
     (DecideAlike left right × (outcome ≡ record { yes = true; text = equal_line; line = [] }))
     ⊎ ((header : List ℕ) × IsFirstDifference left right header × (outcome ≡ record { yes = false; text = differ_line header (source stated header left) (source stated header right); line = [] }))
 
+-- the certificate is valid, or else this is what is wrong with it first
+abbrev pub Certifies : FilterList → Table → List ℕ → Outcome → Type 0
+Certifies rules entries text outcome =
+    ((rows : ℕ) × Validates rules entries text rows × (outcome ≡ record { yes = true; text = valid_line rows; line = [] }))
+    ⊎ ((checks : Checks rules entries) × (wrong : Wrong) × ReadsWrong (checking_of checks) (most_bytes text_of_certificate) text wrong
+    × (outcome ≡ record { yes = false; text = wrong_line checks.list checks.table wrong; line = [] }))
+
 -- the outcome is one that the command defines for these values
 abbrev pub Gives : Command → List Value → Outcome → Type 0
 Gives (Make method sizes file) (list_value list ∷ values) outcome = IsTableOf list (IsMade method list.rules sizes.slot) outcome
 Gives (Equiv left right) (list_value first ∷ list_value second ∷ values) outcome = Compares first.rules second.rules outcome
+Gives (Check list table certificate) (list_value rules ∷ table_value entries ∷ lines_value text ∷ values) outcome = Certifies rules entries text outcome
+Gives (Trace table trace) (table_value entries ∷ lines_value text ∷ values) outcome = outcome ≡ record { yes = true; text = answers_text entries (taken_of text).headers; line = [] }
 Gives (Gen seed rules) values outcome = outcome ≡ record { yes = true; text = list_text (generated seed rules).rules; line = [] }
 Gives (Migrate file) (table_value table ∷ values) outcome = outcome ≡ record { yes = true; text = table_text table; line = [] }
 Gives command values outcome = ⊥

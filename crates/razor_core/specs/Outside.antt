@@ -2,7 +2,7 @@
 use Rattle.std.specs.Prelude.{◌≡◌, ◌≢◌, ℕ, List, [], Option, Some, None, IsSome, unwrap_or}
 use Rattle.std.specs.List.{AllByRecursion}
 use Rattle.razor_core.specs.Command.{Command}
-use Rattle.razor_core.specs.Inputs.{inputs}
+use Rattle.razor_core.specs.Inputs.{Input, inputs}
 
 -- the bytes left under each name and the bytes written, where they are told, and the counts of faults
 pub record Outside : Type 0 where
@@ -19,9 +19,9 @@ seen remaining read_faults written write_faults desk out = record { remaining = 
 abbrev pub Tells : Outside → Command → Type 0
 Tells outside command = AllByRecursion (λ input. IsSome (outside.remaining input.name)) (inputs command)
 
--- each input of the command was read to its end
-abbrev pub IsReadThrough : Outside → Command → Type 0
-IsReadThrough outside command = AllByRecursion (λ input. outside.remaining input.name ≡ Some []) (inputs command)
+-- each of these inputs was read to its end
+abbrev pub AreReadThrough : Outside → List Input → Type 0
+AreReadThrough outside some = AllByRecursion (λ input. outside.remaining input.name ≡ Some []) some
 
 -- the name is that of no input
 abbrev pub IsNoInput : Option Command → List ℕ → Type 0

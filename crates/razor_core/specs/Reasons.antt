@@ -5,8 +5,10 @@ use Rattle.filter_reader.specs.declared.reason.Reason.{Reason}
 use Rattle.filter_reader.specs.declared.reason.Reason.TheVariants.{NoAt, Address, Length, PortForm, PortOrder, PortRange, ProtocolForm, ProtocolMask, FlagsForm, DecisionForm, Reserved, Extra, TooManyRules, NotAscii, TooManyRanges}
 use Rattle.table_text.specs.declared.error.TableReason.{TableReason}
 use Rattle.table_text.specs.declared.error.TableReason.TheVariants.{FirstLine, WordLength, Trit, Padding, Decision, Count, FieldForm, OutsideMask}
+use Rattle.trace_run.specs.declared.reason.TraceReason.{TraceReason}
+use Rattle.trace_run.specs.declared.reason.TraceReason.TheVariants.{Short, Digits, Large}
 use Rattle.razor_core.specs.declared.line_reason.LineReason.{LineReason}
-use Rattle.razor_core.specs.declared.line_reason.LineReason.TheVariants.{OfList, OfTable}
+use Rattle.razor_core.specs.declared.line_reason.LineReason.TheVariants.{OfList, OfTable, OfTrace}
 
 -- of a list
 abbrev pub list_reason_text : Reason → List ℕ
@@ -37,10 +39,17 @@ table_reason_text (Count stated found) = codes "count of entries differs"
 table_reason_text FieldForm = codes "field form"
 table_reason_text OutsideMask = codes "value outside mask"
 
+-- of a trace
+abbrev pub trace_reason_text : TraceReason → List ℕ
+trace_reason_text Short = codes "too few columns"
+trace_reason_text Digits = codes "not a number"
+trace_reason_text Large = codes "value too large"
+
 -- of a line
 abbrev pub reason_text : LineReason → List ℕ
 reason_text (OfList reason) = list_reason_text reason
 reason_text (OfTable reason) = table_reason_text reason
+reason_text (OfTrace reason) = trace_reason_text reason
 
 -- how many entries a table states, and how many were found
 abbrev pub two_counts : ℕ → ℕ → List ℕ
@@ -61,3 +70,4 @@ table_counts_text OutsideMask = []
 abbrev pub counts_text : LineReason → List ℕ
 counts_text (OfList reason) = []
 counts_text (OfTable reason) = table_counts_text reason
+counts_text (OfTrace reason) = []

@@ -1,9 +1,12 @@
 -- What the inputs of a command come to, each in its turn, and the entries that are needed.
-use Rattle.std.specs.Prelude.{◌≡◌, ℕ, ◌<◌, ◌≤◌, nat_lt, List, [], ◌∷◌, length, Result, Ok, Err, if◌then◌else◌}
-use Rattle.razor_core.specs.Command.{Command, Make, Equiv, Gen, Migrate}
-use Rattle.razor_core.specs.Inputs.{BadLine, Input, Value, list_value, table_value, inputs, most_bytes, spelled_by}
+use Rattle.std.specs.Prelude.{◌≡◌, ℕ, ◌<◌, ◌⊎◌, List, [], ◌∷◌, length, Result, Ok, Err, if◌then◌else◌}
+use Rattle.trace_run.specs.Outcome.{GoesOn}
+use Rattle.razor_core.specs.Command.{Command, Make, Check, Trace}
+use Rattle.razor_core.specs.Inputs.{BadLine, Input, Value, list_value, table_value, lines_value, inputs, is_too_long, most_bytes, spelled_by, text_of_certificate, text_of_trace}
 use Rattle.razor_core.specs.Outside.{Outside, bytes_at}
 use Rattle.razor_core.specs.Making.{IsNeeded}
+use Rattle.razor_core.specs.Traced.{HasBadLine}
+use Rattle.razor_core.specs.Certified.{GoesOnRight}
 
 -- what ends the turns: a bad line, a byte after the limit, or more entries than the limit
 pub data Stop : Type 0 where
@@ -24,7 +27,7 @@ stopped_by name (Err bad) = Err (bad_line name bad)
 
 -- the turn of an input with this text: what it comes to, or what ends it
 abbrev pub turn : Input → List ℕ → Result Value Stop
-turn input text = if nat_lt (most_bytes input.kind) (length text) then Err (too_long input.name (most_bytes input.kind)) else stopped_by input.name (spelled_by input.kind text)
+turn input text = if is_too_long input.kind (length text) then Err (too_long input.name (most_bytes input.kind)) else stopped_by input.name (spelled_by input.kind text)
 
 -- one turn in front of what the later turns come to
 abbrev pub before_others : Result Value Stop → Result (List Value) Stop → Result (List Value) Stop
@@ -37,36 +40,30 @@ abbrev pub turns_of : Outside → List Input → Result (List Value) Stop
 turns_of outside [] = Ok []
 turns_of outside (input ∷ others) = before_others (turn input (bytes_at outside input.name)) (turns_of outside others)
 
--- a command makes so many entries for what its inputs come to
-abbrev pub Needs : Command → List Value → ℕ → Type 0
-Needs (Make method sizes file) [] needed = ⊥
-Needs (Make method sizes file) (list_value list ∷ values) needed = IsNeeded method list.rules needed
-Needs (Make method sizes file) (table_value table ∷ values) needed = ⊥
-Needs (Equiv left right) values needed = ⊥
-Needs (Gen seed rules) values needed = ⊥
-Needs (Migrate file) values needed = ⊥
+-- what ends a command later, while it works on what its inputs came to: more entries are needed than the limit, a
+-- line of the trace is bad, or a trace or a certificate goes on after its limit
+abbrev pub StopsLater : Command → List Value → Stop → Type 0
+StopsLater (Make method sizes file) (list_value list ∷ values) (too_many needed limit) = IsNeeded method list.rules needed × (limit ≡ sizes.limit) × (limit < needed)
+StopsLater (Check list table certificate) (list_value rules ∷ table_value entries ∷ lines_value text ∷ values) (too_long name limit) = (name ≡ certificate) × (limit ≡ most_bytes text_of_certificate) × GoesOnRight rules entries text
+StopsLater (Trace table trace) (table_value entries ∷ lines_value text ∷ values) (bad_line name bad) = (name ≡ trace) × HasBadLine text bad
+StopsLater (Trace table trace) (table_value entries ∷ lines_value text ∷ values) (too_long name limit) = (name ≡ trace) × (limit ≡ most_bytes text_of_trace) × GoesOn limit text
+StopsLater command values stop = ⊥
 
--- the greatest number of entries that a command may make, which is 0 where it makes none
-abbrev pub entry_limit : Command → ℕ
-entry_limit (Make method sizes file) = sizes.limit
-entry_limit (Equiv left right) = 0
-entry_limit (Gen seed rules) = 0
-entry_limit (Migrate file) = 0
+-- nothing ends the command later
+abbrev pub IsFree : Command → List Value → Type 0
+IsFree command values = (stop : Stop) → StopsLater command values stop → ⊥
 
--- all turns pass, and no more entries are needed than the limit
+-- all turns pass, and nothing ends the command later
 pub record Pass (command : Command) (before : Outside) (values : List Value) : Type 0 where
   pub turns : turns_of before (inputs command) ≡ Ok values
-  pub room : (needed : ℕ) → Needs command values needed → needed ≤ entry_limit command
+  pub free : IsFree command values
 
--- all turns pass, and more entries are needed than the limit
-pub record NeedsMore (command : Command) (before : Outside) (values : List Value) (needed limit : ℕ) : Type 0 where
+-- all turns pass, and this ends the command later
+pub record IsStoppedLater (command : Command) (before : Outside) (stop : Stop) : Type 0 where
+  pub values : List Value
   pub turns : turns_of before (inputs command) ≡ Ok values
-  pub needs : Needs command values needed
-  pub above : limit < needed
-  pub limited : limit ≡ entry_limit command
+  pub later : StopsLater command values stop
 
--- the first turn that doesn't pass is ended so
+-- the first turn that doesn't pass is ended so, or all pass and the command is ended so later
 abbrev pub IsStopped : Command → Outside → Stop → Type 0
-IsStopped command before (bad_line name bad) = turns_of before (inputs command) ≡ Err (bad_line name bad)
-IsStopped command before (too_long name limit) = turns_of before (inputs command) ≡ Err (too_long name limit)
-IsStopped command before (too_many needed limit) = (values : List Value) × NeedsMore command before values needed limit
+IsStopped command before stop = (turns_of before (inputs command) ≡ Err stop) ⊎ IsStoppedLater command before stop

@@ -1,14 +1,16 @@
-ghost use Rattle.std.specs.Prelude.{◌≡◌, ◌≤◌, List, ℕ, IfSome, map};
+ghost use Rattle.std.specs.Prelude.{◌≡◌, ◌≤◌, List, ℕ, IfSome, IsTrue, map};
 ghost use Rattle.std.specs.Option.{option_map};
+ghost use Rattle.command_words.specs.Commands.{all_differ};
 ghost use Rattle.command_words.specs.Options.{Takes};
 ghost use Rattle.command_words.specs.Views.{numbers_seen};
 ghost use Rattle.command_words.specs.declared.option.OptionName.TheVariants as options;
-ghost use Rattle.razor_core.specs.Command.{command_named, command_of, drawing, making, sizes_given};
+ghost use Rattle.razor_core.specs.Command.{Command as meant, Make, command_named, command_of, drawing, over_one, over_three, over_two, sizes_given};
 ghost use Rattle.razor_core.specs.Commands.{sizes_of, spelled};
 
 use crate::drawing::Drawing;
 use crate::method::Method;
 use crate::sizes::Sizes;
+use crate::three_files::ThreeFiles;
 use crate::two_files::TwoFiles;
 use command_words::{CommandName, Words, built_command};
 
@@ -23,6 +25,10 @@ pub enum Command<'a> {
     },
     /// Says whether two lists decide every header alike, or on which header they first differ.
     Equiv(TwoFiles<'a>),
+    /// Says whether a certificate shows that a list and a table decide every header alike.
+    Check(ThreeFiles<'a>),
+    /// Writes what a table answers to each header of a trace.
+    Trace(TwoFiles<'a>),
     /// Writes the list that a seed gives.
     Gen(Drawing),
     /// Writes a table of either version in the compact text.
@@ -43,13 +49,46 @@ fn sizes_with(limit: Option<u32>, slot: Option<u32>) -> Sizes
 
 /// The command that makes a table of the only file.
 fn making<'a>(method: Method, sizes: Sizes, files: &[&'a str]) -> Option<Command<'a>>
-    ensures { option_map spelled result ≡ making method (sizes_of sizes) (map (λ word. word.now) files.now) }
+    ensures { option_map spelled result ≡ over_one (Make method (sizes_of sizes)) (map (λ word. word.now) files.now) }
+{
+    Some(Command::Make {
+        method,
+        sizes,
+        list: one_file(files)?,
+    })
+}
+
+/// The only file word.
+fn one_file<'a>(files: &[&'a str]) -> Option<&'a str>
+    ensures { (command : List ℕ → meant) → option_map (λ file. command file.now) result ≡ over_one command (map (λ word. word.now) files.now) }
 {
     match files {
-        [list] => Some(Command::Make {
-            method,
-            sizes,
-            list,
+        [file] => Some(file),
+        _ => None,
+    }
+}
+
+/// The only two file words.
+fn two_files<'a>(files: &[&'a str]) -> Option<TwoFiles<'a>>
+    requires { IsTrue (all_differ (map (λ word. word.now) files.now)) }
+    ensures { (command : List ℕ → List ℕ → meant) → option_map (λ all. command all.first.now all.second.now) result ≡ over_two command (map (λ word. word.now) files.now) }
+{
+    match files {
+        [first, second] => Some(TwoFiles { first, second }),
+        _ => None,
+    }
+}
+
+/// The only three file words.
+fn three_files<'a>(files: &[&'a str]) -> Option<ThreeFiles<'a>>
+    requires { IsTrue (all_differ (map (λ word. word.now) files.now)) }
+    ensures { (command : List ℕ → List ℕ → List ℕ → meant) → option_map (λ all. command all.first.now all.second.now all.third.now) result ≡ over_three command (map (λ word. word.now) files.now) }
+{
+    match files {
+        [first, second, third] => Some(ThreeFiles {
+            first,
+            second,
+            third,
         }),
         _ => None,
     }
@@ -74,20 +113,17 @@ fn named<'a>(
     numbers: Option<[u32; 2]>,
     files: &[&'a str],
 ) -> Option<Command<'a>>
+    requires { IsTrue (all_differ (map (λ word. word.now) files.now)) }
     ensures { option_map spelled result ≡ command_named name (sizes_of sizes) (numbers_seen numbers) (map (λ word. word.now) files.now) }
 {
     match name {
         CommandName::Expand => making(Method::Expand, sizes, files),
         CommandName::Compile => making(Method::Compile, sizes, files),
-        CommandName::Equiv => match files {
-            [left, right] if left != right => Some(Command::Equiv(TwoFiles { left, right })),
-            _ => None,
-        },
+        CommandName::Equiv => Some(Command::Equiv(two_files(files)?)),
+        CommandName::Check => Some(Command::Check(three_files(files)?)),
+        CommandName::Trace => Some(Command::Trace(two_files(files)?)),
         CommandName::Gen => drawing(numbers),
-        CommandName::Migrate => match files {
-            [table] => Some(Command::Migrate(table)),
-            _ => None,
-        },
+        CommandName::Migrate => Some(Command::Migrate(one_file(files)?)),
     }
 }
 

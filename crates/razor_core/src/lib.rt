@@ -1,6 +1,7 @@
 //! The top call: words and named inputs in, output and a status out.
 #![tactic(auto)]
 
+mod certificate;
 mod command;
 mod comparison;
 mod drawing;
@@ -14,7 +15,9 @@ mod reason;
 pub mod rows;
 mod run;
 mod sizes;
+mod three_files;
 mod top;
+mod tracing;
 mod two_files;
 
 pub use command_words::Words;

@@ -7,6 +7,7 @@ ghost use Rattle.filter_reader.specs.Lists.{filter_list};
 ghost use Rattle.razor_core.specs.Ending.{Ends, IsEndingOf, summary_text};
 ghost use Rattle.razor_core.specs.Messages.{rules_line};
 
+use crate::certificate::check_certificate;
 use crate::command::Command;
 use crate::comparison::{answered, write_verdict};
 use crate::drawing::Drawing;
@@ -15,6 +16,7 @@ use crate::input::{take_list, take_table};
 use crate::making::{CompileError, make};
 use crate::method::Method;
 use crate::sizes::Sizes;
+use crate::tracing::answer_trace;
 use crate::two_files::TwoFiles;
 use filter_reader::{RuleList, write_list};
 use list_equiv::equal;
@@ -43,6 +45,8 @@ pub fn run<'a, D: Desk, K: Sink>(
             list,
         } => make_table(alloc, method, sizes, list, desk, out),
         Command::Equiv(files) => compare_lists(alloc, files, desk, out),
+        Command::Check(files) => check_certificate(alloc, files, desk, out),
+        Command::Trace(files) => answer_trace(alloc, files, desk, out),
         Command::Gen(drawing) => draw_list(alloc, drawing, out),
         Command::Migrate(file) => migrate_table(alloc, file, desk, out),
     }
@@ -84,17 +88,17 @@ fn compare_lists<'a, D: Desk, K: Sink>(
     desk: &mut D,
     out: &mut K,
 ) -> Ending<'a>
-    ensures ends { Ends (Equiv files.entry.left.now files.entry.right.now)
+    ensures ends { Ends (Equiv files.entry.first.now files.entry.second.now)
         (seen D.remaining D.faults K.written K.faults desk.old out.old)
         (seen D.remaining D.faults K.written K.faults desk.new out.new)
         result }
-    ensures others { (other : List ℕ) → other ≢ files.entry.left.now → other ≢ files.entry.right.now → Keeps (D.remaining desk.old other) (D.remaining desk.new other) }
+    ensures others { (other : List ℕ) → other ≢ files.entry.first.now → other ≢ files.entry.second.now → Keeps (D.remaining desk.old other) (D.remaining desk.new other) }
 {
-    let left = match take_list(alloc, files.left, desk) {
+    let left = match take_list(alloc, files.first, desk) {
         Ok(list) => list,
         Err(ending) => return ending,
     };
-    let right = match take_list(alloc, files.right, desk) {
+    let right = match take_list(alloc, files.second, desk) {
         Ok(list) => list,
         Err(ending) => return ending,
     };

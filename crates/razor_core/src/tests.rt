@@ -1,3 +1,4 @@
+mod checking;
 mod comparing;
 mod compiling;
 mod crossing;
@@ -5,6 +6,7 @@ mod faults;
 mod generating;
 mod limits;
 mod migrating;
+mod tracing;
 
 use crate::{Words, razor};
 use razor_base::{MemDesk, MemSink};
@@ -207,7 +209,7 @@ fn knows_its_words(rt: HostRuntime) -> Result<(), Fail> {
     ];
     for words in none {
         let usage =
-            b"usage: razor COMMAND\n  expand [--limit N] [--slot W] LIST\n  compile [--limit N] [--slot W] LIST\n  equiv A B\n  gen SEED N\n  migrate TABLE\n";
+            b"usage: razor COMMAND\n  expand [--limit N] [--slot W] LIST\n  compile [--limit N] [--slot W] LIST\n  equiv A B\n  check LIST TABLE CERT\n  trace TABLE TRACE\n  gen SEED N\n  migrate TABLE\n";
         check(&rt, words, calm(WEB), 2, b"", usage)?;
     }
     let limits: [&[&str]; 3] = [

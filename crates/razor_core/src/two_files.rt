@@ -1,9 +1,9 @@
 ghost use Rattle.std.specs.Prelude.{◌≢◌};
 
-/// Two file words that differ.
+/// Two file words that differ, in their order.
 #[derive(Clone, Copy, Debug)]
 pub struct TwoFiles<'a> {
-    pub left: &'a str,
-    pub right: &'a str,
-    pub ghost apart: { left.now ≢ right.now },
+    pub first: &'a str,
+    pub second: &'a str,
+    pub ghost apart: { first.now ≢ second.now },
 }

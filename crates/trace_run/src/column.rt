@@ -6,13 +6,7 @@ ghost use Rattle.trace_run.specs.Views.{column_seen};
 
 use crate::number::value;
 use crate::reason::TraceReason;
-
-/// Whether the byte is a space or a tab.
-pub(crate) fn is_blank(byte: u8) -> bool
-    ensures { result ≡ is_blank byte }
-{
-    byte == b' ' || byte == b'\t'
-}
+use filter_reader::is_blank;
 
 /// The place of the first byte that isn't blank.
 fn first_place(text: &[u8]) -> Option<usize>

@@ -7,10 +7,10 @@ ghost use Rattle.trace_run.specs.Taking.{count_in, stopped_at, text_for};
 ghost use Rattle.trace_run.specs.Trace.{header_of_line, trace_from};
 
 use crate::answer::put_answer;
-use crate::feed::next_line;
 use crate::line::line_header;
 use crate::reason::TraceReason;
 use field_boxes::Decisions;
+use filter_reader::next_whole_line;
 use razor_base::{Failed, Pending, Sink};
 use tcam_sim::Device;
 
@@ -63,7 +63,7 @@ pub(crate) fn take_lines<V: Device, K: Sink>(
     let mut rest = text;
     let mut lines = before;
     let mut headers = 0;
-    'lines: while let Some((line, after)) = next_line(rest) {
+    'lines: while let Some((line, after)) = next_whole_line(rest) {
         lines += 1;
         match take_line(device, names, line, pending, out)? {
             Ok(count) => headers += count,

@@ -2,7 +2,9 @@ use Rattle.std.proofs.Common.{◌∙◌, ◌+◌, [], take, ap, sym, subst, refl
 use Rattle.std.specs.Prelude.{IfSome}
 use Rattle.std.proofs.lemmas.List.{length-take}
 use Rattle.partition_check.specs.declared.row.Wrong.{Wrong}
+use Rattle.partition_check.specs.Agreement.{HaveNames}
 use Rattle.partition_check.specs.Streams.{ReadsWrong}
+use Rattle.partition_check.proofs.NamedReasons.{end-named, wrong-named}
 use Rattle.partition_check.proofs.Buffers.{piece-length, cut-behind, all-behind}
 use Rattle.partition_check.proofs.Streaming.{rows-read, end-well, agree-before, faulted, end-valid, end-wrong, cut-wrong, cut-past, whole-wrong, whole-read, told-wrong, rose-since}
 use Rattle.partition_check.proofs.stream.check_stream.Goals as goal
@@ -82,3 +84,18 @@ pieces-preserved g c = record {
   others = search rules;
   counts = search rules;
 }
+
+pub returns-in_err-rows-clause-named : goal.returns-in_err-rows-clause-named
+returns-in_err-rows-clause-named g c = λ w e.
+    subst (λ (x : Wrong). HaveNames c.args.checker.list c.args.checker.table x.why) (told-wrong c.from_residual-in_err-rows.result _ w c.from_residual-in_err-rows.ensures.1 e)
+    (end-named _ _ _ _ _ _ _ c.pieces.invariant.read _ _ c.in_err-rows.ensures.err)
+
+pub returns-in_err-_rest-clause-named : goal.returns-in_err-_rest-clause-named
+returns-in_err-_rest-clause-named g c = λ w e.
+    subst (λ (x : Wrong). HaveNames c.args.checker.list c.args.checker.table x.why) (told-wrong c.from_residual-in_err-_rest.result _ w c.from_residual-in_err-_rest.ensures.1 e)
+    (wrong-named _ _ _ _ _ _ _ c.pieces.invariant.read _ _ c.in_err-_rest.ensures.err)
+
+pub returns-in_err-start-clause-named : goal.returns-in_err-start-clause-named
+returns-in_err-start-clause-named g c = λ w e.
+    subst (λ (x : Wrong). HaveNames c.args.checker.list c.args.checker.table x.why) (told-wrong c.from_residual-in_err-start.result _ w c.from_residual-in_err-start.ensures.1 e)
+    (wrong-named _ _ _ _ _ _ _ c.pieces.invariant.read _ _ c.in_err-start.ensures.err)

@@ -2,13 +2,14 @@ use Rattle.std.proofs.Common.{sym}
 use Rattle.razor_core.specs.Inputs.{list_input}
 use Rattle.razor_core.specs.Outside.{seen}
 use Rattle.razor_core.specs.Taking.{value_of}
-use Rattle.razor_core.proofs.TwoLists.{ReadBoth, answered_ends, cut_off_ends, taken_before, taken_later}
+use Rattle.razor_core.proofs.Compared.{ReadBoth, answered_ends, cut_verdict_ends}
+use Rattle.razor_core.proofs.Turns.{taken_before, taken_later}
 use Rattle.razor_core.proofs.run.compare_lists.Goals as goal
 
 pub returns-in-Ok-write_verdict-clause-ends : goal.returns-in-Ok-write_verdict-clause-ends
 returns-in-Ok-write_verdict-clause-ends g c =
-    let left = c.args.files.left.now in
-    let right = c.args.files.right.now in
+    let left = c.args.files.first.now in
+    let right = c.args.files.second.now in
     let first = c.in-Ok.list in
     let second = c.in-Ok-take_list.list in
     let start = g.D.Desk.remaining c.args.desk.now in
@@ -24,8 +25,8 @@ returns-in-Ok-write_verdict-clause-ends g c =
 
 pub returns-clause-ends : goal.returns-clause-ends
 returns-clause-ends g c =
-    let left = c.args.files.left.now in
-    let right = c.args.files.right.now in
+    let left = c.args.files.first.now in
+    let right = c.args.files.second.now in
     let first = c.in-Ok.list in
     let second = c.in-Ok-take_list.list in
     let start = g.D.Desk.remaining c.args.desk.now in
@@ -37,4 +38,4 @@ returns-clause-ends g c =
       left_taken = taken_before (list_input left) (start left) (between left) (end left) (value_of first) c.in-Ok.ensures.turn (c.in-Ok-take_list.ensures.others left c.args.files.apart);
       right_taken = taken_later (list_input right) (start right) (between right) (end right) (value_of second) (c.in-Ok.ensures.others right (λ e. c.args.files.apart (sym e))) c.in-Ok-take_list.ensures.turn;
     } in
-    cut_off_ends left right before after first second c.in-Ok-equal.verdict reads c.in-Ok-equal.ensures c.in-Err-write_verdict.ensures.failed c.in-Err-write_verdict.ensures.err
+    cut_verdict_ends left right before after first second c.in-Ok-equal.verdict reads c.in-Ok-equal.ensures c.in-Err-write_verdict.ensures.failed c.in-Err-write_verdict.ensures.err

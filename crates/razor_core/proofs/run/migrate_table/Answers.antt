@@ -1,4 +1,4 @@
-use Rattle.std.proofs.Common.{[], refl, true}
+use Rattle.std.proofs.Common.{[], ◌∷◌, inl, refl, true}
 use Rattle.ternary_words.specs.TableText.{table_text}
 use Rattle.ternary_words.specs.Views.{table_of}
 use Rattle.razor_core.specs.Command.{Migrate}
@@ -6,7 +6,8 @@ use Rattle.razor_core.specs.Inputs.{table_input}
 use Rattle.razor_core.specs.Outcome.{Outcome}
 use Rattle.razor_core.specs.Outside.{seen}
 use Rattle.razor_core.specs.Taking.{table_value_of}
-use Rattle.razor_core.proofs.OneInput.{Reads, done_ends, cut_off_ends}
+use Rattle.razor_core.proofs.Ended.{cut_off_ends, done_ends}
+use Rattle.razor_core.proofs.Turns.{passed_taken, read_taken}
 use Rattle.razor_core.proofs.run.migrate_table.Goals as goal
 
 pub returns-in-Ok-write_table-clause-ends : goal.returns-in-Ok-write_table-clause-ends
@@ -14,10 +15,11 @@ returns-in-Ok-write_table-clause-ends g c =
     let file = c.args.file.now in
     let before = seen g.D.Desk.remaining g.D.Desk.faults g.K.Sink.written g.K.Sink.faults c.args.desk.now c.args.out.now in
     let after = seen g.D.Desk.remaining g.D.Desk.faults g.K.Sink.written g.K.Sink.faults c.take_table.new.desk c.write_table.new.out in
+    let taken = c.in-Ok.ensures.turn in
     let value = table_value_of c.in-Ok.table in
-    let reads : Reads (Migrate file) before after (table_input file) value = record { inputs_are = refl; taken = c.in-Ok.ensures.turn } in
     let outcome : Outcome = record { yes = true; text = table_text (table_of c.in-Ok.table); line = [] } in
-    done_ends (Migrate file) before after (table_input file) value outcome reads (λ needed none. absurd none) refl refl c.in-Ok-write_table.ensures.ok
+    λ tells. done_ends (Migrate file) before after (value ∷ []) outcome true (passed_taken (table_input file) (before.remaining file) (after.remaining file) value taken, tt) (λ stop later. later) refl refl
+    c.in-Ok-write_table.ensures.ok (read_taken (table_input file) (before.remaining file) (after.remaining file) value taken tells.0, tt) tells
 
 pub returns-clause-ends : goal.returns-clause-ends
 returns-clause-ends g c =
@@ -25,6 +27,6 @@ returns-clause-ends g c =
     let before = seen g.D.Desk.remaining g.D.Desk.faults g.K.Sink.written g.K.Sink.faults c.args.desk.now c.args.out.now in
     let after = seen g.D.Desk.remaining g.D.Desk.faults g.K.Sink.written g.K.Sink.faults c.take_table.new.desk c.write_table.new.out in
     let value = table_value_of c.in-Ok.table in
-    let reads : Reads (Migrate file) before after (table_input file) value = record { inputs_are = refl; taken = c.in-Ok.ensures.turn } in
     let outcome : Outcome = record { yes = true; text = table_text (table_of c.in-Ok.table); line = [] } in
-    cut_off_ends (Migrate file) before after (table_input file) value outcome reads (λ needed none. absurd none) refl c.in-Err-write_table.ensures.failed c.in-Err-write_table.ensures.err
+    cut_off_ends (Migrate file) before after (value ∷ []) outcome (passed_taken (table_input file) (before.remaining file) (after.remaining file) value c.in-Ok.ensures.turn, tt) (inl (λ stop later. later)) refl
+    c.in-Err-write_table.ensures.failed c.in-Err-write_table.ensures.err

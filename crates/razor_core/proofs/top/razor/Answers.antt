@@ -5,6 +5,7 @@ use Rattle.razor_core.specs.Command.{Command, command_of}
 use Rattle.razor_core.specs.Commands.{spelled}
 use Rattle.razor_core.specs.Outside.{seen, IsNoInput}
 use Rattle.razor_core.specs.Ending.{ending_line}
+use Rattle.razor_core.specs.Standing.{WritesLast}
 use Rattle.razor_core.specs.Promise.{IsLine, KeepsPromiseOf}
 use Rattle.razor_core.proofs.Endings.{kept_by, unchanged_by, line_by}
 use Rattle.razor_core.proofs.top.razor.Goals as goal
@@ -23,7 +24,8 @@ returns g c =
     let same = sym c.status.ensures in
     record {
       command = subst (λ (o : Option Command). KeepsPromiseOf o before after c.status.result) words (subst (λ (s : ℕ). KeepsPromiseOf (some_command command) before after s) same (kept_by command before after ending ends));
-      unchanged = subst (λ (s : ℕ). s ≢ 0 → s ≢ 1 → s ≢ 6 → Keeps before.written after.written) same (unchanged_by command before after ending ends);
+      unchanged = subst (λ (o : Option Command). WritesLast o → c.status.result ≢ 0 → c.status.result ≢ 1 → c.status.result ≢ 6 → Keeps before.written after.written) words
+          (subst (λ (s : ℕ). WritesLast (some_command command) → s ≢ 0 → s ≢ 1 → s ≢ 6 → Keeps before.written after.written) same (unchanged_by command before after ending ends));
       untouched = subst (λ (o : Option Command). (name : List ℕ) → IsNoInput o name → Keeps (before.remaining name) (after.remaining name)) words c.run-ending.ensures.others;
       message = (
         ending_line ending,

@@ -1,0 +1,136 @@
+-- How a command ends: in the turn of an input, with a table that wasn't made, cut off, or done.
+use Rattle.std.proofs.Common.{◌≡◌, ℕ, ◌≤◌, List, [], ◌∷◌, ◌++◌, Some, None, inl, inr, refl, subst, sym, ap, arith, ◌∙◌}
+use Rattle.std.specs.Prelude.{Bool, Option, IfSome, Ok, Err, Result, ◌⊎◌}
+use Rattle.std.specs.Io.KnownBytes.{Appends, Keeps}
+use Rattle.razor_base.specs.Faults.{Rose}
+use Rattle.razor_base.specs.Output.{AppendsFront}
+use Rattle.razor_core.specs.declared.ending.Ending.{Ending}
+use Rattle.razor_core.specs.declared.ending.Ending.TheVariants.{Done, No, BadLine as Bad, TooLong, TooMany, ReadFault, WriteFault, Memory}
+use Rattle.razor_core.specs.declared.making.CompileError.{CompileError}
+use Rattle.razor_core.specs.declared.making.CompileError.TheVariants as errors
+use Rattle.razor_core.specs.declared.method.Method.{Method}
+use Rattle.razor_core.specs.Command.{Command, Make, Sizes}
+use Rattle.razor_core.specs.Inputs.{Input, Value, inputs, list_input, list_value, read_by}
+use Rattle.filter_reader.specs.FilterList.{FilterList}
+use Rattle.razor_core.specs.Making.{IsNeeded, IsRefused}
+use Rattle.razor_core.specs.Outcome.{Outcome, Gives}
+use Rattle.razor_core.specs.Outside.{Outside, Tells}
+use Rattle.razor_core.specs.Standing.{StandsCut, StandsShort, WritesInTurn}
+use Rattle.razor_core.specs.Taking.{EndsTurn}
+use Rattle.razor_core.specs.Turns.{Stop, IsFree, bad_line, too_long, too_many, turns_of}
+use Rattle.razor_core.specs.Ending.{Ends, FailsToRead, IsDone, IsEndingOf, Stops}
+use Rattle.razor_core.proofs.Turns.{AllRead, AllTold, Passed, StopsWith, read_fails, rose_later, turns_pass, turns_stop}
+
+-- turns that all pass are ended by nothing
+pub passed_or_stopped : (turns : Result (List Value) Stop) (values : List Value) (stop : Stop) → turns ≡ Ok values → turns ≡ Err stop → ⊥
+passed_or_stopped turns values stop p s = cc
+
+pub same_values : (turns : Result (List Value) Stop) (a b : List Value) → turns ≡ Ok a → turns ≡ Ok b → a ≡ b
+same_values turns a b p q = cc
+
+-- inputs of a command that were taken in turn, up to this one
+pub record Reached (command : Command) (before : Outside) (front : List Input) (values : List Value) (input : Input) (others : List Input) : Type 0 where
+  pub inputs_are : inputs command ≡ front ++ input ∷ others
+  pub passed : Passed before front values
+
+-- what stands of a command that has written nothing, where a read under the name failed, and where memory was refused
+pub record StandsStill (command : Command) (before after : Outside) (name : List ℕ) : Type 0 where
+  pub keeps : Keeps before.written after.written
+  pub cut : (file : List ℕ) → file ≡ name → StandsCut command before after file
+  pub short : StandsShort command before after
+
+stop_in_turn : (command : Command) (before after : Outside) (front : List Input) (values : List Value) (input : Input) (others : List Input) (stop : Stop) → Reached command before front values input others →
+    StopsWith input (before.remaining input.name) stop → Tells before command → turns_of before (inputs command) ≡ Err stop
+stop_in_turn command before after front values input others stop reached h tells =
+    ap (turns_of before) reached.inputs_are ∙ turns_stop before front values input others stop reached.passed h (subst (AllTold before) reached.inputs_are tells)
+
+stops : (command : Command) (before after : Outside) (front : List Input) (values : List Value) (input : Input) (others : List Input) (stop : Stop) → Reached command before front values input others →
+    Keeps before.written after.written → StopsWith input (before.remaining input.name) stop → Stops command before after stop
+stops command before after front values input others stop reached keeps h = record {
+  unchanged = λ last. keeps;
+  stopped = λ tells. inl (stop_in_turn command before after front values input others stop reached h tells);
+  stands = λ tells. record {
+    in_turn = λ s e. keeps;
+    later = λ vs e. absurd (passed_or_stopped (turns_of before (inputs command)) vs stop e (stop_in_turn command before after front values input others stop reached h tells));
+  };
+}
+
+-- the turn of an input is ended
+pub turn_ends : (command : Command) (before after : Outside) (front : List Input) (values : List Value) (input : Input) (others : List Input) (ending : Ending) → Reached command before front values input others →
+    StandsStill command before after input.name → EndsTurn input (before.remaining input.name) (before.read_faults input.name) (after.read_faults input.name) ending → Ends command before after ending
+turn_ends command before after front values input others (Done summary) reached still h = absurd h
+turn_ends command before after front values input others No reached still h = absurd h
+turn_ends command before after front values input others (Bad file line reason) reached still h = stops command before after front values input others (bad_line file.now (record { line = line; reason = reason })) reached still.keeps h
+turn_ends command before after front values input others (TooLong file limit) reached still h = stops command before after front values input others (too_long file.now limit) reached still.keeps h
+turn_ends command before after front values input others (TooMany needed limit) reached still h = absurd h
+turn_ends command before after front values input others (ReadFault file) reached still h = (
+  subst (FailsToRead before after file.now) (sym reached.inputs_are) (read_fails before after file.now front values input others reached.passed h.0 h.1),
+  still.cut file.now h.0,
+)
+turn_ends command before after front values input others WriteFault reached still h = absurd h
+turn_ends command before after front values input others Memory reached still h = still.short
+
+stops_later : (input : Input) (before between : Option (List ℕ)) (stop : Stop) → Keeps before between → StopsWith input between stop → StopsWith input before stop
+stops_later input None between stop keeps h = tt
+stops_later input (Some text) None stop keeps h = absurd keeps
+stops_later input (Some text) (Some other) stop keeps h = subst (λ (x : List ℕ). StopsWith input (Some x) stop) keeps h
+
+-- an input that is read later than others is as it was, where these keep its bytes
+pub ends_later : (input : Input) (before between : Option (List ℕ)) (first second last : ℕ) (ending : Ending) → Keeps before between → first ≤ second → EndsTurn input between second last ending → EndsTurn input before first last ending
+ends_later input before between first second last (Done summary) keeps le h = absurd h
+ends_later input before between first second last No keeps le h = absurd h
+ends_later input before between first second last (Bad file line reason) keeps le h = stops_later input before between (bad_line file.now (record { line = line; reason = reason })) keeps h
+ends_later input before between first second last (TooLong file limit) keeps le h = stops_later input before between (too_long file.now limit) keeps h
+ends_later input before between first second last (TooMany needed limit) keeps le h = absurd h
+ends_later input before between first second last (ReadFault file) keeps le h = (h.0, rose_later first second last le h.1)
+ends_later input before between first second last WriteFault keeps le h = absurd h
+ends_later input before between first second last Memory keeps le h = tt
+
+-- all was written
+pub done_ends : (command : Command) (before after : Outside) (values : List Value) (outcome : Outcome) (answer : Bool) → Passed before (inputs command) values → IsFree command values → Gives command values outcome →
+    outcome.yes ≡ answer → Appends before.written after.written outcome.text → AllRead after (read_by command answer) → Tells before command → IsDone command before after answer outcome.line
+done_ends command before after values outcome answer passed free gives answered written read tells = record {
+  values = values;
+  outcome = outcome;
+  pass = record { turns = turns_pass before (inputs command) values passed tells; free = free };
+  gives = gives;
+  answered = answered;
+  lined = refl;
+  written = written;
+  read = read;
+}
+
+-- a write failed
+pub cut_off_ends : (command : Command) (before after : Outside) (values : List Value) (outcome : Outcome) → Passed before (inputs command) values → IsFree command values ⊎ WritesInTurn command → Gives command values outcome →
+    Rose before.write_faults after.write_faults → AppendsFront before.written after.written outcome.text → Ends command before after WriteFault
+cut_off_ends command before after values outcome passed free gives rose written = (
+  rose,
+  (λ tells. record {
+    values = values;
+    outcome = outcome;
+    turns = turns_pass before (inputs command) values passed tells;
+    free = free;
+    gives = gives;
+    written = written;
+  }),
+)
+
+-- no more entries are needed than the limit
+pub make_free : (method : Method) (sizes : Sizes) (file : List ℕ) (list : FilterList) → ((needed : ℕ) → IsNeeded method list.rules needed → needed ≤ sizes.limit) → IsFree (Make method sizes file) (list_value list ∷ [])
+make_free method sizes file list room (bad_line name bad) later = later
+make_free method sizes file list room (too_long name limit) later = later
+make_free method sizes file list room (too_many needed limit) later =
+    let within = room needed later.0 in
+    let limited = later.1 in
+    let above = later.2 in
+    omega arith
+
+-- no table was made
+pub not_made_ends : (method : Method) (sizes : Sizes) (file : List ℕ) (before after : Outside) (list : FilterList) (error : CompileError) (ending : Ending) → Passed before (list_input file ∷ []) (list_value list ∷ []) →
+    IsRefused (IsNeeded method list.rules) sizes.limit error → IsEndingOf error ending → Keeps before.written after.written → Ends (Make method sizes file) before after ending
+not_made_ends method sizes file before after list errors.Memory ending passed refused same keeps = subst (Ends (Make method sizes file) before after) (sym same) keeps
+not_made_ends method sizes file before after list (errors.TooMany needed limit) ending passed refused same keeps = subst (Ends (Make method sizes file) before after) (sym same) (record {
+  unchanged = λ last. keeps;
+  stopped = λ tells. inr (record { values = list_value list ∷ []; turns = turns_pass before (list_input file ∷ []) (list_value list ∷ []) passed tells; later = (refused.0, refused.1, let limited = refused.1 in let above = refused.2 in omega arith) });
+  stands = λ tells. record { in_turn = λ s e. keeps; later = λ vs e. keeps };
+})

@@ -1,0 +1,33 @@
+use Rattle.std.proofs.Common.{sym}
+use Rattle.razor_core.specs.Inputs.{table_input}
+use Rattle.razor_core.specs.Outside.{seen}
+use Rattle.razor_core.specs.Taking.{table_value_of}
+use Rattle.razor_core.proofs.Traced.{Ran, loaded_answers, run_ends}
+use Rattle.razor_core.proofs.Turns.{taken_before}
+use Rattle.trace_run.specs.Answers as runs
+use Rattle.tcam_sim.specs.Bank.{slots_of}
+use Rattle.ternary_words.specs.Views.{table_of}
+use Rattle.razor_core.proofs.tracing.answer_trace.Goals as goal
+
+pub returns-clause-ends : goal.returns-clause-ends
+returns-clause-ends g c =
+    let table = c.args.files.first.now in
+    let trace = c.args.files.second.now in
+    let start = g.D.Desk.remaining c.args.desk.now in
+    let between = g.D.Desk.remaining c.take_table.new.desk in
+    let end = g.D.Desk.remaining c.run-ended.new.desk in
+    let before = seen g.D.Desk.remaining g.D.Desk.faults g.K.Sink.written g.K.Sink.faults c.args.desk.now c.args.out.now in
+    let after = seen g.D.Desk.remaining g.D.Desk.faults g.K.Sink.written g.K.Sink.faults c.run-ended.new.desk c.run-ended.new.out in
+    let code = c.in-Ok.table in
+    let bank = c.in-Ok-loaded.bank in
+    let ran : Ran table trace before after (table_of code) (runs.answers_text code.names (slots_of bank)) (between trace) (g.D.Desk.faults c.take_table.new.desk trace) c.run-ended.result = record {
+      apart = c.args.files.apart;
+      taken = taken_before (table_input table) (start table) (between table) (end table) (table_value_of code) c.in-Ok.ensures.turn (c.run-ended.ensures.others table c.args.files.apart);
+      kept = c.in-Ok.ensures.others trace (λ e. c.args.files.apart (sym e));
+      counts = c.in-Ok.ensures.counts trace;
+      answer = loaded_answers code (slots_of bank) c.in-Ok-loaded.ensures c.loaded_entries_answer.ensures;
+      outcome = c.run-ended.ensures.outcome;
+      read_fault = c.run-ended.ensures.read_fault;
+      write_fault = c.run-ended.ensures.write_fault;
+    } in
+    run_ends table trace before after (table_of code) (runs.answers_text code.names (slots_of bank)) (between trace) (g.D.Desk.faults c.take_table.new.desk trace) c.run-ended.result c.run_ended.result ran c.run_ended.ensures

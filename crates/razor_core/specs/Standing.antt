@@ -1,0 +1,59 @@
+-- What has been written where a command is ended before it is done.
+use Rattle.std.specs.Prelude.{◌≡◌, ℕ, ◌⊎◌, List, Option, Some, Ok, Err}
+use Rattle.std.specs.Io.KnownBytes.{Appends, Keeps}
+use Rattle.razor_base.specs.Output.{AppendsFront}
+use Rattle.ternary_words.specs.Table.{Table}
+use Rattle.trace_run.specs.Outcome.{IsCut}
+use Rattle.razor_core.specs.Command.{Command, Trace}
+use Rattle.razor_core.specs.Inputs.{Value, table_input, table_value, inputs, most_bytes, text_of_trace}
+use Rattle.razor_core.specs.Outside.{Outside, Tells, bytes_at}
+use Rattle.razor_core.specs.Outcome.{Outcome, Gives}
+use Rattle.razor_core.specs.Traced.{answers_text, taken_before}
+use Rattle.razor_core.specs.Turns.{Stop, IsFree, turn, turns_of}
+
+-- the command writes while it takes its last input, and not only after all that may end it
+abbrev pub WritesInTurn : Command → Type 0
+WritesInTurn (Trace table trace) = Unit {0}
+WritesInTurn command = ⊥
+
+-- the command has written nothing where its status is neither 0, 1 nor 6
+abbrev pub WritesLast : Option Command → Type 0
+WritesLast (Some (Trace table trace)) = ⊥
+WritesLast command = Unit {0}
+
+-- what was written of what the command defines for these values, where it is ended later
+abbrev pub WroteFor : Command → List Value → Option (List ℕ) → Option (List ℕ) → Type 0
+WroteFor (Trace table trace) values before after = (outcome : Outcome) × Gives (Trace table trace) values outcome × Appends before after outcome.text
+WroteFor command values before after = Keeps before after
+
+-- what was written where this ended the command: nothing, if it ended a turn
+pub record Stands (command : Command) (before after : Outside) : Type 0 where
+  pub in_turn : (stop : Stop) → turns_of before (inputs command) ≡ Err stop → Keeps before.written after.written
+  pub later : (values : List Value) → turns_of before (inputs command) ≡ Ok values → WroteFor command values before.written after.written
+
+-- all turns passed, and a front of what the command defines was written
+pub record IsCutOff (command : Command) (before after : Outside) : Type 0 where
+  pub values : List Value
+  pub outcome : Outcome
+  pub turns : turns_of before (inputs command) ≡ Ok values
+  pub free : IsFree command values ⊎ WritesInTurn command
+  pub gives : Gives command values outcome
+  pub written : AppendsFront before.written after.written outcome.text
+
+-- the answers to all headers whose lines were read before a read under the trace's name failed; none where it failed
+-- under the table's name
+pub record AnswersCut (table trace file : List ℕ) (before after : Outside) : Type 0 where
+  pub in_table : file ≡ table → Keeps before.written after.written
+  pub in_trace : file ≡ trace → (entries : Table) → turn (table_input table) (bytes_at before table) ≡ Ok (table_value entries) →
+      (seen : List ℕ) × IsCut (most_bytes text_of_trace) (before.remaining trace) (after.remaining trace) seen
+      × Appends before.written after.written (answers_text entries (taken_before seen).headers)
+
+-- what was written where a read under the file word failed
+abbrev pub StandsCut : Command → Outside → Outside → List ℕ → Type 0
+StandsCut (Trace table trace) before after file = Tells before (Trace table trace) → AnswersCut table trace file before after
+StandsCut command before after file = Keeps before.written after.written
+
+-- what was written where memory was refused
+abbrev pub StandsShort : Command → Outside → Outside → Type 0
+StandsShort (Trace table trace) before after = Tells before (Trace table trace) → Keeps before.written after.written ⊎ IsCutOff (Trace table trace) before after
+StandsShort command before after = Keeps before.written after.written
