@@ -1,18 +1,20 @@
 -- The rows of blocks by number.
 use Rattle.std.proofs.Common.{◌≡◌, ◌∷◌, ◌++◌, ℕ, zero, suc, List, [], ◌<◌, length, refl, ap, arith, ◌∙◌, subst}
-use Rattle.std.specs.Prelude.{Bool, Option, Some, None, slice_get, map}
+use Rattle.std.specs.Prelude.{Option, Some, None, slice_get, map}
 use Rattle.std.proofs.lemmas.Option.{slice_get_within}
 use Rattle.redundancy.specs.declared.block.Block.{Block}
 use Rattle.redundancy.specs.declared.block.Block.TheVariants.{Last, Behind, Two}
 use Rattle.redundancy.specs.declared.block.Cover.{Cover}
-use Rattle.redundancy.specs.Rows.{behind}
+use Rattle.redundancy.specs.Rows.{in_front}
+use Rattle.redundancy.specs.Fronts.{trits_of}
+use Rattle.redundancy.specs.declared.front.Front.{Front}
 use Rattle.redundancy.specs.Blocks.{last_row, rows_by, rows_within, rows_of, FitsAt}
 use Rattle.redundancy.proofs.Growing.{kept_place}
 
 -- each block leads to smaller numbers
 abbrev pub Lead : ℕ → Block → Type 0
 Lead number (Last decision) = Unit {0}
-Lead number (Behind trit block) = block < number
+Lead number (Behind front block) = block < number
 Lead number (Two first second) = (first < number) × (second < number)
 
 abbrev pub AllLead : List Block → Type 0
@@ -20,7 +22,7 @@ AllLead blocks = (number : ℕ) (block : Block) → slice_get blocks number ≡ 
 
 pub fits_lead : (covers : List Cover) (number : ℕ) (block : Block) → FitsAt covers number block → Lead number block
 fits_lead covers number (Last decision) h = tt
-fits_lead covers number (Behind trit block) h = h.0
+fits_lead covers number (Behind front block) h = h.0
 fits_lead covers number (Two first second) h = (h.0, h.1)
 
 pub all_lead : (blocks : List Block) (covers : List Cover) → ((number : ℕ) (block : Block) → slice_get blocks number ≡ Some block → FitsAt covers number block) → AllLead blocks
@@ -35,8 +37,8 @@ module _ (blocks more : List Block) where
       ((k : ℕ) → k < m → k < n → k < length blocks → Same m n k) → number < length blocks → rows_by (rows_within m (blocks ++ more)) b ≡ rows_by (rows_within n blocks) b
   by_block m n number None e lead lm ln h l = refl
   by_block m n number (Some (Last decision)) e lead lm ln h l = refl
-  by_block m n number (Some (Behind trit block)) e lead lm ln h l =
-      let k = lead number (Behind trit block) e in ap (map (behind trit)) (h block (omega (arith, k, lm)) (omega (arith, k, ln)) (omega (arith, k, l)))
+  by_block m n number (Some (Behind front block)) e lead lm ln h l =
+      let k = lead number (Behind front block) e in ap (map (in_front (trits_of front))) (h block (omega (arith, k, lm)) (omega (arith, k, ln)) (omega (arith, k, l)))
   by_block m n number (Some (Two first second)) e lead lm ln h l =
       let k = lead number (Two first second) e in
       ap (λ rows. rows ++ rows_within m (blocks ++ more) second) (h first (omega (arith, k.0, lm)) (omega (arith, k.0, ln)) (omega (arith, k.0, l)))
@@ -70,11 +72,11 @@ by_place blocks number block e = ap (rows_by (rows_within number blocks)) e
 pub last_rows : (blocks : List Block) (number decision : ℕ) → slice_get blocks number ≡ Some (Last decision) → rows_of blocks number ≡ last_row decision ∷ []
 last_rows blocks number decision e = by_place blocks number (Last decision) e
 
-pub behind_rows : (blocks : List Block) (number : ℕ) (trit : Option Bool) (block : ℕ) → AllLead blocks → slice_get blocks number ≡ Some (Behind trit block) →
-    rows_of blocks number ≡ map (behind trit) (rows_of blocks block)
-behind_rows blocks number trit block lead e =
-    let k = lead number (Behind trit block) e in
-    by_place blocks number (Behind trit block) e ∙ ap (map (behind trit)) (enough blocks number block lead k (omega (arith, k, slice_get_within blocks number (Behind trit block) e)))
+pub behind_rows : (blocks : List Block) (number : ℕ) (front : Front) (block : ℕ) → AllLead blocks → slice_get blocks number ≡ Some (Behind front block) →
+    rows_of blocks number ≡ map (in_front (trits_of front)) (rows_of blocks block)
+behind_rows blocks number front block lead e =
+    let k = lead number (Behind front block) e in
+    by_place blocks number (Behind front block) e ∙ ap (map (in_front (trits_of front))) (enough blocks number block lead k (omega (arith, k, slice_get_within blocks number (Behind front block) e)))
 
 pub two_rows : (blocks : List Block) (number first second : ℕ) → AllLead blocks → slice_get blocks number ≡ Some (Two first second) →
     rows_of blocks number ≡ rows_of blocks first ++ rows_of blocks second

@@ -6,25 +6,24 @@ use Rattle.std.proofs.lemmas.Bool.{cases_lt}
 use Rattle.std.proofs.lemmas.List.{length-append}
 use Rattle.std.proofs.lemmas.List.Folds.{list_any-append}
 use Rattle.std.proofs.lemmas.Option.{slice_get_within}
-use Rattle.ternary_words.specs.Word.{Trit, trit_agrees}
 use Rattle.redundancy.specs.declared.node.NodeId.{NodeId}
 use Rattle.redundancy.specs.declared.node.Node.{Node}
 use Rattle.redundancy.specs.declared.block.Block.{Block}
 use Rattle.redundancy.specs.declared.block.Block.TheVariants.{Last, Behind, Two}
 use Rattle.redundancy.specs.declared.block.Cover.{Cover}
 use Rattle.redundancy.specs.declared.blocks.Blocks.{Blocks}
-use Rattle.redundancy.specs.Rows.{Row, AreBits, behind, matches}
+use Rattle.redundancy.specs.declared.front.Front.{Front}
+use Rattle.redundancy.specs.Rows.{Row, AreBits, in_front, matches}
+use Rattle.redundancy.specs.Fronts.{trits_of}
 use Rattle.redundancy.specs.Diagram.{answer, is_in, Grows}
 use Rattle.redundancy.specs.Unions.{IsUnionOf}
 use Rattle.redundancy.specs.Blocks.{last_row, rows_by, rows_of, no_cover, cover_at, FitsAt, IsCover, AreBlocks, IsBlocks}
-use Rattle.redundancy.specs.Built.{IsBuilt, row_at, trit_at}
+use Rattle.redundancy.specs.Built.{IsBuilt, row_at}
 use Rattle.ternary_words.specs.declared.entry.Entry.{Entry}
-use Rattle.std.proofs.lemmas.List.{get_or_default}
-use Rattle.redundancy.proofs.Splits.{all_same, rows_behind, rows_append}
+use Rattle.redundancy.proofs.Fronts.{rows_in_front, cover_as}
 use Rattle.redundancy.proofs.Growing.{kept_place, same, twice}
 use Rattle.redundancy.proofs.Places.{old_item, last_item}
 use Rattle.redundancy.proofs.BlockRows.{AllLead, all_lead, rows_stay, last_rows, behind_rows, two_rows}
-use Rattle.redundancy.proofs.Run.{cover-behind}
 use Rattle.redundancy.proofs.Sifts.{blocks_stay}
 
 last_place : {X : Type 0} (xs : List X) (y : X) → slice_get (xs ++ y ∷ []) (length xs) ≡ Some y
@@ -52,7 +51,7 @@ module _ (nodes : List Node) (blocks : List Block) (covers : List Cover) (block 
 
   fits_old : (k : ℕ) (b : Block) → k < length covers → FitsAt covers k b → FitsAt (covers ++ cover ∷ []) k b
   fits_old k (Last decision) less f = bits_old k less ∙ f
-  fits_old k (Behind trit child) less f = (f.0, bits_old k less ∙ f.1 ∙ ap suc (sym (bits_old child (omega (arith, less, f.0)))))
+  fits_old k (Behind front child) less f = (f.0, f.1, bits_old k less ∙ f.2 ∙ ap (λ n. front.bits + n) (sym (bits_old child (omega (arith, less, f.0)))))
   fits_old k (Two first second) less f =
       (f.0, f.1, bits_old first (omega (arith, less, f.0)) ∙ f.2 ∙ sym (bits_old k less), bits_old second (omega (arith, less, f.1)) ∙ f.3 ∙ sym (bits_old k less))
 
@@ -64,9 +63,9 @@ module _ (nodes : List Node) (blocks : List Block) (covers : List Cover) (block 
 
   new_rows : (b : Block) → b ≡ block → AllLead blocks → AllLead (blocks ++ block ∷ []) → rows_of (blocks ++ block ∷ []) (length blocks) ≡ rows_by (rows_of blocks) (Some b)
   new_rows (Last decision) is lead all = last_rows (blocks ++ block ∷ []) (length blocks) decision (last_place blocks block ∙ ap Some (sym is))
-  new_rows (Behind trit child) is lead all =
+  new_rows (Behind front child) is lead all =
       let e = last_place blocks block ∙ ap Some (sym is) in
-      behind_rows (blocks ++ block ∷ []) (length blocks) trit child all e ∙ ap (map (behind trit)) (rows_stay blocks (block ∷ []) child lead (all (length blocks) (Behind trit child) e))
+      behind_rows (blocks ++ block ∷ []) (length blocks) front child all e ∙ ap (map (in_front (trits_of front))) (rows_stay blocks (block ∷ []) child lead (all (length blocks) (Behind front child) e))
   new_rows (Two first second) is lead all =
       let e = last_place blocks block ∙ ap Some (sym is) in
       let k = all (length blocks) (Two first second) e in
@@ -168,11 +167,6 @@ after s0 s1 b0 b1 w n rows g f = record {
 pub as_is : (s0 s1 : List Node) (b0 b1 : Blocks) (w v n : ℕ) (rows others : List Row) → w ≡ v → rows ≡ others → IsBuilt s0 s1 b0 b1 w rows n → IsBuilt s0 s1 b0 b1 v others n
 as_is s0 s1 b0 b1 w v n rows others e k f = subst (λ x. IsBuilt s0 s1 b0 b1 x others n) e (subst (λ rs. IsBuilt s0 s1 b0 b1 w rs n) k f)
 
--- what add promises, for any store
-abbrev pub Adds : Blocks → Blocks → Block → Cover → ℕ → Type 0
-Adds old new block cover number = (nodes : List Node) → IsBlocks nodes old → FitsAt (old.covers.items ++ cover ∷ []) (length old.blocks.keys) block →
-    IsCover nodes cover (rows_by (rows_of old.blocks.keys) (Some block)) → Added nodes old new number
-
 last_bits : (nodes : List Node) (old : Blocks) (cover : Cover) → IsBlocks nodes old → cover_at (old.covers.items ++ cover ∷ []) (length old.blocks.keys) ≡ cover
 last_bits nodes old cover h = last_item no_cover old.covers.items cover (length old.blocks.keys) h.count
 
@@ -182,15 +176,23 @@ old_bits nodes old cover k h less = ap (λ (c : Cover). c.bits) (old_item no_cov
 last_cover : (nodes : List Node) (cover : Cover) (decision : ℕ) → cover.bits ≡ 0 → cover.set.0 < length nodes → ((bits : List Bool) → answer nodes cover.set.0 bits ≡ 1) → IsCover nodes cover (last_row decision ∷ [])
 last_cover nodes cover decision e number h = record { number = number; set = λ bits ok. ap (λ n. not (n == 0)) (h bits) }
 
-pub last_built : (s0 s1 : List Node) (old new : Blocks) (cover : Cover) (decision number : ℕ) → Grows s0 s1 → IsBlocks s0 old → cover.bits ≡ 0 → cover.set.0 < length s1 →
-    ((bits : List Bool) → answer s1 cover.set.0 bits ≡ 1) → slice_get new.blocks.keys number ≡ Some (Last decision) → Adds old new (Last decision) cover number →
-    IsBuilt s0 s1 old new 0 (last_row decision ∷ []) number
-last_built s0 s1 old new cover decision number g h zero_bits cn ca found adds =
-    let h1 = blocks_stay s0 s1 old.blocks.keys old.covers.items g h in
-    let a = adds s1 h1 (ap (λ (c : Cover). c.bits) (last_bits s1 old cover h1) ∙ zero_bits) (last_cover s1 cover decision zero_bits cn ca) in
+last_named : (s0 s1 : List Node) (old new : Blocks) (decision number : ℕ) → slice_get new.blocks.keys number ≡ Some (Last decision) →
+    IsBuilt s0 s1 old new (cover_at new.covers.items number).bits (rows_of new.blocks.keys number) number → IsBuilt s0 s1 old new 0 (last_row decision ∷ []) number
+last_named s0 s1 old new decision number found a =
     as_is s0 s1 old new (cover_at new.covers.items number).bits 0 number (rows_of new.blocks.keys number) (last_row decision ∷ [])
-    (a.blocks.fits number (Last decision) found) (last_rows new.blocks.keys number decision found)
-    (after s0 s1 old new (cover_at new.covers.items number).bits number (rows_of new.blocks.keys number) g a)
+    (a.blocks.fits number (Last decision) found) (last_rows new.blocks.keys number decision found) a
+
+pub last_known : (nodes : List Node) (old new : Blocks) (decision number : ℕ) → IsBlocks nodes old → slice_get new.blocks.keys number ≡ Some (Last decision) →
+    new.blocks.keys ≡ old.blocks.keys → new.covers.items ≡ old.covers.items → IsBuilt nodes nodes old new 0 (last_row decision ∷ []) number
+last_known nodes old new decision number h found keys covers = last_named nodes nodes old new decision number found (add_known nodes old new (Last decision) number h found keys covers)
+
+pub last_built : (s0 s1 : List Node) (old new : Blocks) (cover : Cover) (decision number : ℕ) → Grows s0 s1 → IsBlocks s0 old → cover.bits ≡ 0 → cover.set.0 < length s1 →
+    ((bits : List Bool) → answer s1 cover.set.0 bits ≡ 1) → slice_get new.blocks.keys number ≡ Some (Last decision) → new.blocks.keys ≡ old.blocks.keys ++ Last decision ∷ [] →
+    new.covers.items ≡ old.covers.items ++ cover ∷ [] → IsBuilt s0 s1 old new 0 (last_row decision ∷ []) number
+last_built s0 s1 old new cover decision number g h zero_bits cn ca found keys covers =
+    let h1 = blocks_stay s0 s1 old.blocks.keys old.covers.items g h in
+    let a = add_built s1 old new (Last decision) cover number h1 (ap (λ (c : Cover). c.bits) (last_bits s1 old cover h1) ∙ zero_bits) (last_cover s1 cover decision zero_bits cn ca) found keys covers in
+    last_named s0 s1 old new decision number found (after s0 s1 old new (cover_at new.covers.items number).bits number (rows_of new.blocks.keys number) g a)
 
 two_cover : (nodes : List Node) (cover left right : Cover) (rows more : List Row) → cover.bits ≡ left.bits → right.bits ≡ left.bits → IsCover nodes left rows → IsCover nodes right more →
     IsUnionOf nodes (record { bits = left.bits; left = left.set; right = right.set }) cover.set.0 → IsCover nodes cover (rows ++ more)
@@ -202,75 +204,101 @@ two_cover nodes cover left right rows more e k l r u = record {
       ∙ sym (list_any-append (matches bits) rows more);
 }
 
-pub two_built : (s0 s1 : List Node) (old new : Blocks) (cover left right : Cover) (first second number : ℕ) → Grows s0 s1 → IsBlocks s0 old → first < length old.blocks.keys → second < length old.blocks.keys →
-    (cover_at old.covers.items second).bits ≡ (cover_at old.covers.items first).bits → left ≡ cover_at old.covers.items first → right ≡ cover_at old.covers.items second → cover.bits ≡ left.bits →
-    IsUnionOf s1 (record { bits = left.bits; left = left.set; right = right.set }) cover.set.0 → slice_get new.blocks.keys number ≡ Some (Two first second) → Adds old new (Two first second) cover number →
+two_named : (s0 s1 : List Node) (old new : Blocks) (first second number : ℕ) → first < length old.blocks.keys → second < length old.blocks.keys → slice_get new.blocks.keys number ≡ Some (Two first second) →
+    IsBuilt s0 s1 old new (cover_at new.covers.items number).bits (rows_of new.blocks.keys number) number →
     IsBuilt s0 s1 old new (cover_at old.covers.items first).bits (rows_of old.blocks.keys first ++ rows_of old.blocks.keys second) number
-two_built s0 s1 old new cover left right first second number g h lf ls same_bits le re ce u found adds =
-    let h1 = blocks_stay s0 s1 old.blocks.keys old.covers.items g h in
-    let bits_are : cover.bits ≡ (cover_at old.covers.items first).bits = ce ∙ ap (λ (c : Cover). c.bits) le in
-    let here = ap (λ (c : Cover). c.bits) (last_bits s1 old cover h1) ∙ bits_are in
-    let a = adds s1 h1 (lf, ls, old_bits s1 old cover first h1 lf ∙ sym here, old_bits s1 old cover second h1 ls ∙ same_bits ∙ sym here)
-    (two_cover s1 cover left right (rows_of old.blocks.keys first) (rows_of old.blocks.keys second) ce (ap (λ (c : Cover). c.bits) re ∙ same_bits ∙ sym (ap (λ (c : Cover). c.bits) le))
-    (subst (λ (c : Cover). IsCover s1 c (rows_of old.blocks.keys first)) (sym le) (h1.covered first lf)) (subst (λ (c : Cover). IsCover s1 c (rows_of old.blocks.keys second)) (sym re) (h1.covered second ls)) u) in
+two_named s0 s1 old new first second number lf ls found a =
     let f = a.blocks.fits number (Two first second) found in
     as_is s0 s1 old new (cover_at new.covers.items number).bits (cover_at old.covers.items first).bits number (rows_of new.blocks.keys number) (rows_of old.blocks.keys first ++ rows_of old.blocks.keys second)
     (sym f.2 ∙ ap (λ (c : Cover). c.bits) (a.covers_stay first lf))
     (two_rows new.blocks.keys number first second (all_lead new.blocks.keys new.covers.items a.blocks.fits) found
     ∙ ap (λ rows. rows ++ rows_of new.blocks.keys second) (a.rows_stay first lf) ∙ ap (λ rows. rows_of old.blocks.keys first ++ rows) (a.rows_stay second ls))
-    (after s0 s1 old new (cover_at new.covers.items number).bits number (rows_of new.blocks.keys number) g a)
+    a
 
-by_trit : (nodes mid : List Node) (t : Trit) (set none low high child : ℕ) (rows : List Row) (b : Bool) (bits : List Bool) (s : Bool) → trit_agrees t b ≡ s →
-    (trit_agrees t b ≡ true → cond b high low ≡ child) → (trit_agrees t b ≡ false → cond b high low ≡ none) → ((more : List Bool) → answer mid none more ≡ 0) → is_in mid child bits ≡ list_any (matches bits) rows →
-    answer nodes set (b ∷ bits) ≡ answer mid (cond b high low) bits → is_in nodes set (b ∷ bits) ≡ (trit_agrees t b && list_any (matches bits) rows)
-by_trit nodes mid t set none low high child rows b bits true e inside outside nothing covers at =
-    ap (λ n. not (n == 0)) (at ∙ ap (λ n. answer mid n bits) (inside e)) ∙ covers ∙ ap (λ s. s && list_any (matches bits) rows) (sym e)
-by_trit nodes mid t set none low high child rows b bits false e inside outside nothing covers at =
-    ap (λ n. not (n == 0)) (at ∙ ap (λ n. answer mid n bits) (outside e) ∙ nothing bits) ∙ ap (λ s. s && list_any (matches bits) rows) (sym e)
+pub two_known : (nodes : List Node) (old new : Blocks) (first second number : ℕ) → IsBlocks nodes old → first < length old.blocks.keys → second < length old.blocks.keys →
+    slice_get new.blocks.keys number ≡ Some (Two first second) → new.blocks.keys ≡ old.blocks.keys → new.covers.items ≡ old.covers.items →
+    IsBuilt nodes nodes old new (cover_at old.covers.items first).bits (rows_of old.blocks.keys first ++ rows_of old.blocks.keys second) number
+two_known nodes old new first second number h lf ls found keys covers = two_named nodes nodes old new first second number lf ls found (add_known nodes old new (Two first second) number h found keys covers)
 
-behind_cover : (nodes mid : List Node) (t : Trit) (cover lower : Cover) (none low high : NodeId) (rows : List Row) → cover.bits ≡ suc lower.bits → IsCover mid lower rows → cover.set.0 < length nodes →
-    ((more : List Bool) → answer mid none.0 more ≡ 0) → (trit_agrees t false ≡ true → low ≡ lower.set) → (trit_agrees t false ≡ false → low ≡ none) → (trit_agrees t true ≡ true → high ≡ lower.set) →
-    (trit_agrees t true ≡ false → high ≡ none) → ((b : Bool) (bits : List Bool) → answer nodes cover.set.0 (b ∷ bits) ≡ answer mid (cond b high.0 low.0) bits) → IsCover nodes cover (map (behind t) rows)
-behind_cover nodes mid t cover lower none low high rows e covers number nothing li lo hi ho at = record { number = number; set = λ bits ok. in_set bits (subst (λ w. AreBits w bits) e ok) }
-  where
-    inside : (b : Bool) → trit_agrees t b ≡ true → cond b high.0 low.0 ≡ lower.set.0
-    inside true is = ap (λ (n : NodeId). n.0) (hi is)
-    inside false is = ap (λ (n : NodeId). n.0) (li is)
-
-    outside : (b : Bool) → trit_agrees t b ≡ false → cond b high.0 low.0 ≡ none.0
-    outside true is = ap (λ (n : NodeId). n.0) (ho is)
-    outside false is = ap (λ (n : NodeId). n.0) (lo is)
-
-    in_set : (bits : List Bool) → AreBits (suc lower.bits) bits → is_in nodes cover.set.0 bits ≡ list_any (matches bits) (map (behind t) rows)
-    in_set [] ok = absurd ok
-    in_set (b ∷ bits) ok =
-        by_trit nodes mid t cover.set.0 none.0 low.0 high.0 lower.set.0 rows b bits (trit_agrees t b) refl (inside b) (outside b) nothing (covers.set bits ok) (at b bits) ∙ sym (cover-behind t b bits rows)
-
-pub behind_built : (s0 s1 s2 : List Node) (old new : Blocks) (t : Trit) (cover lower : Cover) (none low high : NodeId) (child number : ℕ) → Grows s0 s1 → Grows s1 s2 → IsBlocks s0 old → child < length old.blocks.keys →
-    lower ≡ cover_at old.covers.items child → cover.bits ≡ suc lower.bits → cover.set.0 < length s2 → ((more : List Bool) → answer s1 none.0 more ≡ 0) →
-    (trit_agrees t false ≡ true → low ≡ lower.set) → (trit_agrees t false ≡ false → low ≡ none) → (trit_agrees t true ≡ true → high ≡ lower.set) → (trit_agrees t true ≡ false → high ≡ none) →
-    ((b : Bool) (bits : List Bool) → answer s2 cover.set.0 (b ∷ bits) ≡ answer s1 (cond b high.0 low.0) bits) → slice_get new.blocks.keys number ≡ Some (Behind t child) → Adds old new (Behind t child) cover number →
-    IsBuilt s0 s2 old new (suc (cover_at old.covers.items child).bits) (map (behind t) (rows_of old.blocks.keys child)) number
-behind_built s0 s1 s2 old new t cover lower none low high child number g k h less le ce cn nothing li lo hi ho at found adds =
+pub two_built : (s0 s1 : List Node) (old new : Blocks) (cover left right : Cover) (first second number : ℕ) → Grows s0 s1 → IsBlocks s0 old → first < length old.blocks.keys → second < length old.blocks.keys →
+    (cover_at old.covers.items second).bits ≡ (cover_at old.covers.items first).bits → left ≡ cover_at old.covers.items first → right ≡ cover_at old.covers.items second → cover.bits ≡ left.bits →
+    IsUnionOf s1 (record { bits = left.bits; left = left.set; right = right.set }) cover.set.0 → slice_get new.blocks.keys number ≡ Some (Two first second) →
+    new.blocks.keys ≡ old.blocks.keys ++ Two first second ∷ [] → new.covers.items ≡ old.covers.items ++ cover ∷ [] →
+    IsBuilt s0 s1 old new (cover_at old.covers.items first).bits (rows_of old.blocks.keys first ++ rows_of old.blocks.keys second) number
+two_built s0 s1 old new cover left right first second number g h lf ls same_bits le re ce u found keys covers =
     let h1 = blocks_stay s0 s1 old.blocks.keys old.covers.items g h in
-    let h2 = blocks_stay s1 s2 old.blocks.keys old.covers.items k h1 in
-    let bits_are : cover.bits ≡ suc (cover_at old.covers.items child).bits = ce ∙ ap (λ (c : Cover). suc c.bits) le in
-    let a = adds s2 h2 (less, ap (λ (c : Cover). c.bits) (last_bits s2 old cover h2) ∙ bits_are ∙ ap suc (sym (old_bits s2 old cover child h2 less)))
-    (behind_cover s2 s1 t cover lower none low high (rows_of old.blocks.keys child) ce (subst (λ (c : Cover). IsCover s1 c (rows_of old.blocks.keys child)) (sym le) (h1.covered child less)) cn nothing li lo hi ho at) in
-    let f = a.blocks.fits number (Behind t child) found in
-    as_is s0 s2 old new (cover_at new.covers.items number).bits (suc (cover_at old.covers.items child).bits) number (rows_of new.blocks.keys number) (map (behind t) (rows_of old.blocks.keys child))
-    (f.1 ∙ ap (λ (c : Cover). suc c.bits) (a.covers_stay child less))
-    (behind_rows new.blocks.keys number t child (all_lead new.blocks.keys new.covers.items a.blocks.fits) found ∙ ap (map (behind t)) (a.rows_stay child less))
-    (after s0 s2 old new (cover_at new.covers.items number).bits number (rows_of new.blocks.keys number) (twice s0 s1 s2 g k) a)
+    let bits_are : cover.bits ≡ (cover_at old.covers.items first).bits = ce ∙ ap (λ (c : Cover). c.bits) le in
+    let here = ap (λ (c : Cover). c.bits) (last_bits s1 old cover h1) ∙ bits_are in
+    let a = add_built s1 old new (Two first second) cover number h1 (lf, ls, old_bits s1 old cover first h1 lf ∙ sym here, old_bits s1 old cover second h1 ls ∙ same_bits ∙ sym here)
+    (two_cover s1 cover left right (rows_of old.blocks.keys first) (rows_of old.blocks.keys second) ce (ap (λ (c : Cover). c.bits) re ∙ same_bits ∙ sym (ap (λ (c : Cover). c.bits) le))
+    (subst (λ (c : Cover). IsCover s1 c (rows_of old.blocks.keys first)) (sym le) (h1.covered first lf)) (subst (λ (c : Cover). IsCover s1 c (rows_of old.blocks.keys second)) (sym re) (h1.covered second ls)) u)
+    found keys covers in
+    two_named s0 s1 old new first second number lf ls found (after s0 s1 old new (cover_at new.covers.items number).bits number (rows_of new.blocks.keys number) g a)
 
--- the block of entries that have one trit, behind that of their other trits
-pub behind_then : (s0 s1 s2 : List Node) (b0 b1 b2 : Blocks) (entries : List Entry) (n child number : ℕ) (t : Trit) (first : Entry) → 0 < length entries → first ≡ slice_index_or entries 0 first → t ≡ trit_at n first →
-    ((k : ℕ) (d : Entry) → suc k < length entries → trit_at n (slice_index_or entries (suc k) d) ≡ trit_at n (slice_index_or entries k d)) → IsBuilt s0 s1 b0 b1 n (map (row_at n) entries) child →
-    IsBuilt s1 s2 b1 b2 (suc (cover_at b1.covers.items child).bits) (map (behind t) (rows_of b1.blocks.keys child)) number → IsBuilt s0 s2 b0 b2 (suc n) (map (row_at (suc n)) entries) number
-behind_then s0 s1 s2 b0 b1 b2 entries n child number t first some at is neighbours f g =
-    as_is s0 s2 b0 b2 (suc (cover_at b1.covers.items child).bits) (suc n) number (map (behind t) (rows_of b1.blocks.keys child)) (map (row_at (suc n)) entries) (ap suc f.width_is)
-    (ap (map (behind t)) f.rows_are ∙ rows_behind entries n t (λ k d less. all_same entries n neighbours k d less ∙ ap (trit_at n) (get_or_default entries 0 d first some ∙ sym at) ∙ sym is))
-    (then s0 s1 s2 b0 b1 b2 n (suc (cover_at b1.covers.items child).bits) child number (map (row_at n) entries) (map (behind t) (rows_of b1.blocks.keys child)) f g)
+behind_named : (s0 s1 : List Node) (old new : Blocks) (front : Front) (child number : ℕ) → child < length old.blocks.keys → slice_get new.blocks.keys number ≡ Some (Behind front child) →
+    IsBuilt s0 s1 old new (cover_at new.covers.items number).bits (rows_of new.blocks.keys number) number →
+    IsBuilt s0 s1 old new (front.bits + (cover_at old.covers.items child).bits) (map (in_front (trits_of front)) (rows_of old.blocks.keys child)) number
+behind_named s0 s1 old new front child number less found a =
+    let f = a.blocks.fits number (Behind front child) found in
+    as_is s0 s1 old new (cover_at new.covers.items number).bits (front.bits + (cover_at old.covers.items child).bits) number (rows_of new.blocks.keys number) (map (in_front (trits_of front)) (rows_of old.blocks.keys child))
+    (f.2 ∙ ap (λ (c : Cover). front.bits + c.bits) (a.covers_stay child less))
+    (behind_rows new.blocks.keys number front child (all_lead new.blocks.keys new.covers.items a.blocks.fits) found ∙ ap (map (in_front (trits_of front))) (a.rows_stay child less))
+    a
+
+pub behind_known : (nodes : List Node) (old new : Blocks) (front : Front) (child number : ℕ) → IsBlocks nodes old → child < length old.blocks.keys →
+    slice_get new.blocks.keys number ≡ Some (Behind front child) → new.blocks.keys ≡ old.blocks.keys → new.covers.items ≡ old.covers.items →
+    IsBuilt nodes nodes old new (front.bits + (cover_at old.covers.items child).bits) (map (in_front (trits_of front)) (rows_of old.blocks.keys child)) number
+behind_known nodes old new front child number h less found keys covers =
+    behind_named nodes nodes old new front child number less found (add_known nodes old new (Behind front child) number h found keys covers)
+
+pub behind_built : (s0 s1 : List Node) (old new : Blocks) (front : Front) (cover lower : Cover) (child number : ℕ) → Grows s0 s1 → IsBlocks s0 old → child < length old.blocks.keys → front.bits ≤ 104 →
+    lower ≡ cover_at old.covers.items child → cover.bits ≡ front.bits + lower.bits →
+    ((width : ℕ) (rows : List Row) → IsCover s0 (record { bits = width; set = lower.set }) rows → IsCover s1 (record { bits = front.bits + width; set = cover.set }) (map (in_front (trits_of front)) rows)) →
+    slice_get new.blocks.keys number ≡ Some (Behind front child) → new.blocks.keys ≡ old.blocks.keys ++ Behind front child ∷ [] → new.covers.items ≡ old.covers.items ++ cover ∷ [] →
+    IsBuilt s0 s1 old new (front.bits + (cover_at old.covers.items child).bits) (map (in_front (trits_of front)) (rows_of old.blocks.keys child)) number
+behind_built s0 s1 old new front cover lower child number g h less wide le ce covers_it found keys covers =
+    let h1 = blocks_stay s0 s1 old.blocks.keys old.covers.items g h in
+    let bits_are : cover.bits ≡ front.bits + (cover_at old.covers.items child).bits = ce ∙ ap (λ (c : Cover). front.bits + c.bits) le in
+    let rows = rows_of old.blocks.keys child in
+    let below : IsCover s0 lower rows = subst (λ (c : Cover). IsCover s0 c rows) (sym le) (h.covered child less) in
+    let here = covers_it lower.bits rows (cover_as s0 lower (record { bits = lower.bits; set = lower.set }) rows rows refl refl refl below) in
+    let whole = cover_as s1 (record { bits = front.bits + lower.bits; set = cover.set }) cover (map (in_front (trits_of front)) rows) (map (in_front (trits_of front)) rows) ce refl refl here in
+    let a = add_built s1 old new (Behind front child) cover number h1
+    (less, wide, ap (λ (c : Cover). c.bits) (last_bits s1 old cover h1) ∙ bits_are ∙ ap (λ n. front.bits + n) (sym (old_bits s1 old cover child h1 less))) whole found keys covers in
+    behind_named s0 s1 old new front child number less found (after s0 s1 old new (cover_at new.covers.items number).bits number (rows_of new.blocks.keys number) g a)
+
+-- the block of entries that share the trits in front, behind that of their other trits
+pub behind_then : (s0 s1 s2 : List Node) (b0 b1 b2 : Blocks) (entries : List Entry) (front : Front) (left child number : ℕ) →
+    ((k : ℕ) (d : Entry) → k < length entries → in_front (trits_of front) (row_at left (slice_index_or entries k d)) ≡ row_at (front.bits + left) (slice_index_or entries k d)) →
+    IsBuilt s0 s1 b0 b1 left (map (row_at left) entries) child →
+    IsBuilt s1 s2 b1 b2 (front.bits + (cover_at b1.covers.items child).bits) (map (in_front (trits_of front)) (rows_of b1.blocks.keys child)) number →
+    IsBuilt s0 s2 b0 b2 (front.bits + left) (map (row_at (front.bits + left)) entries) number
+behind_then s0 s1 s2 b0 b1 b2 entries front left child number shared f g =
+    as_is s0 s2 b0 b2 (front.bits + (cover_at b1.covers.items child).bits) (front.bits + left) number (map (in_front (trits_of front)) (rows_of b1.blocks.keys child)) (map (row_at (front.bits + left)) entries)
+    (ap (λ n. front.bits + n) f.width_is)
+    (ap (map (in_front (trits_of front))) f.rows_are ∙ rows_in_front entries (trits_of front) left (front.bits + left) shared)
+    (then s0 s1 s2 b0 b1 b2 left (front.bits + (cover_at b1.covers.items child).bits) child number (map (row_at left) entries) (map (in_front (trits_of front)) (rows_of b1.blocks.keys child)) f g)
+
+one_row : (entries : List Entry) (front : Front) (n : ℕ) (first : Entry) → length entries ≡ 1 → first ≡ slice_index_or entries 0 first → in_front (trits_of front) (row_at 0 first) ≡ row_at n first →
+    map (in_front (trits_of front)) (last_row first.decision ∷ []) ≡ map (row_at n) entries
+one_row [] front n first one at h = absurd (omega (arith, one))
+one_row (e ∷ []) front n first one at h = ap (λ r. r ∷ []) (h ∙ ap (row_at n) at)
+one_row (e ∷ d ∷ entries) front n first one at h = absurd (omega (arith, one))
+
+-- the block of one entry
+pub one_then : (s0 s1 s2 : List Node) (b0 b1 b2 : Blocks) (entries : List Entry) (front : Front) (n child number : ℕ) (first : Entry) → length entries ≡ 1 → first ≡ slice_index_or entries 0 first → front.bits ≡ n →
+    in_front (trits_of front) (row_at 0 first) ≡ row_at n first → IsBuilt s0 s1 b0 b1 0 (last_row first.decision ∷ []) child →
+    IsBuilt s1 s2 b1 b2 (front.bits + (cover_at b1.covers.items child).bits) (map (in_front (trits_of front)) (rows_of b1.blocks.keys child)) number →
+    IsBuilt s0 s2 b0 b2 n (map (row_at n) entries) number
+one_then s0 s1 s2 b0 b1 b2 entries front n child number first one at wide h f g =
+    as_is s0 s2 b0 b2 (front.bits + (cover_at b1.covers.items child).bits) n number (map (in_front (trits_of front)) (rows_of b1.blocks.keys child)) (map (row_at n) entries)
+    (omega (arith, f.width_is, wide))
+    (ap (map (in_front (trits_of front))) f.rows_are ∙ one_row entries front n first one at h)
+    (then s0 s1 s2 b0 b1 b2 0 (front.bits + (cover_at b1.covers.items child).bits) child number (last_row first.decision ∷ []) (map (in_front (trits_of front)) (rows_of b1.blocks.keys child)) f g)
+
+rows_append : (xs ys : List Entry) (n : ℕ) → map (row_at n) (xs ++ ys) ≡ map (row_at n) xs ++ map (row_at n) ys
+rows_append [] ys n = refl
+rows_append (x ∷ xs) ys n = ap (λ rs. row_at n x ∷ rs) (rows_append xs ys n)
 
 -- the block of two lists of entries
 pub two_then : (s0 s1 s2 s3 : List Node) (b0 b1 b2 b3 : Blocks) (entries xs ys : List Entry) (n first second number : ℕ) → xs ++ ys ≡ entries → IsBuilt s0 s1 b0 b1 n (map (row_at n) xs) first →

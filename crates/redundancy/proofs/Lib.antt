@@ -12,7 +12,7 @@ pub mod Once
 pub mod BlockRows
 pub mod Sifts
 pub mod Builds
-pub mod Splits
+pub mod Fronts
 pub mod Passes
 pub mod Headers
 pub mod Chosen

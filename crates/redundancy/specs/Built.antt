@@ -1,7 +1,7 @@
 -- Blocks of the entries of a table.
-use Rattle.std.specs.Prelude.{◌≡◌, ℕ, ◌<◌, ◌≤◌, ◌/◌, ◌%◌, ◌^◌, nat_eq, List, length, slice_index_or}
+use Rattle.std.specs.Prelude.{◌≡◌, ℕ, ◌<◌, ◌≤◌, List, length}
 use Rattle.field_boxes.specs.Bits.{bits}
-use Rattle.ternary_words.specs.Word.{Trit, trit, trits}
+use Rattle.ternary_words.specs.Word.{trits}
 use Rattle.ternary_words.specs.declared.entry.Entry.{Entry}
 use Rattle.redundancy.specs.declared.node.Node.{Node}
 use Rattle.redundancy.specs.declared.blocks.Blocks.{Blocks}
@@ -12,14 +12,6 @@ use Rattle.redundancy.specs.Blocks.{IsBlocks, rows_of, cover_at}
 -- the entry's last so many trits
 abbrev pub row_at : ℕ → Entry → Row
 row_at n e = record { trits = trits (bits n e.word.mask) (bits n e.word.value); decision = e.decision }
-
--- the trit of the entry that so many others follow
-abbrev pub trit_at : ℕ → Entry → Trit
-trit_at n e = trit (nat_eq (e.word.mask / 2 ^ n % 2) 1) (nat_eq (e.word.value / 2 ^ n % 2) 1)
-
--- the entries have one trit at the place
-abbrev pub HaveTrit : ℕ → Trit → List Entry → Type 0
-HaveTrit n t entries = (k : ℕ) (d : Entry) → k < length entries → trit_at n (slice_index_or entries k d) ≡ t
 
 -- blocks were added, each old one is as it was, and the number is that of a block with these rows
 pub record IsBuilt (old_nodes nodes : List Node) (old new : Blocks) (width : ℕ) (rows : List Row) (number : ℕ) : Type 0 where

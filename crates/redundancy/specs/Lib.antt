@@ -5,6 +5,7 @@ pub mod Entries
 pub mod Contexts
 pub mod Diagram
 pub mod Unions
+pub mod Fronts
 pub mod Blocks
 pub mod Sifted
 pub mod Built

@@ -1,5 +1,5 @@
 -- Entries as trits and a decision, over any number of bits.
-use Rattle.std.specs.Prelude.{ℕ, zero, suc, Bool, cond, List, [], ◌∷◌}
+use Rattle.std.specs.Prelude.{ℕ, zero, suc, Bool, cond, List, [], ◌∷◌, ◌++◌}
 use Rattle.ternary_words.specs.Word.{Trit, agrees}
 
 -- some trits, and what the bits that they match are answered
@@ -30,3 +30,7 @@ answer_of bits rows = answer_or bits rows 0
 -- the row with a trit in front
 abbrev pub behind : Trit → Row → Row
 behind t r = record { trits = t ∷ r.trits; decision = r.decision }
+
+-- the row with trits in front
+abbrev pub in_front : List Trit → Row → Row
+in_front ts r = record { trits = ts ++ r.trits; decision = r.decision }

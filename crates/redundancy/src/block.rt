@@ -1,5 +1,6 @@
 //! Blocks of entries.
 
+use crate::front::Front;
 use crate::node::NodeId;
 
 /// A list of entries over their last trits, as many in each.
@@ -9,8 +10,8 @@ use crate::node::NodeId;
 pub(crate) enum Block {
     /// One entry with no trit left, by its decision.
     Last(u32),
-    /// The entries of a block, each with the trit in front.
-    Behind(Option<bool>, usize),
+    /// The entries of a block, each with the trits in front.
+    Behind(Front, usize),
     /// The entries of a block, and then those of another.
     Two(usize, usize),
 }

@@ -2,23 +2,24 @@
 
 use crate::block::{Block, Cover};
 use crate::blocks::Blocks;
-use crate::node::NodeId;
+use crate::front::Front;
 use crate::sets::Sets;
-use crate::splitting::{split_place, trit};
+use crate::splitting::{all_share, left_of, split_place};
 use razor_base::Memory;
 use ternary_words::Entry;
 
 impl Blocks {
-    ghost use Rattle.std.specs.Prelude.{◌≡◌, ◌<◌, ◌≤◌, ◌++◌, ◌∷◌, [], ℕ, suc, List, Some, slice_index_or, length, map, slice_get, IfOk, OnOk};
-    ghost use Rattle.redundancy.specs.declared.node.Node.{Node};
-    ghost use Rattle.redundancy.specs.Rows.{behind};
-    ghost use Rattle.redundancy.specs.Blocks.{IsBlocks, FitsAt, IsCover, rows_by, rows_of, cover_at, last_row};
-    ghost use Rattle.redundancy.specs.Built.{IsBuilt, row_at, trit_at};
+    ghost use Rattle.std.specs.Prelude.{◌≡◌, ◌<◌, ◌≤◌, ◌+◌, ◌++◌, ◌∷◌, [], ℕ, true, false, Some, slice_index_or, length, map, slice_get, IfOk};
+    ghost use Rattle.redundancy.specs.Rows.{in_front};
+    ghost use Rattle.redundancy.specs.Fronts.{trits_of};
+    ghost use Rattle.redundancy.specs.Blocks.{IsBlocks, rows_of, cover_at, last_row};
+    ghost use Rattle.redundancy.specs.Built.{IsBuilt, row_at};
     ghost use Rattle.ternary_words.specs.declared.entry.Entry.{Entry as Seen};
 
     /// The number of the block of the entries' last so many trits.
     ///
-    /// A list in which the first of these trits changes is cut in two near its middle, at a change.
+    /// The trits that all entries share stand in front of the block of the others. A list whose entries differ in
+    /// the first of these trits is cut in two near its middle, at a change.
     #[cycle(build)]
     pub fn of(&mut self, sets: &mut Sets, entries: &[Entry], bits: u8) -> Result<usize, Memory>
         requires blocks { IsBlocks sets.old self.old }
@@ -26,12 +27,15 @@ impl Blocks {
         requires bits { bits ≤ 104 }
         ensures { IfOk result (λ number. IsBuilt sets.old sets.new self.old self.new bits (map (row_at bits) entries.now) number) }
     {
-        if bits == 0 {
-            return self.of_last(sets, entries);
+        if entries.len() == 1 {
+            return self.of_one(sets, entries, bits);
         }
-        match split_place(entries, bits - 1) {
-            Some(place) => self.of_two(sets, entries, bits, place),
-            None => self.of_behind(sets, entries, bits - 1),
+        let left = left_of(entries, bits);
+        let front = Front::of(&entries[0], bits, left);
+        if left < bits && all_share(entries, front, left) {
+            self.of_behind(sets, entries, front, left)
+        } else {
+            self.of_two(sets, entries, bits, split_place(entries, bits))
         }
     }
 
@@ -57,34 +61,39 @@ impl Blocks {
         Ok(number)
     }
 
-    /// The same of entries that have one trit at the place.
+    /// The same of entries that share the trits before those that are left.
     #[cycle(build)]
-    fn of_behind(&mut self, sets: &mut Sets, entries: &[Entry], bits: u8) -> Result<usize, Memory>
+    fn of_behind(
+        &mut self,
+        sets: &mut Sets,
+        entries: &[Entry],
+        front: Front,
+        left: u8,
+    ) -> Result<usize, Memory>
         requires blocks { IsBlocks sets.old self.old }
-        requires some { 0 < length entries.now }
-        requires bits { bits < 104 }
-        requires same { (k : ℕ) (d : Seen) → suc k < length entries.now →
-            trit_at bits (slice_index_or entries.now (suc k) d) ≡ trit_at bits (slice_index_or entries.now k d) }
-        ensures { IfOk result (λ number. IsBuilt sets.old sets.new self.old self.new (suc bits) (map (row_at (suc bits)) entries.now) number) }
+        requires entries { 0 < length entries.now }
+        requires front { 0 < front.bits }
+        requires bits { front.bits + left ≤ 104 }
+        requires same { (k : ℕ) (d : Seen) → k < length entries.now →
+            in_front (trits_of front) (row_at left (slice_index_or entries.now k d)) ≡ row_at (front.bits + left) (slice_index_or entries.now k d) }
+        ensures { IfOk result (λ number. IsBuilt sets.old sets.new self.old self.new (front.bits + left) (map (row_at (front.bits + left)) entries.now) number) }
     {
-        let trit = trit(&entries[0], bits);
-        let child = self.of(sets, entries, bits)?;
-        let number = self.behind(sets, trit, child)?;
+        let child = self.of(sets, entries, left)?;
+        let number = self.behind(sets, front, child)?;
         Ok(number)
     }
 
-    /// The same of entries with no trit left: one, or two halves.
-    #[cycle(build)]
-    fn of_last(&mut self, sets: &mut Sets, entries: &[Entry]) -> Result<usize, Memory>
+    /// The same of one entry.
+    fn of_one(&mut self, sets: &mut Sets, entries: &[Entry], bits: u8) -> Result<usize, Memory>
         requires blocks { IsBlocks sets.old self.old }
-        requires some { 0 < length entries.now }
-        ensures { IfOk result (λ number. IsBuilt sets.old sets.new self.old self.new 0 (map (row_at 0) entries.now) number) }
+        requires one { length entries.now ≡ 1 }
+        requires bits { bits ≤ 104 }
+        ensures { IfOk result (λ number. IsBuilt sets.old sets.new self.old self.new bits (map (row_at bits) entries.now) number) }
     {
-        if entries.len() == 1 {
-            self.last(sets, entries[0].decision)
-        } else {
-            self.of_two(sets, entries, 0, entries.len() / 2)
-        }
+        let entry = &entries[0];
+        let child = self.last(sets, entry.decision)?;
+        let number = self.behind(sets, Front::of(entry, bits, 0), child)?;
+        Ok(number)
     }
 
     /// The block of one entry with no trit left.
@@ -92,29 +101,33 @@ impl Blocks {
         requires blocks { IsBlocks sets.old self.old }
         ensures { IfOk result (λ number. IsBuilt sets.old sets.new self.old self.new 0 (last_row decision ∷ []) number) }
     {
+        let (number, added) = self.place(Block::Last(decision))?;
+        if !added {
+            return Ok(number);
+        }
         let set = sets.leaf(1)?;
-        let number = self.add(Block::Last(decision), Cover { bits: 0, set })?;
+        self.covers.push(Cover { bits: 0, set })?;
         Ok(number)
     }
 
-    /// The block of another's entries with the trit in front.
-    fn behind(&mut self, sets: &mut Sets, trit: Option<bool>, child: usize) -> Result<usize, Memory>
+    /// The block of another's entries with the trits in front.
+    fn behind(&mut self, sets: &mut Sets, front: Front, child: usize) -> Result<usize, Memory>
         requires blocks { IsBlocks sets.old self.old }
         requires child { child < length self.old.blocks.keys }
-        requires bits { (cover_at self.old.covers.items child).bits < 104 }
-        ensures { IfOk result (λ number. IsBuilt sets.old sets.new self.old self.new (suc (cover_at self.old.covers.items child).bits)
-            (map (behind trit) (rows_of self.old.blocks.keys child)) number) }
+        requires bits { front.bits + (cover_at self.old.covers.items child).bits ≤ 104 }
+        ensures { IfOk result (λ number. IsBuilt sets.old sets.new self.old self.new (front.bits + (cover_at self.old.covers.items child).bits)
+            (map (in_front (trits_of front)) (rows_of self.old.blocks.keys child)) number) }
     {
+        let (number, added) = self.place(Block::Behind(front, child))?;
+        if !added {
+            return Ok(number);
+        }
         let below = self.cover(child);
-        let none = sets.leaf(0)?;
-        let low = part(trit, false, below.set, none);
-        let high = part(trit, true, below.set, none);
-        let set = sets.fork(low, high)?;
-        let cover = Cover {
-            bits: below.bits + 1,
+        let set = sets.in_front(front, below.set)?;
+        self.covers.push(Cover {
+            bits: front.bits + below.bits,
             set,
-        };
-        let number = self.add(Block::Behind(trit, child), cover)?;
+        })?;
         Ok(number)
     }
 
@@ -127,42 +140,28 @@ impl Blocks {
         ensures { IfOk result (λ number. IsBuilt sets.old sets.new self.old self.new (cover_at self.old.covers.items first).bits
             (rows_of self.old.blocks.keys first ++ rows_of self.old.blocks.keys second) number) }
     {
-        let left = self.cover(first);
-        let right = self.cover(second);
-        let set = sets.union(left.bits, left.set, right.set)?;
-        let cover = Cover {
-            bits: left.bits,
-            set,
-        };
-        let number = self.add(Block::Two(first, second), cover)?;
-        Ok(number)
-    }
-
-    /// The number of the block, which is added where it isn't there.
-    fn add(&mut self, block: Block, cover: Cover) -> Result<usize, Memory>
-        ensures found { IfOk result (λ number. slice_get self.new.blocks.keys number ≡ Some block) }
-        ensures blocks { (nodes : List Node) → IsBlocks nodes self.old → FitsAt (self.old.covers.items ++ cover ∷ []) (length self.old.blocks.keys) block →
-            IsCover nodes cover (rows_by (rows_of self.old.blocks.keys) (Some block)) → IfOk result (λ number. IsBuilt nodes nodes self.old self.new (cover_at self.new.covers.items number).bits (rows_of self.new.blocks.keys number) number) }
-    {
-        let (number, added) = self.blocks.insert_full(block)?;
+        let (number, added) = self.place(Block::Two(first, second))?;
         if !added {
             return Ok(number);
         }
-        self.covers.push(cover)?;
+        let left = self.cover(first);
+        let right = self.cover(second);
+        let set = sets.union(left.bits, left.set, right.set)?;
+        self.covers.push(Cover {
+            bits: left.bits,
+            set,
+        })?;
         Ok(number)
     }
-}
 
-ghost use Rattle.std.specs.Prelude.{◌≡◌, true, false};
-ghost use Rattle.ternary_words.specs.Word.{trit_agrees};
-
-/// The set where the trit allows the bit, and else none.
-fn part(trit: Option<bool>, bit: bool, set: NodeId, none: NodeId) -> NodeId
-    ensures inside { trit_agrees trit bit ≡ true → result ≡ set }
-    ensures outside { trit_agrees trit bit ≡ false → result ≡ none }
-{
-    match trit {
-        None => set,
-        Some(own) => { if own == bit { set } else { none } }
+    /// The number of the block, and whether it was added: then it has no cover yet.
+    fn place(&mut self, block: Block) -> Result<(usize, bool), Memory>
+        ensures found { IfOk result (λ r. slice_get self.new.blocks.keys r.0 ≡ Some block) }
+        ensures known { IfOk result (λ r. r.1 ≡ false → self.new.blocks.keys ≡ self.old.blocks.keys) }
+        ensures added { IfOk result (λ r. r.1 ≡ true → self.new.blocks.keys ≡ self.old.blocks.keys ++ block ∷ []) }
+        ensures covers { self.new.covers.items ≡ self.old.covers.items }
+    {
+        let (number, added) = self.blocks.insert_full(block)?;
+        Ok((number, added))
     }
 }

@@ -31,6 +31,7 @@ mod blocks;
 mod building;
 mod diagrams;
 mod distinct;
+mod front;
 mod joining;
 mod last;
 pub mod laws;

@@ -1,6 +1,7 @@
 //! Sets of lists of bits, as diagrams of 0 and other numbers.
 
 use crate::diagrams::Diagrams;
+use crate::front::Front;
 use crate::node::{NodeId, Sides};
 use razor_base::Memory;
 use std::alloc::Global;
@@ -28,9 +29,11 @@ impl Model for Sets {
 }
 
 impl Sets {
-    ghost use Rattle.std.specs.Prelude.{◌≡◌, ◌<◌, ◌-◌, ◌||◌, ℕ, Bool, List, [], ◌∷◌, length, if◌then◌else◌, IfOk, IfSome};
+    ghost use Rattle.std.specs.Prelude.{◌≡◌, ◌<◌, ◌≤◌, ◌+◌, ◌-◌, ◌||◌, ℕ, Bool, List, [], ◌∷◌, length, map, if◌then◌else◌, IfOk, IfSome};
     ghost use Rattle.redundancy.specs.Diagram.{answer, below, is_in, Grows, IsUnion};
-    ghost use Rattle.redundancy.specs.Rows.{AreBits};
+    ghost use Rattle.redundancy.specs.Rows.{Row, AreBits, in_front};
+    ghost use Rattle.redundancy.specs.Fronts.{trits_of};
+    ghost use Rattle.redundancy.specs.Blocks.{IsCover};
     ghost use Rattle.redundancy.specs.Unions.{IsUnionOf};
 
     /// No diagrams.
@@ -102,6 +105,27 @@ impl Sets {
         }
         let id = self.worked_out(bits, left, right)?;
         self.keep(sides, id)?;
+        Ok(id)
+    }
+
+    /// The set of the bits that the trits match, where the bits behind them are in the set.
+    pub fn in_front(&mut self, front: Front, inside: NodeId) -> Result<NodeId, Memory>
+        requires inside { inside.0 < length self.old }
+        requires bits { front.bits ≤ 104 }
+        ensures covers { (width : ℕ) (rows : List Row) → IsCover self.old (record { bits = width; set = inside }) rows →
+            IfOk result (λ id. IsCover self.new (record { bits = front.bits + width; set = id }) (map (in_front (trits_of front)) rows)) }
+        ensures number { IfOk result (λ id. id.0 < length self.new) }
+        ensures grows { Grows self.old self.new }
+    {
+        if front.bits == 0 {
+            return Ok(inside);
+        }
+        let trit = front.first();
+        let behind = self.in_front(front.rest(), inside)?;
+        let none = self.leaf(0)?;
+        let low = part(trit, false, behind, none);
+        let high = part(trit, true, behind, none);
+        let id = self.fork(low, high)?;
         Ok(id)
     }
 
@@ -201,5 +225,19 @@ impl Sets {
             Some(_) => Some(side),
             None => None,
         }
+    }
+}
+
+ghost use Rattle.std.specs.Prelude.{◌≡◌, true, false};
+ghost use Rattle.ternary_words.specs.Word.{trit_agrees};
+
+/// The set where the trit allows the bit, and else none.
+fn part(trit: Option<bool>, bit: bool, set: NodeId, none: NodeId) -> NodeId
+    ensures inside { trit_agrees trit bit ≡ true → result ≡ set }
+    ensures outside { trit_agrees trit bit ≡ false → result ≡ none }
+{
+    match trit {
+        None => set,
+        Some(own) => { if own == bit { set } else { none } }
     }
 }

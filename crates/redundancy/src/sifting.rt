@@ -5,6 +5,7 @@ use crate::below::below;
 use crate::block::Block;
 use crate::blocks::Blocks;
 use crate::distinct::Distinct;
+use crate::front::Front;
 use crate::joining::{joined, spread};
 use crate::last::last;
 use crate::memo::Memo;
@@ -15,10 +16,11 @@ use razor_base::Memory;
 use std::alloc::Global;
 
 impl Blocks {
-    ghost use Rattle.std.specs.Prelude.{◌≡◌, ◌<◌, ◌++◌, suc, Some, slice_get, length, map, IfOk, OnOk};
+    ghost use Rattle.std.specs.Prelude.{◌≡◌, ◌<◌, ◌≤◌, ◌+◌, ◌++◌, Some, slice_get, length, map, IfOk, OnOk};
     ghost use Rattle.redundancy.specs.declared.block.Block.TheVariants.{Two};
     ghost use Rattle.redundancy.specs.Remembered.{IsMemo};
-    ghost use Rattle.redundancy.specs.Rows.{behind};
+    ghost use Rattle.redundancy.specs.Rows.{in_front};
+    ghost use Rattle.redundancy.specs.Fronts.{trits_of};
     ghost use Rattle.redundancy.specs.Diagram.{Grows};
     ghost use Rattle.redundancy.specs.Blocks.{IsBlocks, rows_of, cover_at};
     ghost use Rattle.redundancy.specs.Sifted.{ArePairs, IsSifted};
@@ -46,8 +48,8 @@ impl Blocks {
                 let sifted = last(alloc, sets, decision, contexts)?;
                 Ok(sifted)
             }
-            Block::Behind(trit, child) => {
-                let sifted = self.sift_behind(alloc, sets, memo, trit, child, contexts)?;
+            Block::Behind(front, child) => {
+                let sifted = self.sift_behind(alloc, sets, memo, front, child, contexts)?;
                 Ok(sifted)
             }
             Block::Two(first, second) => {
@@ -115,28 +117,41 @@ impl Blocks {
         Ok(Sifted { kept, after })
     }
 
-    /// What is kept of the entries of a block with a trit in front.
+    /// What is kept of the entries of a block with trits in front.
     #[cycle(sift)]
     fn sift_behind(
         &self,
         alloc: Global,
         sets: &mut Sets,
         memo: &mut Memo,
-        trit: Option<bool>,
+        front: Front,
         child: usize,
         contexts: &[Pair],
     ) -> Result<Sifted, Memory>
         requires blocks { IsBlocks sets.old self.now }
         requires memo { IsMemo sets.old self.now memo.old }
         requires child { child < length self.now.blocks.keys }
+        requires bits { front.bits ≤ 104 }
         requires contexts { ArePairs sets.old contexts.now }
-        ensures sifted { IfOk result (λ s. IsSifted sets.new (suc (cover_at self.now.covers.items child).bits) (map (behind trit) (rows_of self.now.blocks.keys child)) contexts.now s) }
+        ensures sifted { IfOk result (λ s. IsSifted sets.new (front.bits + (cover_at self.now.covers.items child).bits) (map (in_front (trits_of front)) (rows_of self.now.blocks.keys child)) contexts.now s) }
         ensures memo { OnOk result (IsMemo sets.new self.now memo.new) }
         ensures grows { Grows sets.old sets.new }
     {
+        if front.bits == 0 {
+            let sifted = self.sift(alloc, sets, memo, child, contexts)?;
+            return Ok(sifted);
+        }
+        let trit = front.first();
         let lower = below(alloc, sets, trit, contexts)?;
         let distinct = Distinct::of(alloc, lower.as_slice())?;
-        let inner = self.sift(alloc, sets, memo, child, distinct.pairs.as_slice())?;
+        let inner = self.sift_behind(
+            alloc,
+            sets,
+            memo,
+            front.rest(),
+            child,
+            distinct.pairs.as_slice(),
+        )?;
         let Sifted { kept, after } = inner;
         let answers = spread(alloc, distinct.places.as_slice(), after.as_slice())?;
         let after = joined(alloc, sets, trit, contexts, answers.as_slice())?;

@@ -5,8 +5,8 @@ use Rattle.redundancy.proofs.blocks.Blocks.+build.Goals as goal
 
 pub of_behind-returns : goal.of_behind-returns
 of_behind-returns t c =
-    behind_then c.args.sets.now c.of.new.sets c.behind.new.sets c.args.self.now c.of.new.self c.behind.new.self c.args.entries.now c.args.bits c.in_ok-child.child c.in_ok-number.number c.trit-trit.result c.index-entries-0.result
-    c.requires.some c.index-entries-0.is c.trit-trit.ensures c.requires.same c.in_ok-child.ensures c.in_ok-number.ensures
+    behind_then c.args.sets.now c.of.new.sets c.behind.new.sets c.args.self.now c.of.new.self c.behind.new.self c.args.entries.now c.args.front c.args.left c.in_ok-child.child c.in_ok-number.number
+    c.requires.same c.in_ok-child.ensures c.in_ok-number.ensures
 
 pub of_two-returns : goal.of_two-returns
 of_two-returns t c =

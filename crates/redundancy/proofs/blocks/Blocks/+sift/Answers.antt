@@ -1,9 +1,12 @@
-use Rattle.std.proofs.Common.{◌∷◌, ◌++◌, [], suc, ap, arith, refl, sym, ◌∙◌, subst}
+use Rattle.std.proofs.Common.{◌≡◌, ◌∷◌, ◌++◌, ◌+◌, ◌-◌, [], suc, ap, arith, refl, sym, ◌∙◌, subst}
 use Rattle.std.specs.HashMap.{get}
 use Rattle.std.specs.Prelude.{map, IfSome}
 use Rattle.std.proofs.lemmas.Option.{slice_get_within}
 use Rattle.redundancy.specs.declared.block.Block.TheVariants.{Two}
-use Rattle.redundancy.specs.Rows.{behind}
+use Rattle.redundancy.specs.declared.front.Front.{Front}
+use Rattle.redundancy.specs.Rows.{behind, in_front}
+use Rattle.redundancy.specs.Fronts.{trits_of}
+use Rattle.redundancy.proofs.Fronts.{none_in_front, one_in_front}
 use Rattle.redundancy.specs.Blocks.{last_row, rows_of, cover_at}
 use Rattle.redundancy.specs.Sifted.{ArePairs, AreDistinct, node_at}
 use Rattle.redundancy.proofs.Growing.{twice}
@@ -18,7 +21,7 @@ use Rattle.redundancy.proofs.blocks.Blocks.+sift.Goals as goal
 pub sift-sift_behind-requires : goal.sift-sift_behind-requires
 sift-sift_behind-requires t c =
     let f = c.requires.blocks.fits c.args.number _ c.in-Behind.ensures.found in
-    (omega (arith, c.decreases, f.0), (c.requires.blocks, (c.requires.memo, (omega (arith, f.0, c.requires.number), c.requires.contexts))))
+    (omega (arith, c.decreases, f.0, f.1), (c.requires.blocks, (c.requires.memo, (omega (arith, f.0, c.requires.number), (f.1, c.requires.contexts)))))
 
 pub sift-returns-in_ok-sifted-in-Last-clause-sifted :
     goal.sift-returns-in_ok-sifted-in-Last-clause-sifted
@@ -33,24 +36,40 @@ sift-returns-in_ok-sifted-in-Behind-clause-sifted t c =
     let blocks = c.args.self.now.blocks.keys in
     let k = c.in-Behind in
     let f = c.requires.blocks.fits c.args.number _ k.ensures.found in
-    moved c.sift_behind.new.sets (suc (cover_at c.args.self.now.covers.items k.child).bits) (cover_at c.args.self.now.covers.items c.args.number).bits
-    (map (behind k.trit) (rows_of blocks k.child)) (rows_of blocks c.args.number) c.args.contexts.now c.in_ok-sifted-in-Behind.sifted
-    f.1 (behind_rows blocks c.args.number k.trit k.child (leads c.args.sets.now blocks c.args.self.now.covers.items c.requires.blocks) k.ensures.found) c.in_ok-sifted-in-Behind.ensures.sifted
+    moved c.sift_behind.new.sets (k.front.bits + (cover_at c.args.self.now.covers.items k.child).bits) (cover_at c.args.self.now.covers.items c.args.number).bits
+    (map (in_front (trits_of k.front)) (rows_of blocks k.child)) (rows_of blocks c.args.number) c.args.contexts.now c.in_ok-sifted-in-Behind.sifted
+    f.2 (behind_rows blocks c.args.number k.front k.child (leads c.args.sets.now blocks c.args.self.now.covers.items c.requires.blocks) k.ensures.found) c.in_ok-sifted-in-Behind.ensures.sifted
 
 pub sift_behind-sift-requires : goal.sift_behind-sift-requires
-sift_behind-sift-requires t c =
+sift_behind-sift-requires t c = (omega (arith, c.decreases), (c.requires.blocks, (c.requires.memo, (c.requires.child, c.requires.contexts))))
+
+pub sift_behind-returns-then-front-eq0-clause-sifted : goal.sift_behind-returns-then-front-eq0-clause-sifted
+sift_behind-returns-then-front-eq0-clause-sifted t c =
+    let bits = (cover_at c.args.self.now.covers.items c.args.child).bits in
+    let rows = rows_of c.args.self.now.blocks.keys c.args.child in
+    let front = c.args.front in
+    moved c.sift.new.sets bits (front.bits + bits) rows (map (in_front (trits_of front)) rows) c.args.contexts.now c.in_ok-sifted.sifted
+    (omega (arith, c.if-front-eq0.true)) (none_in_front front rows c.if-front-eq0.true) c.in_ok-sifted.ensures.sifted
+
+pub sift_behind-sift_behind-requires : goal.sift_behind-sift_behind-requires
+sift_behind-sift_behind-requires t c =
     let nodes = c.args.sets.now in
     let keys = c.in_ok-distinct.distinct.pairs.keys in
     let h = c.in_ok-lower.ensures in
-    let k = subst (λ ps. AreDistinct ps keys c.in_ok-distinct.distinct.places.items) c.as_slice.ensures.value c.in_ok-distinct.ensures in (
-      omega (arith, c.decreases),
+    let k = subst (λ ps. AreDistinct ps keys c.in_ok-distinct.distinct.places.items) c.as_slice.ensures.value c.in_ok-distinct.ensures in
+    let shorter : c.rest.result.bits ≡ c.args.front.bits - 1 = ap (λ (f : Front). f.bits) c.rest.ensures in (
+      omega (arith, c.decreases, shorter, c.if-front-eq0.false),
       (
         c.requires.blocks,
         (
           c.requires.memo,
           (
             c.requires.child,
-            subst (ArePairs nodes) (sym c.as_slice-2.ensures.keys) (keys_pairs nodes c.args.trit c.args.contexts.now c.in_ok-lower.lower.items keys c.in_ok-distinct.distinct.places.items h k),
+            (
+              omega (arith, shorter, c.requires.bits),
+              subst (ArePairs nodes) (sym c.as_slice-2.ensures.keys)
+                  (keys_pairs nodes c.first-trit.result c.args.contexts.now c.in_ok-lower.lower.items keys c.in_ok-distinct.distinct.places.items h k),
+            ),
           ),
         ),
       ),
@@ -58,11 +77,20 @@ sift_behind-sift-requires t c =
 
 pub sift_behind-returns-clause-sifted : goal.sift_behind-returns-clause-sifted
 sift_behind-returns-clause-sifted t c =
-    behind_end c.args.sets.now c.sift.new.sets c.joined.new.sets c.args.trit c.args.contexts.now c.in_ok-lower.lower.items c.in_ok-distinct.distinct.pairs.keys c.as_slice.result.now c.as_slice-2.result.now
+    let bits = (cover_at c.args.self.now.covers.items c.args.child).bits in
+    let rows = rows_of c.args.self.now.blocks.keys c.args.child in
+    let front = c.args.front in
+    let rest = c.rest.result in
+    let trit = c.first-trit.result in
+    let shorter : rest.bits ≡ front.bits - 1 = ap (λ (f : Front). f.bits) c.rest.ensures in
+    let inner = map (in_front (trits_of rest)) rows in
+    moved c.joined.new.sets (suc (rest.bits + bits)) (front.bits + bits) (map (behind trit) inner) (map (in_front (trits_of front)) rows) c.args.contexts.now _
+    (omega (arith, shorter, c.if-front-eq0.false)) (one_in_front front rest trit rows (c.first-trit.ensures ∙ ap (λ (f : Front). trit ∷ trits_of f) (sym c.rest.ensures)))
+    (behind_end c.args.sets.now c.sift_behind.new.sets c.joined.new.sets trit c.args.contexts.now c.in_ok-lower.lower.items c.in_ok-distinct.distinct.pairs.keys c.as_slice.result.now c.as_slice-2.result.now
     c.in_ok-distinct.distinct.places.items c.as_slice-3.result.now c.in_ok-answers.answers.items c.as_slice-4.result.now c.as_slice-5.result.now c.in_ok-inner.inner _
-    (cover_at c.args.self.now.covers.items c.args.child).bits (rows_of c.args.self.now.blocks.keys c.args.child) c.in_ok-inner.ensures.grows c.in_ok-after.ensures.grows c.requires.contexts
+    (rest.bits + bits) inner c.in_ok-inner.ensures.grows c.in_ok-after.ensures.grows c.requires.contexts
     c.in_ok-lower.ensures c.as_slice.ensures.value c.in_ok-distinct.ensures c.as_slice-2.ensures.keys c.in_ok-inner.ensures.sifted c.as_slice-3.ensures.value c.as_slice-4.ensures.value
-    c.in_ok-answers.ensures.count c.in_ok-answers.ensures.each c.as_slice-5.ensures.value c.in_ok-after.ensures.count c.in_ok-after.ensures.each refl
+    c.in_ok-answers.ensures.count c.in_ok-answers.ensures.each c.as_slice-5.ensures.value c.in_ok-after.ensures.count c.in_ok-after.ensures.each refl)
 
 pub sift_two-returns-clause-sifted : goal.sift_two-returns-clause-sifted
 sift_two-returns-clause-sifted t c =
@@ -100,7 +128,7 @@ sift-returns-in_ok-sifted-in-Last-clause-memo t c =
 
 pub sift_behind-returns-clause-memo : goal.sift_behind-returns-clause-memo
 sift_behind-returns-clause-memo t c =
-    memo_stays c.sift.new.sets c.joined.new.sets c.args.self.now (λ q. get same_asked c.sift.new.memo.done q) c.in_ok-after.ensures.grows c.in_ok-inner.ensures.memo
+    memo_stays c.sift_behind.new.sets c.joined.new.sets c.args.self.now (λ q. get same_asked c.sift_behind.new.memo.done q) c.in_ok-after.ensures.grows c.in_ok-inner.ensures.memo
 
 pub sift_once-returns-in-Some-clause-sifted : goal.sift_once-returns-in-Some-clause-sifted
 sift_once-returns-in-Some-clause-sifted t c =
