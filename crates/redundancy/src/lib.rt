@@ -9,9 +9,9 @@
 //! ```
 //!
 //! Entries are seen as *blocks*: lists of entries over their last so many trits. A block is one entry with no
-//! trit left, a block with a trit in front of each entry, or two blocks in sequence. Blocks have numbers, equal
-//! blocks one, since composed tables repeat the same entries under many prefixes; each is kept with the set of
-//! the bits that it matches.
+//! trit left, a block with the same trits in front of each entry, or two blocks in sequence. Blocks have numbers,
+//! equal blocks one, since composed tables repeat the same entries under many prefixes; each is kept with the set
+//! of the bits that it matches.
 //!
 //! What is kept of a block is worked out for a list of *contexts*: for each, what is answered behind the block,
 //! and the set of what an entry before it matches. Of two blocks in sequence the second stands behind the first
