@@ -1,5 +1,5 @@
 //! Contexts, each once.
-ghost use Rattle.std.specs.Prelude.{◌≡◌, ◌⊎◌, ◌∷◌, ◌++◌, [], Some, slice_get, IfOk, OnOk};
+ghost use Rattle.std.specs.Prelude.{◌≡◌, ◌⊎◌, ◌∷◌, ◌++◌, [], true, Some, slice_get, IfOk, IfSome, OnOk};
 ghost use Rattle.redundancy.specs.Sifted.{AreDistinct};
 
 use crate::pair::Pair;
@@ -7,17 +7,46 @@ use indexmap::IndexSet;
 use razor_base::Memory;
 use std::alloc::Global;
 
+/// As many pairs are compared one by one; with more a set is asked.
+const FEW: usize = 16;
+
 /// Each pair of a list once, and for each place of the list where its pair is.
 #[derive(Drop)]
 pub(crate) struct Distinct {
-    pub pairs: IndexSet<Pair>,
+    pub pairs: Vec<Pair>,
     pub places: Vec<usize>,
 }
 
 impl Distinct {
     /// The pairs in the order in which they come first.
     pub fn of(alloc: Global, list: &[Pair]) -> Result<Distinct, Memory>
-        ensures { IfOk result (λ d. AreDistinct list.now d.pairs.keys d.places.items) }
+        ensures { IfOk result (λ d. AreDistinct list.now d.pairs.items d.places.items) }
+    {
+        if list.len() <= FEW {
+            let distinct = Distinct::of_few(alloc, list)?;
+            Ok(distinct)
+        } else {
+            let distinct = Distinct::of_many(alloc, list)?;
+            Ok(distinct)
+        }
+    }
+
+    /// The same of few pairs.
+    fn of_few(alloc: Global, list: &[Pair]) -> Result<Distinct, Memory>
+        ensures { IfOk result (λ d. AreDistinct list.now d.pairs.items d.places.items) }
+    {
+        let mut pairs = Vec::with_capacity(alloc, list.len())?;
+        let mut places = Vec::with_capacity(alloc, list.len())?;
+        for pair in list {
+            let place = place_among(&mut pairs, *pair)?;
+            places.push(place)?;
+        }
+        Ok(Distinct { pairs, places })
+    }
+
+    /// The same of many pairs.
+    fn of_many(alloc: Global, list: &[Pair]) -> Result<Distinct, Memory>
+        ensures { IfOk result (λ d. AreDistinct list.now d.pairs.items d.places.items) }
     {
         let mut pairs = IndexSet::new(alloc);
         let mut places = Vec::with_capacity(alloc, list.len())?;
@@ -25,8 +54,43 @@ impl Distinct {
             let place = place_in(&mut pairs, *pair)?;
             places.push(place)?;
         }
-        Ok(Distinct { pairs, places })
+        let own = pairs.as_slice().to_vec(alloc)?;
+        Ok(Distinct { pairs: own, places })
     }
+}
+
+/// The place of the pair, which the list gains where it isn't there.
+fn place_among(pairs: &mut Vec<Pair>, pair: Pair) -> Result<usize, Memory>
+    ensures found { IfOk result (λ place. slice_get pairs.new.items place ≡ Some pair) }
+    ensures keys { OnOk result ((pairs.new.items ≡ pairs.old.items) ⊎ (pairs.new.items ≡ pairs.old.items ++ pair ∷ [])) }
+{
+    match place_of(pairs.as_slice(), pair) {
+        Some(place) => Ok(place),
+        None => {
+            let place = pairs.len();
+            pairs.push(pair)?;
+            Ok(place)
+        }
+    }
+}
+
+/// Where the pair stands in the list.
+fn place_of(pairs: &[Pair], pair: Pair) -> Option<usize>
+    ensures { IfSome result (λ place. slice_get pairs.now place ≡ Some pair) }
+{
+    for (place, own) in pairs.iter().enumerate() {
+        if same(*own, pair) {
+            return Some(place);
+        }
+    }
+    None
+}
+
+/// Whether the pairs are of the same nodes.
+fn same(pair: Pair, other: Pair) -> bool
+    ensures { result ≡ true → pair ≡ other }
+{
+    pair.after.0 == other.after.0 && pair.met.0 == other.met.0
 }
 
 /// The place of the pair, which the set gains where it isn't there.

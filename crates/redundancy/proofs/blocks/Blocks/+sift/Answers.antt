@@ -54,7 +54,7 @@ sift_behind-returns-then-front-eq0-clause-sifted t c =
 pub sift_behind-sift_behind-requires : goal.sift_behind-sift_behind-requires
 sift_behind-sift_behind-requires t c =
     let nodes = c.args.sets.now in
-    let keys = c.in_ok-distinct.distinct.pairs.keys in
+    let keys = c.in_ok-distinct.distinct.pairs.items in
     let h = c.in_ok-lower.ensures in
     let k = subst (λ ps. AreDistinct ps keys c.in_ok-distinct.distinct.places.items) c.as_slice.ensures.value c.in_ok-distinct.ensures in
     let shorter : c.rest.result.bits ≡ c.args.front.bits - 1 = ap (λ (f : Front). f.bits) c.rest.ensures in (
@@ -67,7 +67,7 @@ sift_behind-sift_behind-requires t c =
             c.requires.child,
             (
               omega (arith, shorter, c.requires.bits),
-              subst (ArePairs nodes) (sym c.as_slice-2.ensures.keys)
+              subst (ArePairs nodes) (sym c.as_slice-2.ensures.value)
                   (keys_pairs nodes c.first-trit.result c.args.contexts.now c.in_ok-lower.lower.items keys c.in_ok-distinct.distinct.places.items h k),
             ),
           ),
@@ -86,10 +86,10 @@ sift_behind-returns-clause-sifted t c =
     let inner = map (in_front (trits_of rest)) rows in
     moved c.joined.new.sets (suc (rest.bits + bits)) (front.bits + bits) (map (behind trit) inner) (map (in_front (trits_of front)) rows) c.args.contexts.now _
     (omega (arith, shorter, c.if-front-eq0.false)) (one_in_front front rest trit rows (c.first-trit.ensures ∙ ap (λ (f : Front). trit ∷ trits_of f) (sym c.rest.ensures)))
-    (behind_end c.args.sets.now c.sift_behind.new.sets c.joined.new.sets trit c.args.contexts.now c.in_ok-lower.lower.items c.in_ok-distinct.distinct.pairs.keys c.as_slice.result.now c.as_slice-2.result.now
+    (behind_end c.args.sets.now c.sift_behind.new.sets c.joined.new.sets trit c.args.contexts.now c.in_ok-lower.lower.items c.in_ok-distinct.distinct.pairs.items c.as_slice.result.now c.as_slice-2.result.now
     c.in_ok-distinct.distinct.places.items c.as_slice-3.result.now c.in_ok-answers.answers.items c.as_slice-4.result.now c.as_slice-5.result.now c.in_ok-inner.inner _
     (rest.bits + bits) inner c.in_ok-inner.ensures.grows c.in_ok-after.ensures.grows c.requires.contexts
-    c.in_ok-lower.ensures c.as_slice.ensures.value c.in_ok-distinct.ensures c.as_slice-2.ensures.keys c.in_ok-inner.ensures.sifted c.as_slice-3.ensures.value c.as_slice-4.ensures.value
+    c.in_ok-lower.ensures c.as_slice.ensures.value c.in_ok-distinct.ensures c.as_slice-2.ensures.value c.in_ok-inner.ensures.sifted c.as_slice-3.ensures.value c.as_slice-4.ensures.value
     c.in_ok-answers.ensures.count c.in_ok-answers.ensures.each c.as_slice-5.ensures.value c.in_ok-after.ensures.count c.in_ok-after.ensures.each refl)
 
 pub sift_two-returns-clause-sifted : goal.sift_two-returns-clause-sifted
