@@ -6,3 +6,4 @@ pub mod Differences
 pub mod Kept
 pub mod Meeting
 pub mod Rest
+pub mod Coarsest

@@ -2,3 +2,4 @@ pub mod Difference
 pub mod Parting
 pub mod Agreement
 pub mod Agreed
+pub mod Joint

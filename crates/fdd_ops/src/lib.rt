@@ -20,12 +20,16 @@
 //! }
 //! ```
 //!
+//! Whoever walks two diagrams at once takes the intervals of a field on which both lead one way:
+//! [`joint`].
+//!
 //! `specs/Difference.antt` says what a least difference is.
 #![tactic(auto)]
 
 mod agreed;
 mod agreement;
 mod difference;
+mod joining;
 mod pair;
 mod parting;
 mod question;
@@ -34,3 +38,4 @@ mod tests;
 
 pub use agreement::agrees_where;
 pub use difference::least_difference;
+pub use joining::{JointEdge, joint};

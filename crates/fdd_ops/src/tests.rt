@@ -1,5 +1,6 @@
 //! Worked differences of small diagrams.
 mod agreement;
+mod joining;
 
 ghost use Rattle.std.specs.Prelude.{◌≡◌, ◌<◌, ◌≤◌, length};
 ghost use Rattle.field_boxes.specs.Fields.{greatest_of};

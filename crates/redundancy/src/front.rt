@@ -1,4 +1,4 @@
-//! Front in a row.
+//! Trits in a row.
 ghost use Rattle.std.specs.Prelude.{◌≡◌, ◌<◌, ◌≤◌, ◌-◌, ◌∷◌, ◌/◌, ◌%◌, ◌^◌, suc, nat_eq};
 ghost use Rattle.redundancy.specs.Rows.{in_front};
 ghost use Rattle.redundancy.specs.Fronts.{trits_of};
