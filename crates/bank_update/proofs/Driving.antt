@@ -1,0 +1,144 @@
+-- Runs of commands, one turn after another.
+use Rattle.std.proofs.Common.{◌≡◌, ℕ, ◌+◌, ◌≤◌, ◌<◌, Bool, List, [], ◌∷◌, ◌++◌, Option, Result, Ok, Err, inl, inr, refl, sym, ap, subst, ◌∙◌, append-nil, length, get_or, take, drop, take-append-drop, map, arith}
+use Rattle.std.specs.List.{concat}
+use Rattle.std.specs.Prelude.{All, IsErrAnd}
+use Rattle.std.proofs.lemmas.List.{get_or-map, length-map, map-append, take_more}
+use Rattle.std.proofs.lemmas.List.Elements.{All-get_or}
+use Rattle.std.proofs.lemmas.List.Folds.{concat-append}
+use Rattle.std.specs.Io.KnownBytes.{Appends}
+use Rattle.std.proofs.KnownBytes.{Appends-nil}
+use Rattle.razor_base.proofs.Output.{appends-then}
+use Rattle.ternary_words.specs.declared.table.Table.{Table}
+use Rattle.bank_update.specs.Machine.{State}
+use Rattle.bank_update.specs.Script.{Event, IsWithin}
+use Rattle.razor_base.specs.Output.{Writes}
+use Rattle.bank_update.specs.declared.drive.DriveError.{DriveError}
+use Rattle.bank_update.specs.declared.drive.DriveError.TheVariants as errors
+use Rattle.bank_update.specs.declared.script.Command.{Command}
+use Rattle.bank_update.specs.Commands.{event_of, events_of}
+use Rattle.bank_update.specs.Driven.{HasRun, HasRunFront, IsCutOff, Outcome, RanFront}
+use Rattle.bank_update.specs.Turns.{TakesTurn}
+use Rattle.bank_update.specs.Runs.{IsRun, RoseBy, Turn, fault_count, faults_of, line_of, lines_of, next, state_after}
+
+-- more steps fail later
+pub rose-more : (m n a b c : ℕ) → RoseBy m a b → RoseBy n b c → b ≤ c → RoseBy (m + n) a c
+rose-more m n a b c (inr last) q le = inr (omega arith)
+rose-more m n a b c (inl p) (inl q) le = inl (omega arith)
+rose-more m n a b c (inl p) (inr last) le = inr last
+
+-- one more turn
+pub after-turn : (tables : List Table) (s : State) (turns : List Turn) (turn : Turn) →
+    state_after tables s (turns ++ turn ∷ []) ≡ next tables (state_after tables s turns) turn.event turn.fails
+after-turn tables s [] turn = refl
+after-turn tables s (first ∷ turns) turn = after-turn tables (next tables s first.event first.fails) turns turn
+
+pub lines-turn : (tables : List Table) (s : State) (turns : List Turn) (turn : Turn) →
+    lines_of tables s (turns ++ turn ∷ []) ≡ lines_of tables s turns ++ line_of tables (state_after tables s turns) turn.event turn.fails ∷ []
+lines-turn tables s [] turn = refl
+lines-turn tables s (first ∷ turns) turn = ap (λ ls. line_of tables s first.event first.fails ∷ ls) (lines-turn tables (next tables s first.event first.fails) turns turn)
+
+pub faults-turn : (tables : List Table) (s : State) (turns : List Turn) (turn : Turn) →
+    fault_count tables s (turns ++ turn ∷ []) ≡ fault_count tables s turns + faults_of (state_after tables s turns) turn.event turn.fails
+faults-turn tables s [] turn = omega arith
+faults-turn tables s (first ∷ turns) turn =
+    ap (λ n. faults_of s first.event first.fails + n) (faults-turn tables (next tables s first.event first.fails) turns turn) ∙ omega arith
+
+-- nothing ran yet
+pub run-none : (tables : List Table) (s : State) (d : ℕ) → IsRun tables s s d d [] []
+run-none tables s d = record { turns = []; commands = refl; state = refl; printed = refl; counted = inl (omega arith) }
+
+-- one command more ran
+pub run-turn : {tables : List Table} {start s last : State} {a b c : ℕ} {events : List Event} {lines : List (List ℕ)} (event : Event) (fails : Bool) →
+    IsRun tables start s a b events lines → last ≡ next tables s event fails → RoseBy (faults_of s event fails) b c → b ≤ c →
+    IsRun tables start last a c (events ++ event ∷ []) (lines ++ line_of tables s event fails ∷ [])
+run-turn {tables = tables} {start = start} {s = s} {last = last} {a = a} {b = b} {c = c} {events = events} {lines = lines} event fails r is rose le =
+    let turn : Turn = record { event = event; fails = fails } in
+    record {
+      turns = r.turns ++ turn ∷ [];
+      commands = map-append (λ (t : Turn). t.event) r.turns (turn ∷ []) ∙ ap (λ es. es ++ event ∷ []) r.commands;
+      state = is ∙ ap (λ x. next tables x event fails) r.state ∙ sym (after-turn tables start r.turns turn);
+      printed = ap (λ ls. ls ++ line_of tables s event fails ∷ []) r.printed ∙ ap (λ x. lines_of tables start r.turns ++ line_of tables x event fails ∷ []) r.state ∙ sym (lines-turn tables start r.turns turn);
+      counted = subst (λ n. RoseBy n a c) (ap (λ x. fault_count tables start r.turns + faults_of x event fails) r.state ∙ sym (faults-turn tables start r.turns turn))
+          (rose-more (fault_count tables start r.turns) (faults_of s event fails) a b c r.counted rose le);
+    }
+
+-- the first commands of a script
+pub first-ran : (Ran : List Event → List (List ℕ) → Type 0) (events : List Event) (lines : List (List ℕ)) (i : ℕ) → Ran (take i events) lines → RanFront Ran events lines
+first-ran Ran events lines i ran = record { front = take i events; rest = drop i events; parts = sym (take-append-drop i events); ran = ran }
+
+-- the next command takes its turn, and its line is written
+pub goes-on : {S T E : Type 0} (w : S → Option (List ℕ)) {f : S → ℕ} (o : Option (List ℕ)) (a b : S) {tables : List Table} {start old new : State} {m n p : ℕ} (events more : List Event) {event : Event} {x : T} (r : Result T E) → r ≡ Ok x →
+    HasRun (IsRun tables start old m n) (Appends o (w a)) events → TakesTurn w f a b tables old new n p event r → more ≡ events ++ event ∷ [] →
+    HasRun (IsRun tables start new m p) (Appends o (w b)) more
+goes-on w {f = f} o a b {tables = tables} {start = start} {old = old} {new = new} {m = m} {n = n} {p = p} events more {event = event} r ok h t is =
+    let line = line_of tables old event t.breaks in
+    let writes = subst (Writes w f a b line) ok t.line in
+    record {
+      lines = h.lines ++ line ∷ [];
+      ran = subst (λ es. IsRun tables start new m p es (h.lines ++ line ∷ [])) (sym is) (run-turn event t.breaks h.ran t.state t.counted t.counts);
+      written = subst (Appends o (w b)) (ap (λ t. concat h.lines ++ t) (sym (append-nil line)) ∙ sym (concat-append h.lines (line ∷ [])))
+          (appends-then o (w a) (w b) (concat h.lines) line h.written writes.ok);
+    }
+
+-- the next command takes its turn, and its line is cut off
+pub is-cut-off : {S T E : Type 0} (w : S → Option (List ℕ)) {f : S → ℕ} (o : Option (List ℕ)) (a b : S) {tables : List Table} {start old new : State} {m n p : ℕ} {event : Event} {e : E} (events : List Event) (i : ℕ) (r : Result T E) → r ≡ Err e →
+    HasRun (IsRun tables start old m n) (Appends o (w a)) (take i events) → TakesTurn w f a b tables old new n p event r → take (i + 1) events ≡ take i events ++ event ∷ [] →
+    IsCutOff (IsRun tables start new m p) (Appends o (w b)) events
+is-cut-off w {f = f} o a b {tables = tables} {start = start} {old = old} {new = new} {m = m} {n = n} {p = p} {event = event} events i r err h t is =
+    let line = line_of tables old event t.breaks in
+    let writes = subst (Writes w f a b line) err t.line in
+    let cut = writes.err in
+    record {
+      lines = h.lines;
+      last = line;
+      part = cut.1.0;
+      lost = cut.0;
+      ran = first-ran (IsRun tables start new m p) events (h.lines ++ line ∷ []) (i + 1)
+          (subst (λ es. IsRun tables start new m p es (h.lines ++ line ∷ [])) (sym is) (run-turn event t.breaks h.ran t.state t.counted t.counts));
+      cut = cut.1.2;
+      written = appends-then o (w a) (w b) (concat h.lines) cut.1.0 h.written cut.1.1;
+    }
+
+-- the next command isn't done: nothing has changed
+pub stopped-before : {S : Type 0} (w : S → Option (List ℕ)) (o : Option (List ℕ)) (a b : S) {tables : List Table} {start s : State} {m n : ℕ} (t : State) (p : ℕ) (events : List Event) (i : ℕ) → t ≡ s → p ≡ n → b ≡ a →
+    HasRun (IsRun tables start s m n) (Appends o (w a)) (take i events) → HasRunFront (IsRun tables start t m p) (Appends o (w b)) events
+stopped-before w o a b {tables = tables} {start = start} {s = s} {m = m} {n = n} t p events i state count out h = record {
+  lines = h.lines;
+  ran = first-ran (IsRun tables start t m p) events h.lines i
+      (subst (λ q. IsRun tables start t m q (take i events) h.lines) (sym count) (subst (λ z. IsRun tables start z m n (take i events) h.lines) (sym state) h.ran));
+  written = subst (λ z. Appends o (w z) (concat h.lines)) (sym out) h.written;
+}
+
+-- no command ran yet, and nothing was written
+pub has-run-none : {S : Type 0} (w : S → Option (List ℕ)) (a : S) {tables : List Table} {s : State} {n : ℕ} → HasRun (IsRun tables s s n n) (Appends (w a) (w a)) []
+has-run-none w a {tables = tables} {s = s} {n = n} = record { lines = []; ran = run-none tables s n; written = Appends-nil (w a) }
+
+-- how a drive ends, where its error was handed on
+pub out-of-memory : {Ran : List Event → List (List ℕ) → Type 0} {Appended : List ℕ → Type 0} {events : List Event} (r : Result ℕ DriveError) → IsErrAnd r (λ e. e ≡ errors.Memory) → HasRunFront Ran Appended events → Outcome Ran Appended events r
+out-of-memory (Ok n) is h = absurd is
+out-of-memory {Ran = Ran} {Appended = Appended} {events = events} (Err e) is h = subst (λ x. Outcome Ran Appended events (Err x)) (sym is) h
+
+pub write-failed : {Ran : List Event → List (List ℕ) → Type 0} {Appended : List ℕ → Type 0} {events : List Event} (r : Result ℕ DriveError) → IsErrAnd r (λ e. e ≡ errors.WriteFault) → IsCutOff Ran Appended events → Outcome Ran Appended events r
+write-failed (Ok n) is h = absurd is
+write-failed {Ran = Ran} {Appended = Appended} {events = events} (Err e) is h = subst (λ x. Outcome Ran Appended events (Err x)) (sym is) h
+
+-- the command at a place of a script
+event_at : (script : List Event) (items xs : List Command) (i : ℕ) (item : Command) → events_of items ≡ script → xs ≡ items → i < length xs → item ≡ get_or xs i item → (i < length script) × (get_or script i (event_of item) ≡ event_of item)
+event_at script items xs i item seen same within is =
+    let long = ap length same in
+    let longer = length-map items event_of in
+    let longest = ap length seen in
+    let there : i < length items = omega (arith, within, long) in (
+      omega (arith, there, longer, longest),
+      ap (λ es. get_or es i (event_of item)) (sym seen) ∙ get_or-map event_of items i item (event_of item) there ∙ ap event_of (ap (λ ys. get_or ys i item) (sym same) ∙ sym is),
+    )
+
+pub next-event : (script : List Event) (items xs : List Command) (i : ℕ) (item : Command) → events_of items ≡ script → xs ≡ items → i < length xs → item ≡ get_or xs i item → take (i + 1) script ≡ take i script ++ event_of item ∷ []
+next-event script items xs i item seen same within is =
+    let at = event_at script items xs i item seen same within is in
+    take_more script i (event_of item) at.0 ∙ ap (λ e. take i script ++ e ∷ []) at.1
+
+pub event-within : (tables : ℕ) (script : List Event) (items xs : List Command) (i : ℕ) (item : Command) → events_of items ≡ script → xs ≡ items → i < length xs → item ≡ get_or xs i item → All (IsWithin tables) script → IsWithin tables (event_of item)
+event-within tables script items xs i item seen same within is all =
+    let at = event_at script items xs i item seen same within is in
+    subst (IsWithin tables) at.1 (All-get_or (IsWithin tables) script i (event_of item) at.0 all)

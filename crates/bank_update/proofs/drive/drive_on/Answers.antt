@@ -1,0 +1,35 @@
+use Rattle.std.proofs.Common.{◌<◌, length, ap, arith}
+use Rattle.bank_update.specs.Swapping.{Swapping}
+use Rattle.bank_update.proofs.Driving.{event-within, goes-on, is-cut-off, next-event, out-of-memory, stopped-before, write-failed}
+use Rattle.bank_update.proofs.drive.drive_on.Goals as goal
+
+pub take_turn-requires-clause-within : goal.take_turn-requires-clause-within
+take_turn-requires-clause-within g c =
+    event-within (length c.args.tables.now) c.args.script.now c.script.inside.commands.items c.deref-command-items.result.now c.loop-command.command-index c.command-item.result c.script.view_is c.deref-command-items.ensures.value
+    c.loop-command-test.true c.command-item.is c.requires
+
+pub returns-in_err-take_turn-clause-outcome : goal.returns-in_err-take_turn-clause-outcome
+returns-in_err-take_turn-clause-outcome g c =
+    let same = c.in_err-take_turn.ensures.refused in
+    out-of-memory c.from_residual.result c.from_residual.ensures.1
+    (stopped-before g.K.Sink.written (g.K.Sink.written c.args.out.now) c.loop-command.out c.take_turn.new.out c.take_turn.new.swapper.state (g.V.Device.faults c.take_turn.new.swapper.device) c.args.script.now c.loop-command.command-index
+    (ap (λ (v : Swapping g.row.V.Denot). v.state) same.0) (ap (λ (v : Swapping g.row.V.Denot). g.V.Device.faults v.device) same.0) same.1 c.loop-command.invariant.ran)
+
+pub returns-in_err-branch-clause-outcome : goal.returns-in_err-branch-clause-outcome
+returns-in_err-branch-clause-outcome g c =
+    let next = next-event c.args.script.now c.script.inside.commands.items c.deref-command-items.result.now c.loop-command.command-index c.command-item.result c.script.view_is c.deref-command-items.ensures.value
+    c.loop-command-test.true c.command-item.is in
+    write-failed c.from_residual-in_err-branch.result c.from_residual-in_err-branch.ensures.1
+    (is-cut-off g.K.Sink.written (g.K.Sink.written c.args.out.now) c.loop-command.out c.take_turn.new.out c.args.script.now c.loop-command.command-index c.in_ok-take_turn.field-0 c.in_err-branch.was c.loop-command.invariant.ran c.in_ok-take_turn.ensures.turn next)
+
+pub loop-command-preserved : goal.loop-command-preserved
+loop-command-preserved g c =
+    let next = next-event c.args.script.now c.script.inside.commands.items c.deref-command-items.result.now c.loop-command.command-index c.command-item.result c.script.view_is c.deref-command-items.ensures.value
+    c.loop-command-test.true c.command-item.is in
+    let turn = c.in_ok-take_turn.ensures.turn in
+    record {
+      ran = goes-on g.K.Sink.written (g.K.Sink.written c.args.out.now) c.loop-command.out c.take_turn.new.out _ _ c.in_ok-take_turn.field-0 c.in_ok-branch.was c.loop-command.invariant.ran turn next;
+      nothing = c.in_ok-take_turn.ensures.none;
+      counts = omega (arith, c.loop-command.invariant.counts, turn.counts);
+      written = omega (arith, c.loop-command.invariant.written, turn.line.counts);
+    }

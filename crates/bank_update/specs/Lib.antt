@@ -1,0 +1,13 @@
+pub mod Banks
+pub mod Writes
+pub mod Machine
+pub mod Sound
+pub mod Kept
+pub mod Next
+pub mod Swapping
+pub mod Script
+pub mod Commands
+pub mod Lines
+pub mod Runs
+pub mod Turns
+pub mod Driven

@@ -1,0 +1,52 @@
+ghost use Rattle.std.specs.Prelude.{◌≡◌, ◌∷◌, ◌≤◌, ◌<◌, [], length, take, drop, option_map, position, not, IsTrue, MatchOption};
+ghost use Rattle.filter_reader.specs.Lines.{is_blank};
+ghost use Rattle.filter_reader.specs.Tokens.{begins_token};
+ghost use Rattle.trace_run.specs.Columns.{columns, first_column};
+
+use filter_reader::is_blank;
+
+/// The place of the first byte that isn't blank.
+fn first_place(text: &[u8]) -> Option<usize>
+    ensures { result ≡ position (λ b. not (is_blank b)) text.now }
+{
+    text.iter().position(|&byte| !is_blank(byte))
+}
+
+/// The place of the first blank.
+fn first_blank(text: &[u8]) -> Option<usize>
+    ensures { result ≡ position is_blank text.now }
+{
+    text.iter().position(|&byte| is_blank(byte))
+}
+
+/// The line from its first column on; none where no column is left.
+fn from_column(line: &[u8]) -> Option<&[u8]>
+    ensures { MatchOption result (columns line.now ≡ []) (λ text. (columns line.now ≡ columns text.now) × IsTrue (begins_token text.now)) }
+{
+    match first_place(line) {
+        Some(place) => Some(&line[place..]),
+        None => None,
+    }
+}
+
+/// How many bytes the column that the text begins with has.
+fn column_len(text: &[u8]) -> usize
+    requires { IsTrue (begins_token text.now) }
+    ensures column { columns text.now ≡ take result text.now ∷ columns (drop result text.now) }
+    ensures within { result ≤ length text.now }
+{
+    match first_blank(text) {
+        Some(end) => end,
+        None => text.len(),
+    }
+}
+
+/// The first column of the line, and what stands behind it; none where no column is left.
+pub(crate) fn next_column(line: &[u8]) -> Option<(&[u8], &[u8])>
+    ensures first { option_map (λ parts. (parts.0.now, columns parts.1.now)) result ≡ first_column (columns line.now) }
+    ensures cut { MatchOption result (columns line.now ≡ []) (λ parts. columns line.now ≡ parts.0.now ∷ columns parts.1.now) }
+{
+    let text = from_column(line)?;
+    let len = column_len(text);
+    Some((&text[..len], &text[len..]))
+}
