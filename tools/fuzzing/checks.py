@@ -1,0 +1,129 @@
+"""What must hold of a run, by its words, its status and what it wrote. Used by tools/fuzz."""
+import dataclasses
+import re
+
+from fuzzing.commands import COMMANDS, FILES
+
+REASONS = {
+    "list": (
+        "no @|address|length|port form|port order|port range|protocol form|protocol mask|flags form|decision form|reserved word|extra column"
+        "|one rule too many|byte not ASCII|too many ranges"
+    ),
+    "table": "first line|word length|trit|padding|decision|count of entries differs, stated [0-9]+ found [0-9]+|not a prefix word|field form|value outside mask",
+    "trace": "too few columns|not a number|value too large",
+    "script": "unknown command|arguments",
+}
+LIMITS = {"list": 16_777_216, "table": 134_217_728, "trace": 67_108_864, "certificate": 268_435_456, "script": 1_048_576}
+
+NUMBER = "(0|[1-9][0-9]*)"
+NAME = r"(miss|#[1-9][0-9]*|[A-Za-z0-9_.-]{1,32})"
+DIFFER = f"differ( {NUMBER}){{5}} {NAME} {NAME}\n"
+WRONG = (
+    f"wrong row {NUMBER}: (form|not the next box|rule claim|entry claim|decisions differ, {NAME} {NAME}|ends early"
+    f"|count differs, stated {NUMBER} found {NUMBER})\n"
+)
+ENTRY = f"[0-9A-F]{{8}}/[0-9A-F]{{8}} [0-9A-F]{{8}}/[0-9A-F]{{8}} [0-9A-F]{{4}}/[0-9A-F]{{4}} [0-9A-F]{{4}}/[0-9A-F]{{4}} [0-9A-F]{{2}}/[0-9A-F]{{2}} {NAME}\n"
+TABLE = f"table 2 slot (104|144|288) composed {NUMBER} entries {NUMBER}\n({ENTRY})*"
+SPAN = f"{NUMBER}-{NUMBER}"
+SCRIPT_LINE = f"(begun {NUMBER}|busy|no room {NUMBER} {NUMBER} {NUMBER}|stage {NUMBER} of {NUMBER}( back)?|idle|device fault|{NAME})\n"
+
+OUTPUTS = {
+    "expand": TABLE,
+    "compile": TABLE,
+    "migrate": TABLE,
+    "equiv": "equal\n",
+    "cert": f"({SPAN} {SPAN} {SPAN} {SPAN} {SPAN} ({NUMBER}|-) ({NUMBER}|-)\n)*rows {NUMBER}\n",
+    "check": f"valid rows={NUMBER}\n",
+    "trace": f"({NAME}\n)*",
+    "drive": f"({SCRIPT_LINE})*",
+    "gen": "(@[^\n]*\n)*",
+    "selfrun": f"rules {NUMBER} composed {NUMBER} entries {NUMBER} headers 256 accept {NUMBER} deny {NUMBER} log {NUMBER} miss {NUMBER}\n",
+}
+
+
+@dataclasses.dataclass
+class Run:
+    """A run: its words and what they spell, whether all texts are right and the output is full, and what came of it."""
+
+    words: list
+    pairs: list
+    clean: bool
+    full: bool
+    unreadable: set = dataclasses.field(default_factory=set)
+    status: int = 0
+    out: str = ""
+    err: str = ""
+
+    def files(self):
+        """The file words of the command that is spelled."""
+        return [text for kind, text in self.pairs or () if kind in FILES]
+
+
+def matches(pattern, text):
+    return re.fullmatch(pattern, text) is not None
+
+
+def faults(run, usage):
+    """What is wrong with the run: nothing, or a sentence."""
+    if run.status < 0:
+        return f"signal {-run.status}"
+    try:
+        "".join(run.words).encode()
+    except UnicodeEncodeError:
+        return "" if (run.status, run.out, run.err) == (8, "", "") else "words that aren't text"
+    if run.pairs is None:
+        return "" if (run.status, run.out, run.err) == (2, "", usage) else "words that spell no command"
+    if run.status == 2:
+        return "words that spell a command"
+    name = run.words[0]
+    return of_status(run, COMMANDS[name]) or of_output(run, name) or of_message(run, name)
+
+
+def of_status(run, command):
+    allowed = {0, 3, 4, 5, 7}
+    if command.says_no:
+        allowed.add(1)
+    if run.full:
+        allowed.add(6)
+    if run.unreadable:
+        allowed -= {0, 1}
+    else:
+        allowed.discard(5)
+    if run.clean:
+        allowed.discard(3)
+    if not run.files():
+        allowed -= {3, 5}
+    elif run.files()[0] in run.unreadable:
+        allowed &= {5, 7}
+    return "" if run.status in allowed else f"status {run.status} where only {sorted(allowed)} may come"
+
+
+def of_output(run, name):
+    if run.full:
+        return ""
+    if run.status == 0:
+        pattern = OUTPUTS[name]
+    elif run.status == 1:
+        pattern = WRONG if name == "check" else DIFFER
+    elif name == "trace" or (name in ("drive", "cert") and run.status == 7):
+        pattern = "([^\n]+\n)*"
+    else:
+        pattern = ""
+    return "" if matches(pattern, run.out) else "an output of another form"
+
+
+def of_message(run, name):
+    files = [(kind, text) for kind, text in run.pairs if kind in FILES]
+    if run.status == 3:
+        patterns = [f"{re.escape(text)}: line [1-9][0-9]*: ({REASONS[kind]})\n" for kind, text in files if kind in REASONS]
+    elif run.status == 4:
+        patterns = [f"{re.escape(text)}: more than {LIMITS[kind]} bytes\n" for kind, text in files]
+        if COMMANDS[name].counts_entries:
+            patterns.append(f"{NUMBER} entries needed, limit {NUMBER}\n")
+    elif run.status == 5:
+        patterns = [f"{re.escape(text)}: read fault\n" for _, text in files if text in run.unreadable]
+    else:
+        patterns = [{6: "write fault\n", 7: "out of memory\n"}.get(run.status, "")]
+        if run.status == 0 and name in ("expand", "compile"):
+            patterns = [f"rules {NUMBER}, flagged {NUMBER}\n"]
+    return "" if any(matches(pattern, run.err) for pattern in patterns) else "a message of another form"

@@ -1,0 +1,90 @@
+"""The commands of the program, and which command words spell. Used by tools/fuzz."""
+import dataclasses
+import re
+
+FILES = ("list", "table", "trace", "certificate", "script")
+NUMBERS = {"seed": range(0, 2**31), "count": range(0, 65_537)}
+OPTIONS = {"--limit": range(1, 262_145), "--slot": (104, 144, 288), "--slots": range(1, 262_145)}
+
+
+@dataclasses.dataclass(frozen=True)
+class Command:
+    """A command: the kinds of its file and number words, and of those that may be repeated up to eight times."""
+
+    places: tuple
+    more: str = ""
+    options: tuple = ()
+    needed: tuple = ()
+    says_no: bool = False
+    counts_entries: bool = False
+
+    def kinds(self, count):
+        """The kind of each of so many words; none where the command doesn't take so many."""
+        if self.more:
+            last = count - len(self.places)
+            return self.places + (self.more,) * last if 1 <= last <= 8 else None
+        return self.places if count == len(self.places) else None
+
+
+COMMANDS = {
+    "expand": Command(("list",), options=("--limit", "--slot"), counts_entries=True),
+    "compile": Command(("list",), options=("--limit", "--slot"), counts_entries=True),
+    "equiv": Command(("list", "list"), says_no=True),
+    "cert": Command(("list", "table"), says_no=True),
+    "check": Command(("list", "table", "certificate"), says_no=True),
+    "trace": Command(("table", "trace")),
+    "drive": Command(("script",), more="table", options=("--slots",), needed=("--slots",)),
+    "gen": Command(("seed", "count")),
+    "selfrun": Command(("seed", "count"), counts_entries=True),
+    "migrate": Command(("table",)),
+}
+
+
+def built_commands(usage):
+    """The commands that the usage text names, and those of them that aren't known here."""
+    names = re.findall(r"^  (\w+)", usage, re.MULTILINE)
+    return [name for name in names if name in COMMANDS], [name for name in names if name not in COMMANDS]
+
+
+def in_range(text, values):
+    return re.fullmatch("[0-9]{1,10}", text) is not None and int(text) in values
+
+
+def parted(words, command):
+    """The options and the other words behind the name; none where an option isn't one, comes twice or has no value."""
+    options, places, ended = {}, [], False
+    rest = iter(words)
+    for word in rest:
+        if ended or word == "-" or not word.startswith("-"):
+            places.append(word)
+        elif word == "--":
+            ended = True
+        else:
+            name, sign, value = word.partition("=")
+            if not sign:
+                value = next(rest, None)
+            if name not in command.options or name in options or value is None:
+                return None
+            options[name] = value
+    return options, places
+
+
+def spelled(words, built):
+    """The kind and text of each file and number word of the command that the words spell, or none."""
+    if not words or words[0] not in built:
+        return None
+    command = COMMANDS[words[0]]
+    parts = parted(words[1:], command)
+    if parts is None:
+        return None
+    options, places = parts
+    kinds = command.kinds(len(places))
+    if kinds is None or any(name not in options for name in command.needed):
+        return None
+    if not all(in_range(value, OPTIONS[name]) for name, value in options.items()):
+        return None
+    pairs = list(zip(kinds, places))
+    if not all(in_range(text, NUMBERS[kind]) for kind, text in pairs if kind in NUMBERS):
+        return None
+    files = [text for kind, text in pairs if kind in FILES]
+    return pairs if len(set(files)) == len(files) else None

@@ -1,0 +1,170 @@
+"""Draws texts of each kind, and spoils them. Used by tools/fuzz."""
+
+FIELD_BITS = (32, 32, 16, 16, 8)
+DECISIONS = ("accept", "deny", "log", "a-b.c_9", "X" * 32)
+TOKENS = (
+    b"0", b"255", b"256", b"65535", b"65536", b"4294967295", b"4294967296", b"18446744073709551616", b"262144", b"262145", b"@", b"/", b":",
+    b",", b"-", b"#", b"#1", b"#65537", b"*", b"miss", b"0x", b"0xFF", b"0XfF/0x00", b"\r", b"\n", b"\t", b" ", b"\x00", b"\x80", b"rows 0",
+    b"table 1 slot 104 composed 0 entries 0", b"table 2 slot 288 composed 0 entries 1", b"begin 1", b"look", b"33", b"00", b"1e3", b"+1",
+)
+
+
+def address(random):
+    """An address of few, so that rules meet, with a length."""
+    length = random.choice((0, 1, 8, 15, 16, 24, 31, 32, random.randrange(33)))
+    parts = (random.choice((10, 192, 255)), random.choice((0, 1, 128)), random.choice((0, 255)), random.randrange(256))
+    return ".".join(map(str, parts)) + f"/{length}"
+
+
+def span(random):
+    ends = sorted(random.choice((0, 1, 22, 80, 443, 1023, 1024, 65_534, 65_535, random.randrange(65_536))) for _ in range(2))
+    low, high = random.choice((ends, (ends[0], ends[0]), (0, 65_535)))
+    return random.choice(("{} : {}", "{}:{}", "{} :\t{}", "0{} : 00{}")).format(low, high)
+
+
+def ports(random):
+    count = random.choice((1,) * 12 + (2, 3, 16))
+    return random.choice((",", " , ")).join(span(random) for _ in range(count))
+
+
+def rule_line(random):
+    protocol = random.choice(("0x06/0xFF", "0x11/0xff", "0X1/0xFF", "0x00/0x00", "0x6/0x0"))
+    columns = ["@" + address(random), address(random), ports(random), ports(random), protocol]
+    if random.random() < 0.3:
+        columns.append(random.choice(("0x0000/0x0000", "0x1000/0x1000", "0x0/0xFFFF")))
+    if random.random() < 0.8:
+        columns.append(random.choice(DECISIONS))
+    return random.choice(("\t", " ", " \t")).join(columns)
+
+
+def lines_of(random, most, line):
+    """Lines, with comments and blank lines among them, a carriage return at some ends, and at times no last line feed."""
+    end = random.choice(("\n", "\n", "\n", "\r\n"))
+    others = ("", " ", "# a comment", "\t#")
+    drawn = [random.choice(others) if random.random() < 0.1 else line(random) for _ in range(random.randrange(most + 1))]
+    text = "".join(each + end for each in drawn)
+    return (text.rstrip("\r\n") if random.random() < 0.1 else text).encode()
+
+
+def rule_list(random):
+    return lines_of(random, random.choice((2, 5, 12)), rule_line)
+
+
+def header(random):
+    return [random.choice((0, 2**bits - 1, 80, random.randrange(2**bits))) % 2**bits for bits in FIELD_BITS]
+
+
+def trace(random):
+    return lines_of(random, random.choice((3, 30)), lambda random: " ".join(map(str, header(random) + [7] * random.randrange(3))))
+
+
+def script(random):
+    def line(random):
+        return random.choice(("begin 1", "step", "step", "step", "abort", "stage", "look " + " ".join(map(str, header(random)))))
+
+    return lines_of(random, random.choice((3, 30)), line)
+
+
+def mask(random, bits):
+    """Mostly the mask of a prefix."""
+    if random.random() < 0.1:
+        return random.randrange(2**bits)
+    length = random.choice((0, bits, random.randrange(bits + 1)))
+    return 2**bits - 2 ** (bits - length)
+
+
+def decision(random):
+    return random.choice(DECISIONS + ("miss", "#1", "#65536"))
+
+
+def trits(value, mask_bits, bits):
+    return "".join("*" if not mask_bits >> place & 1 else str(value >> place & 1) for place in reversed(range(bits)))
+
+
+def table(random):
+    """A table in either version of its text."""
+    version, slot = random.choice((1, 2)), random.choice((104, 144, 288))
+    count = random.randrange(random.choice((2, 6, 20)))
+    lines = [f"table {version} slot {slot} composed {random.choice((count, 0, 262_144))} entries {count}"]
+    for _ in range(count):
+        masks = [mask(random, bits) for bits in FIELD_BITS]
+        values = [value & each for value, each in zip(header(random), masks)]
+        if version == 1:
+            word = "".join(map(trits, values, masks, FIELD_BITS)) + "*" * (slot - 104)
+        else:
+            word = " ".join(f"{value:0{bits // 4}X}/{each:0{bits // 4}X}" for value, each, bits in zip(values, masks, FIELD_BITS))
+        lines.append(f"{word} {decision(random)}")
+    return "".join(line + "\n" for line in lines).encode()
+
+
+def certificate(random):
+    """A certificate of one row, which is right for a list and a table without entries."""
+    claims = random.choice(("- -", "1 1", "1 -", "- 1"))
+    return f"0-4294967295 0-4294967295 0-65535 0-65535 0-255 {claims}\nrows 1\n".encode()
+
+
+DRAW = {"list": rule_list, "table": table, "trace": trace, "script": script, "certificate": certificate}
+
+
+def spoiled(random, text):
+    for _ in range(random.choice((1, 1, 2, 4))):
+        text = random.choice(SPOILS)(random, text)
+    return text
+
+
+def place(random, text):
+    return random.randrange(len(text) + 1)
+
+
+def cut(random, text):
+    return text[: place(random, text)]
+
+
+def without_front(random, text):
+    return text[place(random, text) :]
+
+
+def without_part(random, text):
+    first, last = sorted((place(random, text), place(random, text)))
+    return text[:first] + text[last:]
+
+
+def other_byte(random, text):
+    at = place(random, text)
+    return text[:at] + bytes([random.randrange(256)]) + text[at + 1 :]
+
+
+def with_token(random, text):
+    at = place(random, text)
+    return text[:at] + random.choice(TOKENS) + text[at + random.choice((0, 0, 1, 3)) :]
+
+
+def with_bytes(random, text):
+    at = place(random, text)
+    return text[:at] + random.randbytes(random.choice((1, 8, 100))) + text[at:]
+
+
+def lines_mixed(random, text):
+    lines = text.splitlines(keepends=True)
+    return b"".join(random.choice(lines) for _ in range(random.randrange(2 * len(lines)))) if lines else b"\n"
+
+
+def other_token(random, text):
+    words = text.split(b" ")
+    words[random.randrange(len(words))] = random.choice(TOKENS)
+    return b" ".join(words)
+
+
+def noise(random, text):
+    return random.randbytes(random.choice((0, 1, 50, 5000)))
+
+
+def other_kind(random, text):
+    return random.choice(tuple(DRAW.values()))(random)
+
+
+def long_line(random, text):
+    return text + random.choice(TOKENS) * random.choice((70, 3000, 70_000))
+
+
+SPOILS = (cut, cut, without_front, without_part, other_byte, other_byte, with_token, with_token, other_token, with_bytes, lines_mixed, noise, other_kind, long_line)
