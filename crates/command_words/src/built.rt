@@ -1,7 +1,7 @@
 //! The commands that are built.
 ghost use Rattle.std.specs.Prelude.{◌≡◌, map, IfSome};
 ghost use Rattle.std.specs.Option.{option_map};
-ghost use Rattle.command_words.specs.Built.{built_forms, plain_form, table_form};
+ghost use Rattle.command_words.specs.Built.{built_forms, plain_form, script_form, table_form};
 ghost use Rattle.command_words.specs.declared.form.Operands.TheVariants as code;
 ghost use Rattle.command_words.specs.Commands.{command_of};
 ghost use Rattle.command_words.specs.Views.{AreTaken, HaveFewWords, command_seen, form_seen};
@@ -47,8 +47,24 @@ fn plain_form(
     }
 }
 
+/// The form of a command that runs a script over one to eight tables in a memory of some slots.
+fn script_form(command: CommandName, name: &'static str) -> CommandForm
+    ensures form { form_seen result ≡ script_form command name.now }
+    ensures operands { result.operands ≡ code.Files 2 9 }
+{
+    CommandForm {
+        command,
+        name,
+        limit: Need::Never,
+        slot: Need::Never,
+        slots: Need::Always,
+        operands: Operands::Files { fewest: 2, most: 9 },
+        label: "SCRIPT TABLE ..",
+    }
+}
+
 /// The forms of the commands that are built, in the order of the usage text.
-pub fn built_forms() -> [CommandForm; 7]
+pub fn built_forms() -> [CommandForm; 8]
     ensures forms { map form_seen result ≡ built_forms }
     ensures few { HaveFewWords result }
 {
@@ -62,6 +78,7 @@ pub fn built_forms() -> [CommandForm; 7]
         plain_form(CommandName::Equiv, "equiv", two, "A B"),
         plain_form(CommandName::Check, "check", three, "LIST TABLE CERT"),
         plain_form(CommandName::Trace, "trace", two, "TABLE TRACE"),
+        script_form(CommandName::Drive, "drive"),
         plain_form(CommandName::Gen, "gen", drawing, "SEED N"),
         plain_form(CommandName::Migrate, "migrate", one, "TABLE"),
     ]

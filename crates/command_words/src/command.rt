@@ -27,18 +27,8 @@ pub struct Spelled<'a> {
     pub slots: Option<u32>,
     /// The two numbers of a command that has numbers, in their order.
     pub numbers: Option<[u32; 2]>,
-    files: PlainWords<'a>,
-}
-
-impl<'a> Spelled<'a> {
-    ghost use Rattle.std.specs.Prelude.{◌≡◌, List, map};
-
-    /// The file words, in order.
-    pub fn files(&self) -> &[&'a str]
-        ensures { map (λ word. word.now) result.now ≡ (command_seen self.now).files }
-    {
-        self.files.as_slice()
-    }
+    /// The file words, in their order, of which no two are equal.
+    pub files: PlainWords<'a>,
 }
 
 /// The command of the form with what was found among the words.

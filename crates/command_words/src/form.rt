@@ -11,6 +11,7 @@ pub enum CommandName {
     Equiv,
     Check,
     Trace,
+    Drive,
     Gen,
     Migrate,
 }

@@ -16,7 +16,7 @@
 //! ```text
 //! let command = built_command(&words)?; // of `expand --limit 5 in`
 //! let limit = command.limit; // Some(5)
-//! let files = command.files(); // ["in"]
+//! let files = command.files.as_slice(); // ["in"]
 //! ```
 #![tactic(auto)]
 
@@ -39,6 +39,7 @@ pub use built::{built_command, built_forms};
 pub use command::{Spelled, spelled_command};
 pub use form::{CommandForm, CommandName, Need, Operands};
 pub use option::OptionName;
+pub use plain::PlainWords;
 pub use usage::usage_parts;
 pub use words::Words;
 

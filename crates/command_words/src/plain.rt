@@ -6,7 +6,7 @@ const MOST: usize = 9;
 
 /// Up to nine words, which take no memory of their own.
 #[derive(Clone, Copy)]
-pub(crate) struct PlainWords<'a> {
+pub struct PlainWords<'a> {
     words: [&'a str; 9],
     count: usize,
     ghost within: { count ≤ 9 },
@@ -20,7 +20,7 @@ impl<'a> PlainWords<'a> {
     ghost use Rattle.command_words.specs.Parts.{few_words};
 
     /// No words.
-    pub fn new() -> PlainWords<'a>
+    pub(crate) fn new() -> PlainWords<'a>
         ensures { plain_seen result ≡ [] }
     {
         PlainWords {
@@ -31,13 +31,14 @@ impl<'a> PlainWords<'a> {
 
     /// The words, in order.
     pub fn as_slice(&self) -> &[&'a str]
-        ensures { map (λ word. word.now) result.now ≡ plain_seen self.now }
+        ensures words { map (λ word. word.now) result.now ≡ plain_seen self.now }
+        ensures few { length result.now ≤ 9 }
     {
         &self.words[..self.count]
     }
 
     /// Puts the word behind the others; none where there are nine.
-    pub fn push(&mut self, word: &'a str) -> Option<()>
+    pub(crate) fn push(&mut self, word: &'a str) -> Option<()>
         ensures { option_map (λ done. plain_seen self.new) result ≡ few_words (plain_seen self.old ++ word.entry.now ∷ []) }
     {
         if self.count == MOST {
@@ -49,7 +50,7 @@ impl<'a> PlainWords<'a> {
     }
 
     /// Puts the words behind the others; none where there would be more than nine.
-    pub fn push_all(&mut self, words: &'a [String]) -> Option<()>
+    pub(crate) fn push_all(&mut self, words: &'a [String]) -> Option<()>
         ensures { option_map (λ done. plain_seen self.new) result ≡ few_words (plain_seen self.old ++ map string_bytes words.entry.now) }
     {
         for word in words {

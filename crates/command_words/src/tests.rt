@@ -49,7 +49,7 @@ fn command_text(alloc: Global, spelled: Spelled<'_>) -> Result<String, Fail> {
     let mut text = option_text(alloc, "limit", spelled.limit)?;
     text.push_str(option_text(alloc, "slot", spelled.slot)?.as_str())?;
     text.push_str(option_text(alloc, "slots", spelled.slots)?.as_str())?;
-    for file in spelled.files() {
+    for file in spelled.files.as_slice() {
         text.push_str(file)?;
         text.push_str(";")?;
     }
@@ -171,7 +171,7 @@ fn built_commands_are_read_and_told(rt: HostRuntime) -> Result<(), Fail> {
     }
     assert_eq!(rt;
         usage.as_str(),
-        "  expand [--limit N] [--slot W] LIST\n  compile [--limit N] [--slot W] LIST\n  equiv A B\n  check LIST TABLE CERT\n  trace TABLE TRACE\n  gen SEED N\n  migrate TABLE\n"
+        "  expand [--limit N] [--slot W] LIST\n  compile [--limit N] [--slot W] LIST\n  equiv A B\n  check LIST TABLE CERT\n  trace TABLE TRACE\n  drive --slots N SCRIPT TABLE ..\n  gen SEED N\n  migrate TABLE\n"
     );
     Ok(())
 }

@@ -26,7 +26,7 @@ apart_first a b words h = λ e. first_differs (bytes_eq b a) _ _ ((bytes_eq-Deci
 apart_ends : (a b d : List ℕ) (words : List (List ℕ)) → IsTrue (all_differ (a ∷ b ∷ d ∷ words)) → a ≢ d
 apart_ends a b d words h = λ e. second_differs (bytes_eq b a) (bytes_eq d a) _ _ ((bytes_eq-Decides d a).1 (sym e)) h
 
-apart_later : (a : List ℕ) (words : List (List ℕ)) → IsTrue (all_differ (a ∷ words)) → IsTrue (all_differ words)
+pub apart_later : (a : List ℕ) (words : List (List ℕ)) → IsTrue (all_differ (a ∷ words)) → IsTrue (all_differ words)
 apart_later a words h = later_differ _ (all_differ words) h
 
 abbrev pub text_at : List (Bor (List ℕ)) → ℕ → List ℕ

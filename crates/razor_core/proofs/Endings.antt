@@ -7,10 +7,10 @@ use Rattle.razor_core.specs.declared.ending.Ending.TheVariants.{Done, No, BadLin
 use Rattle.trace_run.specs.Outcome.{GoesOn}
 use Rattle.trace_run.specs.Trace as traces
 use Rattle.trace_run.specs.Trace.{trace_within}
-use Rattle.razor_core.specs.Command.{Command, Make, Equiv, Check, Trace, Gen, Migrate}
+use Rattle.razor_core.specs.Command.{Command, Make, Equiv, Check, Trace, Drive, Gen, Migrate}
 use Rattle.razor_core.specs.Inputs.{BadLine, Value, list_value, table_value, lines_value, inputs, most_bytes, text_of_trace}
 use Rattle.razor_core.specs.Outside.{Outside, Tells}
-use Rattle.razor_core.specs.Standing.{IsCutOff, Stands, StandsCut, StandsShort, WritesInTurn, WritesLast}
+use Rattle.razor_core.specs.Standing.{IsCutOff, Stands, StandsCut, StandsShort, WritesInTurn, WritesNothing}
 use Rattle.razor_core.specs.Traced.{HasBadLine, bad_line_of, taken_of}
 use Rattle.razor_core.specs.Turns.{Stop, bad_line, too_long, too_many, stop_status, turns_of, Pass, IsFree, IsStopped, StopsLater}
 use Rattle.razor_core.specs.Ending.{status_of, ending_line, summary_text, IsDone, FailsToRead, Ends}
@@ -132,23 +132,25 @@ not_two (ReadFault file) = λ e. omega (arith, e)
 not_two WriteFault = λ e. omega (arith, e)
 not_two Memory = λ e. omega (arith, e)
 
-cut_unchanged : (command : Command) (before after : Outside) (file : List ℕ) → WritesLast (Some command) → StandsCut command before after file → Keeps before.written after.written
+cut_unchanged : (command : Command) (before after : Outside) (file : List ℕ) → WritesNothing (Some command) 5 → StandsCut command before after file → Keeps before.written after.written
 cut_unchanged (Make method sizes list) before after file last h = h
 cut_unchanged (Equiv left right) before after file last h = h
 cut_unchanged (Check list table certificate) before after file last h = h
 cut_unchanged (Trace table trace) before after file last h = absurd last
+cut_unchanged (Drive slots script tables) before after file last h = h
 cut_unchanged (Gen seed rules) before after file last h = h
 cut_unchanged (Migrate table) before after file last h = h
 
-short_unchanged : (command : Command) (before after : Outside) → WritesLast (Some command) → StandsShort command before after → Keeps before.written after.written
+short_unchanged : (command : Command) (before after : Outside) → WritesNothing (Some command) 7 → StandsShort command before after → Keeps before.written after.written
 short_unchanged (Make method sizes list) before after last h = h
 short_unchanged (Equiv left right) before after last h = h
 short_unchanged (Check list table certificate) before after last h = h
 short_unchanged (Trace table trace) before after last h = absurd last
+short_unchanged (Drive slots script tables) before after last h = absurd (last refl)
 short_unchanged (Gen seed rules) before after last h = h
 short_unchanged (Migrate table) before after last h = h
 
-pub unchanged_by : (command : Command) (before after : Outside) (ending : Ending) → Ends command before after ending → WritesLast (Some command) → status_of ending ≢ 0 → status_of ending ≢ 1 → status_of ending ≢ 6 →
+pub unchanged_by : (command : Command) (before after : Outside) (ending : Ending) → Ends command before after ending → WritesNothing (Some command) (status_of ending) → status_of ending ≢ 0 → status_of ending ≢ 1 → status_of ending ≢ 6 →
     Keeps before.written after.written
 unchanged_by command before after (Done summary) h last zero one six = absurd (zero refl)
 unchanged_by command before after No h last zero one six = absurd (one refl)

@@ -2,7 +2,9 @@ pub mod Apart
 pub mod Certified
 pub mod Compared
 pub mod DifferText
+pub mod Driven
 pub mod Ended
 pub mod Endings
+pub mod Tables
 pub mod Traced
 pub mod Turns

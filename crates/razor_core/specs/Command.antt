@@ -18,6 +18,7 @@ pub data Command : Type 0 where
   Equiv : List ℕ → List ℕ → Command
   Check : List ℕ → List ℕ → List ℕ → Command
   Trace : List ℕ → List ℕ → Command
+  Drive : ℕ → List ℕ → List (List ℕ) → Command
   Gen : ℕ → ℕ → Command
   Migrate : List ℕ → Command
 
@@ -53,16 +54,23 @@ over_three command (first ∷ second ∷ []) = None
 over_three command (first ∷ second ∷ third ∷ []) = Some (command first second third)
 over_three command (first ∷ second ∷ third ∷ other ∷ files) = None
 
--- a command by its name, its sizes, its numbers and its file words, of which no two are equal
-abbrev pub command_named : CommandName → Sizes → List ℕ → List (List ℕ) → Option Command
-command_named names.Expand sizes numbers files = over_one (Make Expand sizes) files
-command_named names.Compile sizes numbers files = over_one (Make Compile sizes) files
-command_named names.Equiv sizes numbers files = over_two Equiv files
-command_named names.Check sizes numbers files = over_three Check files
-command_named names.Trace sizes numbers files = over_two Trace files
-command_named names.Gen sizes numbers files = drawing numbers
-command_named names.Migrate sizes numbers files = over_one Migrate files
+-- the command over so many slots, a script and tables
+abbrev pub over_script : Option ℕ → List (List ℕ) → Option Command
+over_script None files = None
+over_script (Some slots) [] = None
+over_script (Some slots) (script ∷ tables) = Some (Drive slots script tables)
+
+-- a command by its name, its sizes, its slots, its numbers and its file words, of which no two are equal
+abbrev pub command_named : CommandName → Sizes → Option ℕ → List ℕ → List (List ℕ) → Option Command
+command_named names.Expand sizes slots numbers files = over_one (Make Expand sizes) files
+command_named names.Compile sizes slots numbers files = over_one (Make Compile sizes) files
+command_named names.Equiv sizes slots numbers files = over_two Equiv files
+command_named names.Check sizes slots numbers files = over_three Check files
+command_named names.Trace sizes slots numbers files = over_two Trace files
+command_named names.Drive sizes slots numbers files = over_script slots files
+command_named names.Gen sizes slots numbers files = drawing numbers
+command_named names.Migrate sizes slots numbers files = over_one Migrate files
 
 -- the command that the words spell, or none
 abbrev pub command_of : List (List ℕ) → Option Command
-command_of texts = option_and_then (λ spelled. command_named spelled.command (sizes_given spelled.limit spelled.slot) spelled.numbers spelled.files) (words.command_of built_forms texts)
+command_of texts = option_and_then (λ spelled. command_named spelled.command (sizes_given spelled.limit spelled.slot) spelled.slots spelled.numbers spelled.files) (words.command_of built_forms texts)

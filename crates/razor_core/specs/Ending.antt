@@ -11,8 +11,8 @@ use Rattle.razor_core.specs.declared.making.CompileError.TheVariants as errors
 use Rattle.razor_core.specs.Command.{Command}
 use Rattle.razor_core.specs.Inputs.{Input, Value, inputs, read_by}
 use Rattle.razor_core.specs.Outside.{Outside, Tells, AreReadThrough}
-use Rattle.razor_core.specs.Standing.{IsCutOff, Stands, StandsCut, StandsShort, WritesLast}
-use Rattle.razor_core.specs.Turns.{Stop, Pass, IsStopped, bad_line, too_long, too_many, turn}
+use Rattle.razor_core.specs.Standing.{IsCutOff, Stands, StandsCut, StandsShort, WritesNothing}
+use Rattle.razor_core.specs.Turns.{Stop, Pass, IsStopped, bad_line, too_long, too_many, stop_status, turn}
 use Rattle.razor_core.specs.Outcome.{Outcome, Gives}
 use Rattle.razor_core.specs.Messages.{rules_line, bad_line_line, too_long_line, too_many_line, read_fault_line, write_fault_line, memory_line}
 
@@ -64,7 +64,7 @@ ending_line Memory = memory_line
 
 -- where the desk tells, the command is ended by this, and what stands then
 pub record Stops (command : Command) (before after : Outside) (stop : Stop) : Type 0 where
-  pub unchanged : WritesLast (Some command) → Keeps before.written after.written
+  pub unchanged : WritesNothing (Some command) (stop_status stop) → Keeps before.written after.written
   pub stopped : Tells before command → IsStopped command before stop
   pub stands : Tells before command → Stands command before after
 

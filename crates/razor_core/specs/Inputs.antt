@@ -1,16 +1,19 @@
 -- The inputs of a command, in the order in which they are read, and what their texts come to.
-use Rattle.std.specs.Prelude.{ℕ, Bool, true, false, nat_lt, List, [], ◌∷◌, Result, Ok, Err}
+use Rattle.std.specs.Prelude.{ℕ, Bool, true, false, nat_lt, List, [], ◌∷◌, length, map, Result, Ok, Err}
 use Rattle.filter_reader.specs.FilterList as lists
 use Rattle.table_text.specs.Reading as tables
+use Rattle.bank_update.specs.Script as scripts
 use Rattle.ternary_words.specs.Table.{Table}
-use Rattle.razor_core.specs.Command.{Command, Make, Equiv, Check, Trace, Gen, Migrate}
+use Rattle.razor_core.specs.Command.{Command, Make, Equiv, Check, Trace, Drive, Gen, Migrate}
 use Rattle.razor_core.specs.declared.line_reason.LineReason.{LineReason}
-use Rattle.razor_core.specs.declared.line_reason.LineReason.TheVariants.{OfList, OfTable}
+use Rattle.razor_core.specs.declared.line_reason.LineReason.TheVariants.{OfList, OfTable, OfScript}
 
--- the kinds of texts: lists and tables are read whole, traces and certificates are taken line by line
+-- the kinds of texts: lists, tables and scripts, which name so many tables, are read whole; traces and certificates are
+-- taken line by line
 pub data Kind : Type 0 where
   text_of_list : Kind
   text_of_table : Kind
+  text_of_script : ℕ → Kind
   text_of_trace : Kind
   text_of_certificate : Kind
 
@@ -27,6 +30,10 @@ list_input name = record { name = name; kind = text_of_list }
 abbrev pub table_input : List ℕ → Input
 table_input name = record { name = name; kind = text_of_table }
 
+-- a script under this name, which names so many tables
+abbrev pub script_input : ℕ → List ℕ → Input
+script_input tables name = record { name = name; kind = text_of_script tables }
+
 -- a trace under this name
 abbrev pub trace_input : List ℕ → Input
 trace_input name = record { name = name; kind = text_of_trace }
@@ -41,6 +48,7 @@ inputs (Make method sizes list) = list_input list ∷ []
 inputs (Equiv left right) = list_input left ∷ list_input right ∷ []
 inputs (Check list table certificate) = list_input list ∷ table_input table ∷ certificate_input certificate ∷ []
 inputs (Trace table trace) = table_input table ∷ trace_input trace ∷ []
+inputs (Drive slots script tables) = script_input (length tables) script ∷ map table_input tables
 inputs (Gen seed rules) = []
 inputs (Migrate table) = table_input table ∷ []
 
@@ -53,6 +61,7 @@ read_by command answer = inputs command
 abbrev pub most_bytes : Kind → ℕ
 most_bytes text_of_list = 16777216
 most_bytes text_of_table = 134217728
+most_bytes (text_of_script tables) = 1048576
 most_bytes text_of_trace = 67108864
 most_bytes text_of_certificate = 268435456
 
@@ -60,6 +69,7 @@ most_bytes text_of_certificate = 268435456
 abbrev pub is_too_long : Kind → ℕ → Bool
 is_too_long text_of_list bytes = nat_lt (most_bytes text_of_list) bytes
 is_too_long text_of_table bytes = nat_lt (most_bytes text_of_table) bytes
+is_too_long (text_of_script tables) bytes = nat_lt (most_bytes (text_of_script tables)) bytes
 is_too_long text_of_trace bytes = false
 is_too_long text_of_certificate bytes = false
 
@@ -67,6 +77,7 @@ is_too_long text_of_certificate bytes = false
 pub data Value : Type 0 where
   list_value : lists.FilterList → Value
   table_value : Table → Value
+  script_value : List scripts.Event → Value
   lines_value : List ℕ → Value
 
 -- a bad line of a text, counted from 1, and its first reason
@@ -84,9 +95,15 @@ abbrev pub as_table : Result Table tables.BadLine → Result Value BadLine
 as_table (Ok table) = Ok (table_value table)
 as_table (Err bad) = Err (record { line = bad.line; reason = OfTable bad.reason })
 
+-- a script, or its first bad line
+abbrev pub as_script : Result (List scripts.Event) scripts.BadLine → Result Value BadLine
+as_script (Ok events) = Ok (script_value events)
+as_script (Err bad) = Err (record { line = bad.line; reason = OfScript bad.reason })
+
 -- what a text spells, or its first bad line
 abbrev pub spelled_by : Kind → List ℕ → Result Value BadLine
 spelled_by text_of_list text = as_list (lists.list_of text)
 spelled_by text_of_table text = as_table (tables.table_in_text text)
+spelled_by (text_of_script tables) text = as_script (scripts.script_of tables text)
 spelled_by text_of_trace text = Ok (lines_value text)
 spelled_by text_of_certificate text = Ok (lines_value text)

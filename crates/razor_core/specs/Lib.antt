@@ -1,5 +1,6 @@
 pub mod Command
 pub mod Commands
+pub mod Asked
 pub mod Inputs
 pub mod Traced
 pub mod Certified
@@ -7,6 +8,7 @@ pub mod Outside
 pub mod Turns
 pub mod Taking
 pub mod Making
+pub mod Tables
 pub mod Comparison
 pub mod Outcome
 pub mod Standing

@@ -1,9 +1,15 @@
 -- What each command defines for what its inputs come to.
-use Rattle.std.specs.Prelude.{◌≡◌, ◌⊎◌, ℕ, Bool, true, false, List, [], ◌∷◌, length}
+use Rattle.std.specs.Prelude.{◌≡◌, ◌⊎◌, ℕ, Bool, true, false, List, [], ◌∷◌, length, map}
+use Rattle.std.specs.List.{concat}
 use Rattle.ternary_words.specs.Table.{Table}
+use Rattle.ternary_words.specs.Views.{table_of}
+use Rattle.ternary_words.specs.declared.table.Table as code_table
+use Rattle.bank_update.specs.Machine.{unsettled}
+use Rattle.bank_update.specs.Runs.{session}
+use Rattle.bank_update.specs.Script.{Event}
 use Rattle.ternary_words.specs.TableText.{table_text}
-use Rattle.razor_core.specs.Command.{Command, Make, Equiv, Check, Trace, Gen, Migrate}
-use Rattle.razor_core.specs.Inputs.{Value, list_value, table_value, lines_value, most_bytes, text_of_certificate}
+use Rattle.razor_core.specs.Command.{Command, Make, Equiv, Check, Trace, Drive, Gen, Migrate}
+use Rattle.razor_core.specs.Inputs.{Value, list_value, table_value, script_value, lines_value, most_bytes, text_of_certificate}
 use Rattle.field_boxes.specs.Classifier.{Rule, source}
 use Rattle.field_boxes.specs.Fields.{stated}
 use Rattle.razor_core.specs.Comparison.{DecideAlike, IsFirstDifference, equal_line, differ_line}
@@ -44,12 +50,23 @@ Certifies rules entries text outcome =
     ⊎ ((checks : Checks rules entries) × (wrong : Wrong) × ReadsWrong (checking_of checks) (most_bytes text_of_certificate) text wrong
     × (outcome ≡ record { yes = false; text = wrong_line checks.list checks.table wrong; line = [] }))
 
+-- what a table of the code comes to
+abbrev pub value_of_table : code_table.Table → Value
+value_of_table table = table_value (table_of table)
+
+-- the lines that the commands print over these tables, in a memory of so many slots that never fails
+pub record Drives (slots : ℕ) (events : List Event) (values : List Value) (outcome : Outcome) : Type 0 where
+  pub tables : List code_table.Table
+  pub values_are : map value_of_table tables ≡ values
+  pub says : outcome ≡ record { yes = true; text = concat (session tables (unsettled slots) events); line = [] }
+
 -- the outcome is one that the command defines for these values
 abbrev pub Gives : Command → List Value → Outcome → Type 0
 Gives (Make method sizes file) (list_value list ∷ values) outcome = IsTableOf list (IsMade method list.rules sizes.slot) outcome
 Gives (Equiv left right) (list_value first ∷ list_value second ∷ values) outcome = Compares first.rules second.rules outcome
 Gives (Check list table certificate) (list_value rules ∷ table_value entries ∷ lines_value text ∷ values) outcome = Certifies rules entries text outcome
 Gives (Trace table trace) (table_value entries ∷ lines_value text ∷ values) outcome = outcome ≡ record { yes = true; text = answers_text entries (taken_of text).headers; line = [] }
+Gives (Drive slots script tables) (script_value events ∷ values) outcome = Drives slots events values outcome
 Gives (Gen seed rules) values outcome = outcome ≡ record { yes = true; text = list_text (generated seed rules).rules; line = [] }
 Gives (Migrate file) (table_value table ∷ values) outcome = outcome ≡ record { yes = true; text = table_text table; line = [] }
 Gives command values outcome = ⊥

@@ -7,7 +7,7 @@ use Rattle.razor_core.specs.Inputs.{BadLine, Value, inputs}
 use Rattle.razor_core.specs.Outside.{Outside, Tells, IsNoInput}
 use Rattle.razor_core.specs.Turns.{Stop, bad_line, too_long, too_many, stop_status, Pass, IsStopped}
 use Rattle.razor_core.specs.Ending.{IsDone, FailsToRead}
-use Rattle.razor_core.specs.Standing.{IsCutOff, Stands, StandsCut, StandsShort, WritesInTurn, WritesLast}
+use Rattle.razor_core.specs.Standing.{IsCutOff, Stands, StandsCut, StandsShort, WritesInTurn, WritesNothing}
 use Rattle.razor_core.specs.Messages.{usage_text, stop_line, read_fault_line, write_fault_line, memory_line}
 
 -- the line of the status of a command
@@ -65,8 +65,8 @@ KeepsPromiseOf (Some command) before after status = KeepsPromise command before 
 pub record Promise (words : List (List ℕ)) (before after : Outside) (Heard : List ℕ → Type 0) (status : ℕ) : Type 0 where
   -- 2 exactly where the words spell no command; the other statuses are those of the command
   pub command : KeepsPromiseOf (command_of words) before after status
-  -- nothing was written but with 0, 1 and 6, by commands that write last
-  pub unchanged : WritesLast (command_of words) → status ≢ 0 → status ≢ 1 → status ≢ 6 → Keeps before.written after.written
+  -- nothing was written but with 0, 1 and 6, by commands that write when nothing else can end them
+  pub unchanged : WritesNothing (command_of words) status → status ≢ 0 → status ≢ 1 → status ≢ 6 → Keeps before.written after.written
   -- no input was touched but those that the command names
   pub untouched : (name : List ℕ) → IsNoInput (command_of words) name → Keeps (before.remaining name) (after.remaining name)
   -- what was said is the line of the status, or a front of it where the count of faults rose

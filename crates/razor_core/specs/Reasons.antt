@@ -5,10 +5,12 @@ use Rattle.filter_reader.specs.declared.reason.Reason.{Reason}
 use Rattle.filter_reader.specs.declared.reason.Reason.TheVariants.{NoAt, Address, Length, PortForm, PortOrder, PortRange, ProtocolForm, ProtocolMask, FlagsForm, DecisionForm, Reserved, Extra, TooManyRules, NotAscii, TooManyRanges}
 use Rattle.table_text.specs.declared.error.TableReason.{TableReason}
 use Rattle.table_text.specs.declared.error.TableReason.TheVariants.{FirstLine, WordLength, Trit, Padding, Decision, Count, FieldForm, OutsideMask}
+use Rattle.bank_update.specs.declared.reason.ScriptReason.{ScriptReason}
+use Rattle.bank_update.specs.declared.reason.ScriptReason.TheVariants.{Command, Arguments}
 use Rattle.trace_run.specs.declared.reason.TraceReason.{TraceReason}
 use Rattle.trace_run.specs.declared.reason.TraceReason.TheVariants.{Short, Digits, Large}
 use Rattle.razor_core.specs.declared.line_reason.LineReason.{LineReason}
-use Rattle.razor_core.specs.declared.line_reason.LineReason.TheVariants.{OfList, OfTable, OfTrace}
+use Rattle.razor_core.specs.declared.line_reason.LineReason.TheVariants.{OfList, OfTable, OfScript, OfTrace}
 
 -- of a list
 abbrev pub list_reason_text : Reason → List ℕ
@@ -39,6 +41,11 @@ table_reason_text (Count stated found) = codes "count of entries differs"
 table_reason_text FieldForm = codes "field form"
 table_reason_text OutsideMask = codes "value outside mask"
 
+-- of a script
+abbrev pub script_reason_text : ScriptReason → List ℕ
+script_reason_text Command = codes "unknown command"
+script_reason_text Arguments = codes "arguments"
+
 -- of a trace
 abbrev pub trace_reason_text : TraceReason → List ℕ
 trace_reason_text Short = codes "too few columns"
@@ -49,6 +56,7 @@ trace_reason_text Large = codes "value too large"
 abbrev pub reason_text : LineReason → List ℕ
 reason_text (OfList reason) = list_reason_text reason
 reason_text (OfTable reason) = table_reason_text reason
+reason_text (OfScript reason) = script_reason_text reason
 reason_text (OfTrace reason) = trace_reason_text reason
 
 -- how many entries a table states, and how many were found
@@ -70,4 +78,5 @@ table_counts_text OutsideMask = []
 abbrev pub counts_text : LineReason → List ℕ
 counts_text (OfList reason) = []
 counts_text (OfTable reason) = table_counts_text reason
+counts_text (OfScript reason) = []
 counts_text (OfTrace reason) = []

@@ -1,10 +1,10 @@
--- How a command ends whose last input was taken line by line.
+-- How a command ends that ran over a trace or a script.
 use Rattle.std.specs.Prelude.{◌≡◌, ℕ, List, Result, Ok, Err}
 use Rattle.trace_run.specs.declared.error.TraceError.{TraceError}
 use Rattle.trace_run.specs.declared.error.TraceError.TheVariants as errors
-use Rattle.partition_check.specs.declared.stream.Stop.{Stop}
-use Rattle.partition_check.specs.declared.stream.Stop.TheVariants as stops
-use Rattle.razor_core.specs.Inputs.{most_bytes, text_of_certificate, text_of_trace}
+use Rattle.bank_update.specs.declared.drive.DriveError.{DriveError}
+use Rattle.bank_update.specs.declared.drive.DriveError.TheVariants as drive_errors
+use Rattle.razor_core.specs.Inputs.{most_bytes, text_of_trace}
 use Rattle.razor_core.specs.declared.ending.Ending.{Ending}
 use Rattle.razor_core.specs.declared.ending.Ending.TheVariants.{Done, No, BadLine as Bad, TooLong, TooMany, ReadFault, WriteFault, Memory}
 use Rattle.razor_core.specs.declared.ending.Summary.TheVariants.{Nothing}
@@ -19,3 +19,9 @@ IsEndOfRun name (Err errors.ReadFault) (ReadFault file) = file.now ≡ name
 IsEndOfRun name (Err errors.WriteFault) ending = ending ≡ WriteFault
 IsEndOfRun name (Err errors.Memory) ending = ending ≡ Memory
 IsEndOfRun name ended ending = ⊥
+
+-- the ending of a command whose script ended so
+abbrev pub IsEndOfDrive : Result ℕ DriveError → Ending → Type 0
+IsEndOfDrive (Ok commands) ending = ending ≡ Done Nothing
+IsEndOfDrive (Err drive_errors.WriteFault) ending = ending ≡ WriteFault
+IsEndOfDrive (Err drive_errors.Memory) ending = ending ≡ Memory

@@ -1,10 +1,10 @@
 -- What has been written where a command is ended before it is done.
-use Rattle.std.specs.Prelude.{◌≡◌, ℕ, ◌⊎◌, List, Option, Some, Ok, Err}
+use Rattle.std.specs.Prelude.{◌≡◌, ◌≢◌, ℕ, ◌⊎◌, List, Option, Some, Ok, Err}
 use Rattle.std.specs.Io.KnownBytes.{Appends, Keeps}
 use Rattle.razor_base.specs.Output.{AppendsFront}
 use Rattle.ternary_words.specs.Table.{Table}
 use Rattle.trace_run.specs.Outcome.{IsCut}
-use Rattle.razor_core.specs.Command.{Command, Trace}
+use Rattle.razor_core.specs.Command.{Command, Trace, Drive}
 use Rattle.razor_core.specs.Inputs.{Value, table_input, table_value, inputs, most_bytes, text_of_trace}
 use Rattle.razor_core.specs.Outside.{Outside, Tells, bytes_at}
 use Rattle.razor_core.specs.Outcome.{Outcome, Gives}
@@ -16,10 +16,11 @@ abbrev pub WritesInTurn : Command → Type 0
 WritesInTurn (Trace table trace) = Unit {0}
 WritesInTurn command = ⊥
 
--- the command has written nothing where its status is neither 0, 1 nor 6
-abbrev pub WritesLast : Option Command → Type 0
-WritesLast (Some (Trace table trace)) = ⊥
-WritesLast command = Unit {0}
+-- with this status, which is neither 0, 1 nor 6, nothing was written
+abbrev pub WritesNothing : Option Command → ℕ → Type 0
+WritesNothing (Some (Trace table trace)) status = ⊥
+WritesNothing (Some (Drive slots script tables)) status = status ≢ 7
+WritesNothing command status = Unit {0}
 
 -- what was written of what the command defines for these values, where it is ended later
 abbrev pub WroteFor : Command → List Value → Option (List ℕ) → Option (List ℕ) → Type 0
@@ -56,4 +57,5 @@ StandsCut command before after file = Keeps before.written after.written
 -- what was written where memory was refused
 abbrev pub StandsShort : Command → Outside → Outside → Type 0
 StandsShort (Trace table trace) before after = Tells before (Trace table trace) → Keeps before.written after.written ⊎ IsCutOff (Trace table trace) before after
+StandsShort (Drive slots script tables) before after = Tells before (Drive slots script tables) → Keeps before.written after.written ⊎ IsCutOff (Drive slots script tables) before after
 StandsShort command before after = Keeps before.written after.written

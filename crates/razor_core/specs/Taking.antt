@@ -13,7 +13,9 @@ use Rattle.ternary_words.specs.declared.table.Table.{Table}
 use Rattle.ternary_words.specs.Views.{table_of}
 use Rattle.table_text.specs.declared.error.TableError.{TableError}
 use Rattle.table_text.specs.declared.error.TableError.TheVariants as table_errors
-use Rattle.razor_core.specs.declared.line_reason.LineReason.TheVariants.{OfList, OfTable}
+use Rattle.bank_update.specs.declared.read.ScriptError.{ScriptError}
+use Rattle.bank_update.specs.declared.read.ScriptError.TheVariants as script_errors
+use Rattle.razor_core.specs.declared.line_reason.LineReason.TheVariants.{OfList, OfScript, OfTable}
 use Rattle.razor_core.specs.Inputs.{Input, Value, list_value, table_value}
 use Rattle.razor_core.specs.Turns.{turn, bad_line, too_long}
 
@@ -51,6 +53,12 @@ abbrev pub IsTableRefusalOf : List ℕ → TableError → Ending → Type 0
 IsTableRefusalOf name table_errors.Memory ending = ending ≡ Memory
 IsTableRefusalOf name (table_errors.BadLine line reason) (Bad file at why) = (file.now ≡ name) × (at ≡ line) × (why ≡ OfTable reason)
 IsTableRefusalOf name (table_errors.BadLine line reason) _ = ⊥
+
+-- the ending of a command whose script was refused with this error
+abbrev pub IsScriptRefusalOf : List ℕ → ScriptError → Ending → Type 0
+IsScriptRefusalOf name script_errors.Memory ending = ending ≡ Memory
+IsScriptRefusalOf name (script_errors.BadLine line reason) (Bad file at why) = (file.now ≡ name) × (at ≡ line) × (why ≡ OfScript reason)
+IsScriptRefusalOf name (script_errors.BadLine line reason) _ = ⊥
 
 -- the ending of a command whose input couldn't be read whole, with this error
 abbrev pub IsFaultOf : List ℕ → ℕ → ReadError → Ending → Type 0

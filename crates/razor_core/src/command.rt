@@ -1,15 +1,18 @@
-ghost use Rattle.std.specs.Prelude.{◌≡◌, ◌≤◌, List, ℕ, IfSome, IsTrue, map};
+ghost use Rattle.std.specs.Prelude.{◌≡◌, ◌≤◌, List, ℕ, IfSome, IsTrue, length, map};
 ghost use Rattle.std.specs.Option.{option_map};
 ghost use Rattle.command_words.specs.Commands.{all_differ};
 ghost use Rattle.command_words.specs.Options.{Takes};
 ghost use Rattle.command_words.specs.Views.{numbers_seen};
 ghost use Rattle.command_words.specs.declared.option.OptionName.TheVariants as options;
-ghost use Rattle.razor_core.specs.Command.{Command as meant, Make, command_named, command_of, drawing, over_one, over_three, over_two, sizes_given};
-ghost use Rattle.razor_core.specs.Commands.{sizes_of, spelled};
+ghost use Rattle.razor_core.specs.Command.{Command as meant, Make, command_named, command_of, drawing, over_one, over_script, over_three, over_two, sizes_given};
+ghost use Rattle.razor_core.specs.Commands.{fewest_words, sizes_of, spelled_over};
+ghost use Rattle.razor_core.specs.Asked.{spelled};
 
+use crate::asked::Asked;
 use crate::drawing::Drawing;
 use crate::method::Method;
 use crate::sizes::Sizes;
+use crate::slots::Slots;
 use crate::three_files::ThreeFiles;
 use crate::two_files::TwoFiles;
 use command_words::{CommandName, Words, built_command};
@@ -29,6 +32,9 @@ pub enum Command<'a> {
     Check(ThreeFiles<'a>),
     /// Writes what a table answers to each header of a trace.
     Trace(TwoFiles<'a>),
+    /// Runs a script of updates over tables, in a memory of so many slots: the file words of the call are the
+    /// script's and the tables'.
+    Drive(Slots),
     /// Writes the list that a seed gives.
     Gen(Drawing),
     /// Writes a table of either version in the compact text.
@@ -49,7 +55,8 @@ fn sizes_with(limit: Option<u32>, slot: Option<u32>) -> Sizes
 
 /// The command that makes a table of the only file.
 fn making<'a>(method: Method, sizes: Sizes, files: &[&'a str]) -> Option<Command<'a>>
-    ensures { option_map spelled result ≡ over_one (Make method (sizes_of sizes)) (map (λ word. word.now) files.now) }
+    ensures spelled { option_map (spelled_over (map (λ word. word.now) files.now)) result ≡ over_one (Make method (sizes_of sizes)) (map (λ word. word.now) files.now) }
+    ensures words { IfSome result (λ command. fewest_words command ≤ length (map (λ word. word.now) files.now)) }
 {
     Some(Command::Make {
         method,
@@ -94,9 +101,23 @@ fn three_files<'a>(files: &[&'a str]) -> Option<ThreeFiles<'a>>
     }
 }
 
+/// The command that runs a script over tables in a memory of so many slots.
+fn driving<'a>(slots: Option<u32>, files: &[&'a str]) -> Option<Command<'a>>
+    requires { IfSome slots (Takes options.Slots) }
+    ensures spelled { option_map (spelled_over (map (λ word. word.now) files.now)) result ≡ over_script slots (map (λ word. word.now) files.now) }
+    ensures words { IfSome result (λ command. fewest_words command ≤ length (map (λ word. word.now) files.now)) }
+{
+    let count = slots?;
+    if files.is_empty() {
+        return None;
+    }
+    Some(Command::Drive(Slots { count }))
+}
+
 /// The command that draws so many rules from a seed.
 fn drawing<'a>(numbers: Option<[u32; 2]>) -> Option<Command<'a>>
-    ensures { option_map spelled result ≡ drawing (numbers_seen numbers) }
+    ensures spelled { (files : List (List ℕ)) → option_map (spelled_over files) result ≡ drawing (numbers_seen numbers) }
+    ensures words { (files : List (List ℕ)) → IfSome result (λ command. fewest_words command ≤ length files) }
 {
     let [seed, rules] = numbers?;
     if seed <= 2_147_483_647 && rules <= 65_536 {
@@ -106,15 +127,18 @@ fn drawing<'a>(numbers: Option<[u32; 2]>) -> Option<Command<'a>>
     }
 }
 
-/// The command of the name, with these sizes, numbers and file words.
+/// The command of the name, with these sizes, slots, numbers and file words.
 fn named<'a>(
     name: CommandName,
     sizes: Sizes,
+    slots: Option<u32>,
     numbers: Option<[u32; 2]>,
     files: &[&'a str],
 ) -> Option<Command<'a>>
-    requires { IsTrue (all_differ (map (λ word. word.now) files.now)) }
-    ensures { option_map spelled result ≡ command_named name (sizes_of sizes) (numbers_seen numbers) (map (λ word. word.now) files.now) }
+    requires slots { IfSome slots (Takes options.Slots) }
+    requires apart { IsTrue (all_differ (map (λ word. word.now) files.now)) }
+    ensures spelled { option_map (spelled_over (map (λ word. word.now) files.now)) result ≡ command_named name (sizes_of sizes) slots (numbers_seen numbers) (map (λ word. word.now) files.now) }
+    ensures words { IfSome result (λ command. fewest_words command ≤ length (map (λ word. word.now) files.now)) }
 {
     match name {
         CommandName::Expand => making(Method::Expand, sizes, files),
@@ -122,16 +146,25 @@ fn named<'a>(
         CommandName::Equiv => Some(Command::Equiv(two_files(files)?)),
         CommandName::Check => Some(Command::Check(three_files(files)?)),
         CommandName::Trace => Some(Command::Trace(two_files(files)?)),
+        CommandName::Drive => driving(slots, files),
         CommandName::Gen => drawing(numbers),
         CommandName::Migrate => Some(Command::Migrate(one_file(files)?)),
     }
 }
 
 /// The command that the words spell; none where they spell none.
-pub fn spelled_command(words: &Words) -> Option<Command<'_>>
+pub fn spelled_command(words: &Words) -> Option<Asked<'_>>
     ensures { option_map spelled result ≡ command_of words.now }
 {
     let spelled = built_command(words)?;
     let sizes = sizes_with(spelled.limit, spelled.slot);
-    named(spelled.command, sizes, spelled.numbers, spelled.files())
+    let files = spelled.files;
+    let command = named(
+        spelled.command,
+        sizes,
+        spelled.slots,
+        spelled.numbers,
+        files.as_slice(),
+    )?;
+    Some(Asked { command, files })
 }

@@ -1,10 +1,13 @@
-ghost use Rattle.std.specs.Prelude.{◌≡◌, ◌≢◌, ◌≤◌, ℕ, List, MatchResult};
+ghost use Rattle.std.specs.Prelude.{◌≡◌, ◌≢◌, ◌≤◌, ℕ, List, All, IfOk, MatchResult};
 ghost use Rattle.std.specs.Io.KnownBytes.{Keeps};
-ghost use Rattle.razor_core.specs.Inputs.{list_input, table_input};
-ghost use Rattle.razor_core.specs.Taking.{TakesTurn, EndsTurn, IsRefusalOf, IsTableRefusalOf, IsFaultOf, table_value_of, value_of};
+ghost use Rattle.razor_core.specs.Inputs.{list_input, script_input, table_input};
+ghost use Rattle.razor_core.specs.Taking.{TakesTurn, EndsTurn, IsRefusalOf, IsScriptRefusalOf, IsTableRefusalOf, IsFaultOf, table_value_of, value_of};
+ghost use Rattle.razor_core.specs.Inputs.{script_value};
+ghost use Rattle.bank_update.specs.Script.{IsWithin};
 
 use crate::ending::Ending;
 use crate::line_reason::LineReason;
+use bank_update::{Script, ScriptError, read_script};
 use filter_reader::{ListError, RuleList, read_list};
 use razor_base::{Desk, ReadError, read_all};
 use std::alloc::Global;
@@ -42,6 +45,23 @@ fn table_refused(file: &str, error: TableError) -> Ending<'_>
             reason: LineReason::OfTable(reason),
         },
         TableError::Memory => Ending::Memory,
+    }
+}
+
+/// The greatest number of bytes of a script.
+const MOST_SCRIPT_BYTES: u64 = 1_048_576;
+
+/// The ending of a command whose script was refused.
+fn script_refused(file: &str, error: ScriptError) -> Ending<'_>
+    ensures { IsScriptRefusalOf file.now error result }
+{
+    match error {
+        ScriptError::BadLine { line, reason } => Ending::BadLine {
+            file,
+            line,
+            reason: LineReason::OfScript(reason),
+        },
+        ScriptError::Memory => Ending::Memory,
     }
 }
 
@@ -97,5 +117,30 @@ pub fn take_table<'a, D: Desk>(
     match read_table(alloc, &text) {
         Ok(table) => Ok(table),
         Err(error) => Err(table_refused(file, error)),
+    }
+}
+
+/// Takes the turn of a script for so many tables: reads it whole and takes its commands, or says how the
+/// command ends.
+pub fn take_script<'a, D: Desk>(
+    alloc: Global,
+    file: &'a str,
+    tables: u32,
+    desk: &mut D,
+) -> Result<Script, Ending<'a>>
+    ensures turn { MatchResult result
+        (λ script. TakesTurn (script_input tables file.now) (D.remaining desk.old file.now) (D.remaining desk.new file.now) (script_value script))
+        (λ ending. EndsTurn (script_input tables file.now) (D.remaining desk.old file.now) (D.faults desk.old file.now) (D.faults desk.new file.now) ending) }
+    ensures within { IfOk result (λ script. All (IsWithin tables) script) }
+    ensures counts { (other : List ℕ) → D.faults desk.old other ≤ D.faults desk.new other }
+    ensures others { (other : List ℕ) → other ≢ file.now → Keeps (D.remaining desk.old other) (D.remaining desk.new other) }
+{
+    let mut text = Vec::new(alloc);
+    if let Err(error) = read_all(desk, file, MOST_SCRIPT_BYTES, &mut text) {
+        return Err(not_read(file, MOST_SCRIPT_BYTES, error));
+    }
+    match read_script(alloc, &text, tables) {
+        Ok(script) => Ok(script),
+        Err(error) => Err(script_refused(file, error)),
     }
 }

@@ -1,6 +1,7 @@
 //! The top call: words and named inputs in, output and a status out.
 #![tactic(auto)]
 
+mod asked;
 mod certificate;
 mod command;
 mod comparison;
@@ -14,7 +15,9 @@ mod method;
 mod reason;
 pub mod rows;
 mod run;
+mod running;
 mod sizes;
+mod slots;
 mod three_files;
 mod top;
 mod tracing;

@@ -1,3 +1,4 @@
+use bank_update::ScriptReason;
 use filter_reader::Reason;
 use table_text::TableReason;
 use trace_run::TraceReason;
@@ -7,5 +8,6 @@ use trace_run::TraceReason;
 pub enum LineReason {
     OfList(Reason),
     OfTable(TableReason),
+    OfScript(ScriptReason),
     OfTrace(TraceReason),
 }

@@ -1,8 +1,9 @@
 //! What is wrong with a line of an input, in words.
 ghost use Rattle.std.specs.Prelude.{◌≡◌, [], MatchOption};
-ghost use Rattle.razor_core.specs.Reasons.{counts_text, list_reason_text, reason_text, table_counts_text, table_reason_text, trace_reason_text, two_counts};
+ghost use Rattle.razor_core.specs.Reasons.{counts_text, list_reason_text, reason_text, script_reason_text, table_counts_text, table_reason_text, trace_reason_text, two_counts};
 
 use crate::line_reason::LineReason;
+use bank_update::ScriptReason;
 use filter_reader::Reason;
 use table_text::TableReason;
 use trace_run::TraceReason;
@@ -14,6 +15,7 @@ pub fn reason_words(reason: LineReason) -> &'static str
     match reason {
         LineReason::OfList(reason) => list_words(reason),
         LineReason::OfTable(reason) => table_words(reason),
+        LineReason::OfScript(reason) => script_words(reason),
         LineReason::OfTrace(reason) => trace_words(reason),
     }
 }
@@ -23,7 +25,7 @@ pub fn counts(reason: LineReason) -> Option<(u32, u64)>
     ensures { MatchOption result (counts_text reason ≡ []) (λ counts. counts_text reason ≡ two_counts counts.0 counts.1) }
 {
     match reason {
-        LineReason::OfList(_) | LineReason::OfTrace(_) => None,
+        LineReason::OfList(_) | LineReason::OfScript(_) | LineReason::OfTrace(_) => None,
         LineReason::OfTable(reason) => table_counts(reason),
     }
 }
@@ -56,6 +58,16 @@ fn table_words(reason: TableReason) -> &'static str
         TableReason::Count { .. } => "count of entries differs",
         TableReason::FieldForm => "field form",
         TableReason::OutsideMask => "value outside mask",
+    }
+}
+
+/// What is wrong with a line of a script, in words.
+fn script_words(reason: ScriptReason) -> &'static str
+    ensures { result.now ≡ script_reason_text reason }
+{
+    match reason {
+        ScriptReason::Command => "unknown command",
+        ScriptReason::Arguments => "arguments",
     }
 }
 

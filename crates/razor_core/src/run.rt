@@ -1,12 +1,14 @@
 ghost use Rattle.std.specs.Prelude.{◌≡◌, ◌≢◌, ℕ, List, Option, Some, length};
 ghost use Rattle.std.specs.Io.KnownBytes.{Keeps};
 ghost use Rattle.razor_core.specs.Command.{Make, Equiv, Gen, Migrate};
-ghost use Rattle.razor_core.specs.Commands.{sizes_of, spelled};
+ghost use Rattle.razor_core.specs.Commands.{sizes_of};
+ghost use Rattle.razor_core.specs.Asked.{spelled};
 ghost use Rattle.razor_core.specs.Outside.{seen, IsNoInput};
 ghost use Rattle.filter_reader.specs.Lists.{filter_list};
 ghost use Rattle.razor_core.specs.Ending.{Ends, IsEndingOf, summary_text};
 ghost use Rattle.razor_core.specs.Messages.{rules_line};
 
+use crate::asked::Asked;
 use crate::certificate::check_certificate;
 use crate::command::Command;
 use crate::comparison::{answered, write_verdict};
@@ -15,6 +17,7 @@ use crate::ending::{Ending, Summary};
 use crate::input::{take_list, take_table};
 use crate::making::{CompileError, make};
 use crate::method::Method;
+use crate::running::run_script;
 use crate::sizes::Sizes;
 use crate::tracing::answer_trace;
 use crate::two_files::TwoFiles;
@@ -28,17 +31,17 @@ use ternary_words::write_table;
 /// Does what the command says.
 pub fn run<'a, D: Desk, K: Sink>(
     alloc: Global,
-    command: Command<'a>,
+    asked: Asked<'a>,
     desk: &mut D,
     out: &mut K,
 ) -> Ending<'a>
-    ensures ends { Ends (spelled command.entry)
+    ensures ends { Ends (spelled asked.entry)
         (seen D.remaining D.faults K.written K.faults desk.old out.old)
         (seen D.remaining D.faults K.written K.faults desk.new out.new)
         result }
-    ensures others { (other : List ℕ) → IsNoInput (Some (spelled command.entry)) other → Keeps (D.remaining desk.old other) (D.remaining desk.new other) }
+    ensures others { (other : List ℕ) → IsNoInput (Some (spelled asked.entry)) other → Keeps (D.remaining desk.old other) (D.remaining desk.new other) }
 {
-    match command {
+    match asked.command {
         Command::Make {
             method,
             sizes,
@@ -47,6 +50,7 @@ pub fn run<'a, D: Desk, K: Sink>(
         Command::Equiv(files) => compare_lists(alloc, files, desk, out),
         Command::Check(files) => check_certificate(alloc, files, desk, out),
         Command::Trace(files) => answer_trace(alloc, files, desk, out),
+        Command::Drive(slots) => run_script(alloc, slots, asked.files.as_slice(), desk, out),
         Command::Gen(drawing) => draw_list(alloc, drawing, out),
         Command::Migrate(file) => migrate_table(alloc, file, desk, out),
     }

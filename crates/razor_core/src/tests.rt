@@ -6,6 +6,7 @@ mod faults;
 mod generating;
 mod limits;
 mod migrating;
+mod running;
 mod tracing;
 
 use crate::{Words, razor};
@@ -209,7 +210,7 @@ fn knows_its_words(rt: HostRuntime) -> Result<(), Fail> {
     ];
     for words in none {
         let usage =
-            b"usage: razor COMMAND\n  expand [--limit N] [--slot W] LIST\n  compile [--limit N] [--slot W] LIST\n  equiv A B\n  check LIST TABLE CERT\n  trace TABLE TRACE\n  gen SEED N\n  migrate TABLE\n";
+            b"usage: razor COMMAND\n  expand [--limit N] [--slot W] LIST\n  compile [--limit N] [--slot W] LIST\n  equiv A B\n  check LIST TABLE CERT\n  trace TABLE TRACE\n  drive --slots N SCRIPT TABLE ..\n  gen SEED N\n  migrate TABLE\n";
         check(&rt, words, calm(WEB), 2, b"", usage)?;
     }
     let limits: [&[&str]; 3] = [

@@ -2,10 +2,10 @@ use Rattle.std.proofs.Common.{◌≡◌, ◌≢◌, ℕ, List, Some, sym, subst}
 use Rattle.std.specs.Prelude.{Option}
 use Rattle.std.specs.Io.KnownBytes.{Keeps}
 use Rattle.razor_core.specs.Command.{Command, command_of}
-use Rattle.razor_core.specs.Commands.{spelled}
+use Rattle.razor_core.specs.Asked.{spelled}
 use Rattle.razor_core.specs.Outside.{seen, IsNoInput}
 use Rattle.razor_core.specs.Ending.{ending_line}
-use Rattle.razor_core.specs.Standing.{WritesLast}
+use Rattle.razor_core.specs.Standing.{WritesNothing}
 use Rattle.razor_core.specs.Promise.{IsLine, KeepsPromiseOf}
 use Rattle.razor_core.proofs.Endings.{kept_by, unchanged_by, line_by}
 use Rattle.razor_core.proofs.top.razor.Goals as goal
@@ -17,15 +17,15 @@ pub returns : goal.returns
 returns g c =
     let before = seen g.D.Desk.remaining g.D.Desk.faults g.K.Sink.written g.K.Sink.faults c.args.desk.now c.args.out.now in
     let after = seen g.D.Desk.remaining g.D.Desk.faults g.K.Sink.written g.K.Sink.faults c.run-ending.new.desk c.run-ending.new.out in
-    let command = spelled c.in-Some.command in
+    let command = spelled c.in-Some.asked in
     let ending = c.run-ending.result in
     let ends = c.run-ending.ensures.ends in
     let words : some_command command ≡ command_of c.args.words.now = c.in-Some.ensures in
     let same = sym c.status.ensures in
     record {
       command = subst (λ (o : Option Command). KeepsPromiseOf o before after c.status.result) words (subst (λ (s : ℕ). KeepsPromiseOf (some_command command) before after s) same (kept_by command before after ending ends));
-      unchanged = subst (λ (o : Option Command). WritesLast o → c.status.result ≢ 0 → c.status.result ≢ 1 → c.status.result ≢ 6 → Keeps before.written after.written) words
-          (subst (λ (s : ℕ). WritesLast (some_command command) → s ≢ 0 → s ≢ 1 → s ≢ 6 → Keeps before.written after.written) same (unchanged_by command before after ending ends));
+      unchanged = subst (λ (o : Option Command). WritesNothing o c.status.result → c.status.result ≢ 0 → c.status.result ≢ 1 → c.status.result ≢ 6 → Keeps before.written after.written) words
+          (subst (λ (s : ℕ). WritesNothing (some_command command) s → s ≢ 0 → s ≢ 1 → s ≢ 6 → Keeps before.written after.written) same (unchanged_by command before after ending ends));
       untouched = subst (λ (o : Option Command). (name : List ℕ) → IsNoInput o name → Keeps (before.remaining name) (after.remaining name)) words c.run-ending.ensures.others;
       message = (
         ending_line ending,
