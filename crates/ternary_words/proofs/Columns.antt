@@ -141,13 +141,13 @@ columns-wide a b c d e m v wa wb wc wd we within =
     ∙ ap (λ t. column_of d (v / 2 ^ (e + 0)) (m / 2 ^ (e + 0)) ++ 32 ∷ t) (columns-step e 0 m v 4 [] we within))))
 
 in_parts : (v1 m1 v2 m2 v3 m3 v4 m4 v5 m5 : List ℕ) →
-    (v1 ++ 47 ∷ [] ++ m1 ++ 32 ∷ []) ++ (v2 ++ 47 ∷ [] ++ m2 ++ 32 ∷ []) ++ (v3 ++ 47 ∷ [] ++ m3 ++ 32 ∷ []) ++ (v4 ++ 47 ∷ [] ++ m4 ++ 32 ∷ []) ++ (v5 ++ 47 ∷ [] ++ m5 ++ 32 ∷ [])
+    (v1 ++ 47 ∷ [] ++ (m1 ++ 32 ∷ [])) ++ (v2 ++ 47 ∷ [] ++ (m2 ++ 32 ∷ [])) ++ (v3 ++ 47 ∷ [] ++ (m3 ++ 32 ∷ [])) ++ (v4 ++ 47 ∷ [] ++ (m4 ++ 32 ∷ [])) ++ (v5 ++ 47 ∷ [] ++ (m5 ++ 32 ∷ []))
     ≡ v1 ++ 47 ∷ m1 ++ 32 ∷ (v2 ++ 47 ∷ m2 ++ 32 ∷ (v3 ++ 47 ∷ m3 ++ 32 ∷ (v4 ++ 47 ∷ m4 ++ 32 ∷ (v5 ++ 47 ∷ m5 ++ 32 ∷ []))))
 in_parts v1 m1 v2 m2 v3 m3 v4 m4 v5 m5 = simp append_assoc
 
 -- a column and the space behind it, as they are put
 abbrev pub put_of : ℕ → ℕ → ℕ → List ℕ
-put_of digits value mask = hex_digits (bits (4 * digits) value) ++ 47 ∷ [] ++ hex_digits (bits (4 * digits) mask) ++ 32 ∷ []
+put_of digits value mask = hex_digits (bits (4 * digits) value) ++ 47 ∷ [] ++ (hex_digits (bits (4 * digits) mask) ++ 32 ∷ [])
 
 -- the five columns as they are put
 pub columns-put : (m v : ℕ) → bit_and v m ≡ v →

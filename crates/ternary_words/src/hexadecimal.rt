@@ -1,22 +1,20 @@
-ghost use Rattle.std.specs.Prelude.{◌≡◌, ◌%◌};
+ghost use Rattle.std.specs.Prelude.{◌≡◌, ◌%◌, ◌∷◌, [], ◌++◌};
 ghost use Rattle.field_boxes.specs.Bits.{bits};
 ghost use Rattle.ternary_words.specs.Hexadecimal.{hex_digit, hex_digits};
+
+/// The digits in rising order.
+const DIGITS: [u8; 16] = *b"0123456789ABCDEF";
 
 /// The lowest four bits as a digit.
 fn digit(number: u32) -> u8
     ensures { result ≡ hex_digit (number % 16) }
 {
-    let digit = (number % 16) as u8;
-    if digit < 10 {
-        b'0' + digit
-    } else {
-        b'A' - 10 + digit
-    }
+    DIGITS[(number % 16) as usize]
 }
 
-/// The lowest 32 bits as eight digits.
-pub(crate) fn hexadecimal(number: u128) -> [u8; 8]
-    ensures { result ≡ hex_digits (bits 32 number) }
+/// The lowest 32 bits as eight digits, and the byte that stands behind them.
+pub(crate) fn hexadecimal(number: u128, behind: u8) -> [u8; 9]
+    ensures { result ≡ hex_digits (bits 32 number) ++ behind ∷ [] }
 {
     let low = (number % (1 << 32)) as u32;
     [
@@ -28,5 +26,6 @@ pub(crate) fn hexadecimal(number: u128) -> [u8; 8]
         digit(low >> 8),
         digit(low >> 4),
         digit(low),
+        behind,
     ]
 }

@@ -89,12 +89,10 @@ fn put_column<K: Sink>(
     requires low { low ≤ 72 }
     requires digits { digits ≤ 8 }
     ensures { Puts K.written K.faults out.old out.new pending.old pending.new
-        (hex_digits (bits (4 * digits) (word.now.value / 2 ^ low)) ++ 47 ∷ [] ++ hex_digits (bits (4 * digits) (word.now.mask / 2 ^ low)) ++ 32 ∷ []) result }
+        (hex_digits (bits (4 * digits) (word.now.value / 2 ^ low)) ++ 47 ∷ [] ++ (hex_digits (bits (4 * digits) (word.now.mask / 2 ^ low)) ++ 32 ∷ [])) result }
 {
-    let value = hexadecimal(word.value >> low);
-    let mask = hexadecimal(word.mask >> low);
+    let value = hexadecimal(word.value >> low, b'/');
+    let mask = hexadecimal(word.mask >> low, b' ');
     pending.put(out, &value[8 - digits..])?;
-    pending.put(out, b"/")?;
-    pending.put(out, &mask[8 - digits..])?;
-    pending.put(out, b" ")
+    pending.put(out, &mask[8 - digits..])
 }
