@@ -35,10 +35,23 @@ pub fn cover_all(alloc: Global, spans: &[Span], width: u8) -> Result<Vec<Prefix>
     ensures shortest { IfOk result (λ prefixes. IsShortestCover width (union_of spans.now) prefixes.items) }
     ensures value { IfOk result (λ prefixes. prefixes.items ≡ shortest_cover width (union_of spans.now)) }
 {
-    let block = enclosing(spans, width);
     let mut prefixes = Vec::new(alloc);
-    cover_below(spans, width, block, &mut prefixes)?;
+    cover_all_into(spans, width, &mut prefixes)?;
     Ok(prefixes)
+}
+
+/// The same in place of what the vector holds, so that its room serves again.
+///
+/// Where memory was refused, what the vector holds then is not told.
+pub fn cover_all_into(spans: &[Span], width: u8, prefixes: &mut Vec<Prefix>) -> Result<(), Memory>
+    requires wide { width ≤ 32 }
+    requires apart { RiseApart 0 (2 ^ width - 1) (intervals_of spans.now) }
+    ensures shortest { OnOk result (IsShortestCover width (union_of spans.now) prefixes.new.items) }
+    ensures value { OnOk result (prefixes.new.items ≡ shortest_cover width (union_of spans.now)) }
+{
+    let block = enclosing(spans, width);
+    prefixes.clear();
+    cover_below(spans, width, block, prefixes)
 }
 
 /// Adds the prefixes for the spans' values among those of the prefix.

@@ -1,11 +1,12 @@
 //! The shortest cover of values of a field by prefixes.
 //!
 //! Ternary words can't hold an interval of a field, only prefixes. [`cover_all`] gives the fewest prefixes
-//! that hold exactly the values of some spans, in rising order; [`count_all`] says how many these are, and
-//! takes no memory. [`cover`] and [`cover_count`] are the same for one span. All begin with the least block
-//! of the field that holds all values of the spans: a block that the spans miss needs no prefix, a block
-//! inside a span is one prefix, and any other block is halved and needs what its halves need. So a span
-//! that is one prefix needs no halving.
+//! that hold exactly the values of some spans, in rising order, and [`cover_all_into`] puts them into a
+//! vector that is there; [`count_all`] says how many these are, and takes no memory. [`cover`] and
+//! [`cover_count`] are the same for one span. All begin with the least block of the field that holds all
+//! values of the spans: a block that the spans miss needs no prefix, a block inside a span is one prefix,
+//! and any other block is halved and needs what its halves need. So a span that is one prefix needs no
+//! halving.
 //!
 //! At most `2 * width` blocks are halved for each span: a span has some value of such a block and lacks
 //! another, so an end of it lies in the block, and of the blocks of one size at most two are halved for it.
@@ -30,7 +31,7 @@ mod reaching;
 mod share;
 
 pub use counting::{count_all, cover_count};
-pub use covering::{cover, cover_all};
+pub use covering::{cover, cover_all, cover_all_into};
 
 #[cfg(test)]
 mod tests;

@@ -1,24 +1,21 @@
-ghost use Rattle.std.specs.Prelude.{◌≡◌, IfOk};
+ghost use Rattle.std.specs.Prelude.{◌≡◌, OnOk};
 ghost use Rattle.field_boxes.specs.Fields.{stated};
 ghost use Rattle.field_boxes.specs.Rules.{rule_of};
 ghost use Rattle.rule_expansion.specs.Entries.{FitCovers, prefixes_of};
 ghost use Rattle.rule_expansion.specs.Expansion.{covers};
 
-use crate::sets::set_cover;
+use crate::sets::cover_set;
 use field_boxes::{Prefix, Rule};
 use razor_base::Memory;
-use std::alloc::Global;
 
-/// The shortest covers of a rule's five sets.
-pub(crate) fn rule_covers(alloc: Global, rule: &Rule) -> Result<[Vec<Prefix>; 5], Memory>
-    ensures covers { IfOk result (λ all. prefixes_of all ≡ covers stated (rule_of rule.now)) }
-    ensures fit { IfOk result (λ all. FitCovers stated (prefixes_of all)) }
+/// Makes the five lists the shortest covers of the rule's five sets, in place of what they hold.
+pub(crate) fn cover_rule(rule: &Rule, lists: &mut [Vec<Prefix>; 5]) -> Result<(), Memory>
+    ensures covers { OnOk result (prefixes_of lists.new ≡ covers stated (rule_of rule.now)) }
+    ensures fit { OnOk result (FitCovers stated (prefixes_of lists.new)) }
 {
-    Ok([
-        set_cover(alloc, rule, 0)?,
-        set_cover(alloc, rule, 1)?,
-        set_cover(alloc, rule, 2)?,
-        set_cover(alloc, rule, 3)?,
-        set_cover(alloc, rule, 4)?,
-    ])
+    cover_set(rule, 0, &mut lists[0])?;
+    cover_set(rule, 1, &mut lists[1])?;
+    cover_set(rule, 2, &mut lists[2])?;
+    cover_set(rule, 3, &mut lists[3])?;
+    cover_set(rule, 4, &mut lists[4])
 }

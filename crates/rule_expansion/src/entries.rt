@@ -5,7 +5,7 @@ ghost use Rattle.ternary_words.specs.Prefixes.{FitFields, fields_trits};
 ghost use Rattle.rule_expansion.specs.Expansion.{combinations, decided_words};
 ghost use Rattle.rule_expansion.specs.Entries.{FitCovers, decided_of, with_words, prefixes_of};
 
-use crate::covers::rule_covers;
+use crate::covers::cover_rule;
 use field_boxes::{Prefix, Rule};
 use razor_base::Memory;
 use std::alloc::Global;
@@ -19,19 +19,30 @@ pub fn expanded_entries(alloc: Global, rules: &[Rule]) -> Result<Vec<Entry>, Mem
     ensures { IfOk result (λ entries. map decided_of entries.items ≡ decided_words (map rule_of rules.now)) }
 {
     let mut entries = Vec::new(alloc);
+    let mut lists = [
+        Vec::new(alloc),
+        Vec::new(alloc),
+        Vec::new(alloc),
+        Vec::new(alloc),
+        Vec::new(alloc),
+    ];
     for rule in rules {
-        add_rule(alloc, rule, &mut entries)?;
+        add_rule(rule, &mut lists, &mut entries)?;
     }
     Ok(entries)
 }
 
-/// Adds the entries of the rule.
-fn add_rule(alloc: Global, rule: &Rule, entries: &mut Vec<Entry>) -> Result<(), Memory>
+/// Adds the entries of the rule, with room of the five lists for its covers.
+fn add_rule(
+    rule: &Rule,
+    lists: &mut [Vec<Prefix>; 5],
+    entries: &mut Vec<Entry>,
+) -> Result<(), Memory>
     ensures { OnOk result (map decided_of entries.new.items ≡ map decided_of entries.old.items ++ decided_words (rule_of rule.now ∷ [])) }
 {
-    let covers = rule_covers(alloc, rule)?;
+    cover_rule(rule, lists)?;
     let any = Prefix { value: 0, len: 0 };
-    add_combinations(&covers, [any; 5], rule.decision, entries)
+    add_combinations(lists, [any; 5], rule.decision, entries)
 }
 
 /// Adds an entry for each combination of the prefixes of these covers behind those that are chosen.

@@ -1,4 +1,4 @@
-ghost use Rattle.std.specs.Prelude.{◌≡◌, ◌<◌, ◌≤◌, length, All, IfOk};
+ghost use Rattle.std.specs.Prelude.{◌≡◌, ◌<◌, ◌≤◌, length, All, OnOk};
 ghost use Rattle.field_boxes.specs.Classifier.{set_holds};
 ghost use Rattle.field_boxes.specs.Fields.{width};
 ghost use Rattle.field_boxes.specs.Prefix.{FitsWidth};
@@ -6,19 +6,17 @@ ghost use Rattle.field_boxes.specs.Rules.{rule_of};
 ghost use Rattle.range_prefix.specs.Shortest.{shortest_cover};
 
 use field_boxes::{Prefix, Rule, width};
-use range_prefix::{count_all, cover_all};
+use range_prefix::{count_all, cover_all_into};
 use razor_base::Memory;
-use std::alloc::Global;
 
-/// The shortest cover of the rule's set of the field.
-pub(crate) fn set_cover(alloc: Global, rule: &Rule, field: usize) -> Result<Vec<Prefix>, Memory>
+/// Makes the list the shortest cover of the rule's set of the field, in place of what it holds.
+pub(crate) fn cover_set(rule: &Rule, field: usize, list: &mut Vec<Prefix>) -> Result<(), Memory>
     requires { field < 5 }
-    ensures cover { IfOk result (λ cover. cover.items ≡ shortest_cover (width field) (λ v. set_holds field v (rule_of rule.now))) }
-    ensures fit { IfOk result (λ cover. All (FitsWidth (width field)) cover.items) }
+    ensures cover { OnOk result (list.new.items ≡ shortest_cover (width field) (λ v. set_holds field v (rule_of rule.now))) }
+    ensures fit { OnOk result (All (FitsWidth (width field)) list.new.items) }
 {
     let sets = rule.sets();
-    let cover = cover_all(alloc, sets[field], width(field))?;
-    Ok(cover)
+    cover_all_into(sets[field], width(field), list)
 }
 
 /// The length of the shortest cover of the rule's set of the field.

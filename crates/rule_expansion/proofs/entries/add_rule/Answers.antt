@@ -29,5 +29,5 @@ words_of rule all chosen same =
 pub returns : goal.returns
 returns c =
     on_ok_weaker c.add_combinations.result
-    (λ h. h ∙ ap (λ ws. map decided_of c.args.entries.now.items ++ ws) (words_of (rule_of c.args.rule.now) c.in_ok-covers.covers _ c.in_ok-covers.ensures.covers))
+    (λ h. h ∙ ap (λ ws. map decided_of c.args.entries.now.items ++ ws) (words_of (rule_of c.args.rule.now) c.cover_rule.new.lists _ c.in_ok-cover_rule.ensures.covers))
     c.add_combinations.ensures
