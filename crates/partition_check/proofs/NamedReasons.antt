@@ -1,5 +1,5 @@
 -- The decisions of a reason have names.
-use Rattle.std.proofs.Common.{◌≡◌, ◌∷◌, ℕ, ◌≤◌, ◌-◌, List, [], Bool, true, false, Some, None, length, get_or, ap, refl, sym, subst, inl, inr, arith, ◌∙◌}
+use Rattle.std.proofs.Common.{◌≡◌, ◌∷◌, ℕ, ◌≤◌, ◌-◌, List, [], Bool, true, false, Some, None, length, refl, sym, subst, inl, inr, arith}
 use Rattle.std.specs.Prelude.{All, MatchBool, Option, slice_get}
 use Rattle.std.specs.Option.{option_map_or}
 use Rattle.std.proofs.lemmas.Option.{slice_get_within}
@@ -18,7 +18,7 @@ use Rattle.partition_check.specs.Checking.{Statement, Checking, FailsFirst, Ends
 use Rattle.partition_check.specs.Claims.{rule_decision, entry_decision}
 use Rattle.partition_check.specs.RowLines.{LineFails, StatementFails}
 use Rattle.partition_check.specs.RowText.{statement_of_text}
-use Rattle.partition_check.specs.Verdict.{EndsBadly, Fails, FailsLast, FindsWrong, LacksEnd, Reading, TakesAll, started}
+use Rattle.partition_check.specs.Verdict.{EndsBadly, Fails, FailsLast, FindsWrong, LacksEnd, Reading, started}
 use Rattle.partition_check.proofs.FirstPlaces.{got}
 use Rattle.partition_check.proofs.Soundness.{numbered_by}
 use Rattle.partition_check.proofs.Streaming.{IsRead, all_keep, line_keeps}

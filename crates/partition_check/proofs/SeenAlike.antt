@@ -1,5 +1,5 @@
 -- What is said of a certificate depends on what list and table are, and not on how they are kept.
-use Rattle.std.proofs.Common.{◌≡◌, ◌∷◌, ℕ, ◌+◌, ◌-◌, ◌≤◌, ◌<◌, List, [], Bool, true, false, Some, None, length, ap, refl, sym, subst, inl, inr, arith, ◌∙◌}
+use Rattle.std.proofs.Common.{◌≡◌, ◌∷◌, ℕ, ◌+◌, ◌-◌, List, [], Bool, true, false, Some, None, length, ap, refl, sym, subst, inl, inr, arith, ◌∙◌}
 use Rattle.std.specs.Prelude.{All, MatchBool, Option, map, option_and_then, option_map, position, slice_get, take, vec_len}
 use Rattle.std.specs.List.{position_or_len}
 use Rattle.std.specs.Option.{option_map_or}
@@ -19,16 +19,14 @@ use Rattle.ternary_words.specs.declared.entry.Entry as code_entry
 use Rattle.ternary_words.specs.declared.table.Table as code_table
 use Rattle.ternary_words.specs.Table.{Entry, Table, entry_matches}
 use Rattle.ternary_words.specs.Views as words
-use Rattle.partition_check.specs.declared.row.Why.{Why}
 use Rattle.partition_check.specs.declared.row.Wrong.{Wrong}
-use Rattle.partition_check.specs.Boxes.{ends, EachIn}
+use Rattle.partition_check.specs.Boxes.{ends}
 use Rattle.partition_check.specs.CertificateText.{lines_of, is_last_line, stated_rows}
 use Rattle.partition_check.specs.Checking.{Statement, Checking, Passes, EndsWell, IsLastOfAll, IsNumber, begun, with_row}
-use Rattle.partition_check.specs.Claims.{IsEntryClaim, IsRuleClaim, entry_decision, place_of, rule_decision}
+use Rattle.partition_check.specs.Claims.{entry_decision, place_of, rule_decision}
 use Rattle.partition_check.specs.NextBox.{MayCome}
-use Rattle.partition_check.specs.RowLines.{LinePasses}
 use Rattle.partition_check.specs.Streams.{ReadsTooMuch, ReadsWrong}
-use Rattle.partition_check.specs.Verdict.{Reading, Takes, TakesAll, TakesLast, TakesRow, FindsWrong, started}
+use Rattle.partition_check.specs.Verdict.{Reading, Takes, TakesAll, TakesLast, TakesRow, started}
 use Rattle.partition_check.proofs.OneVerdict.{all-apart}
 use Rattle.partition_check.proofs.Soundness.{matches_by_sets, name_of, numbered_name}
 

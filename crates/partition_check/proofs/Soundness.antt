@@ -85,7 +85,7 @@ numbered_name names rs all None = refl
 numbered_name names rs all (Some n) = rule_name names rs all (n - 1) (slice_get rs (n - 1)) refl
 
 -- what a list decides where the first rule has this number
-list_decides : (list : RuleList) (header : List ℕ) (number : Option ℕ) → rules.first_match header list.rules.items ≡ place_of number →
+pub list_decides : (list : RuleList) (header : List ℕ) (number : Option ℕ) → rules.first_match header list.rules.items ≡ place_of number →
     name_decided list header ≡ name_at list.names (rule_decision list.rules.items number)
 list_decides list header number e =
     named_found list.names header list.rules.items
@@ -104,7 +104,7 @@ numbered_entry names es (Some n) = entry_name names (slice_get es (n - 1))
 abbrev pub FirstAnswers : Type 0
 FirstAnswers = (names : List (List ℕ)) (values : List ℕ) (entries : List Entry) → words.decided_at names entries (words.first_match values entries) ≡ answer (map (words.entry_of names) entries) values
 
-table_answers : FirstAnswers → (table : Table) (header : List ℕ) (number : Option ℕ) → words.first_match header table.entries.items ≡ place_of number →
+pub table_answers : FirstAnswers → (table : Table) (header : List ℕ) (number : Option ℕ) → words.first_match header table.entries.items ≡ place_of number →
     name_answered table header ≡ name_at table.names (entry_decision table.entries.items number)
 table_answers law table header number e =
     sym (law table.names header table.entries.items) ∙ ap (words.decided_at table.names table.entries.items) e ∙ numbered_entry table.names table.entries.items number

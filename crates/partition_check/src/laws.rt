@@ -1,7 +1,12 @@
 //! Laws of the definitions, for whoever relies on them. The functions do nothing.
-ghost use Rattle.std.specs.Prelude.{ℕ, List, Option, ◌≡◌, ◌∷◌, ◌↔◌, ◌⊎◌, ◌<◌, ◌^◌, length};
+ghost use Rattle.std.specs.Prelude.{ℕ, List, Option, ◌≡◌, ◌∷◌, ◌↔◌, ◌⊎◌, ◌<◌, ◌≤◌, ◌^◌, length};
 ghost use Rattle.std.specs.List.{Any, AllPairs};
 ghost use Rattle.field_boxes.specs.Classifier.{Interval};
+ghost use Rattle.field_boxes.specs.Names.{name_at};
+ghost use Rattle.field_boxes.specs.Rules.{first_match as first_rule};
+ghost use Rattle.ternary_words.specs.Views.{first_match as first_entry};
+ghost use Rattle.partition_check.specs.Agreement.{name_decided, name_answered};
+ghost use Rattle.partition_check.specs.Claims.{place_of, rule_decision, entry_decision};
 ghost use Rattle.partition_check.specs.Boxes.{IsBox, AreUpTo, LiesIn};
 ghost use Rattle.partition_check.specs.NextBox.{IsNextBox, IsLastOpen, GoesOnAt, ReachesEnds, IsSweep, AreAccepted, last_box};
 ghost use Rattle.partition_check.specs.Partition.{IsPartition};
@@ -17,6 +22,8 @@ ghost use Rattle.filter_reader.specs.Lists.{filter_list};
 ghost use Rattle.filter_reader.specs.declared.list.RuleList.{RuleList};
 ghost use Rattle.ternary_words.specs.Views.{table_of};
 ghost use Rattle.ternary_words.specs.declared.table.Table.{Table};
+
+use ternary_words::laws::first_match_answers;
 
 /// Rows are a partition exactly where each box is the next box and the last one reaches every end.
 pub fn partitions_are_sweeps()
@@ -74,3 +81,15 @@ pub fn valid_texts_are_good_certificates()
     ensures read { (list : RuleList) (table : Table) (text : List ℕ) (n : ℕ) → IsValid (begun list table) text n →
         (rows : List Statement) × IsGood list table rows × (length rows ≡ n) }
 {}
+
+/// What a list or a table says of a header is what its first rule or its first entry decides.
+pub fn first_matches_decide()
+    ensures rule { (list : RuleList) (header : List ℕ) (number : Option ℕ) → first_rule header list.rules.items ≡ place_of number →
+        name_decided list header ≡ name_at list.names (rule_decision list.rules.items number) }
+    ensures entry { (table : Table) (header : List ℕ) (number : Option ℕ) → first_entry header table.entries.items ≡ place_of number →
+        name_answered table header ≡ name_at table.names (entry_decision table.entries.items number) }
+    ensures rule_within { (list : RuleList) (number : Option ℕ) → rule_decision list.rules.items number ≤ length list.names }
+    ensures entry_within { (table : Table) (number : Option ℕ) → entry_decision table.entries.items number ≤ length table.names }
+{
+    first_match_answers();
+}
