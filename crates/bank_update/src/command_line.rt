@@ -4,11 +4,11 @@ ghost use Rattle.bank_update.specs.Commands.{column_seen, event_of, event_seen};
 ghost use Rattle.bank_update.specs.Script.{IsWithin, begin_of, event_named, event_of_columns, look_of, value_column, when_done};
 ghost use Rattle.bank_update.specs.declared.reason.ScriptReason.TheVariants.{Arguments};
 
-use crate::column::next_column;
 use crate::number::number_within;
 use crate::reason::ScriptReason;
 use crate::script::Command;
 use field_boxes::Header;
+use trace_run::next_column;
 
 /// The value of the first column, and what stands behind it.
 #[tactic(auto, unfolding(crate::specs::Script::value_column))]

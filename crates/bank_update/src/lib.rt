@@ -2,7 +2,6 @@
 //! the old table or by the new one.
 #![tactic(auto)]
 
-mod column;
 mod command_line;
 mod drive;
 pub mod laws;

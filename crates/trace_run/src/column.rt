@@ -44,9 +44,11 @@ fn column_len(text: &[u8]) -> usize
     }
 }
 
-/// The first column of the line, and what stands behind it; none where no column is left.
-fn next_column(line: &[u8]) -> Option<(&[u8], &[u8])>
-    ensures { option_map (λ parts. (parts.0.now, columns parts.1.now)) result ≡ first_column (columns line.now) }
+/// The first column of the line, and what stands behind it; none where no column is left. Blanks part
+/// columns.
+pub fn next_column(line: &[u8]) -> Option<(&[u8], &[u8])>
+    ensures first { option_map (λ parts. (parts.0.now, columns parts.1.now)) result ≡ first_column (columns line.now) }
+    ensures cut { MatchOption result (columns line.now ≡ []) (λ parts. columns line.now ≡ parts.0.now ∷ columns parts.1.now) }
 {
     let text = from_column(line)?;
     let len = column_len(text);

@@ -26,6 +26,7 @@ mod taking;
 #[cfg(test)]
 mod tests;
 
+pub use column::next_column;
 pub use error::TraceError;
 pub use reason::TraceReason;
 pub use running::run;
