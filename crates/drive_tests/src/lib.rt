@@ -1,0 +1,9 @@
+//! Tests of scripts that replace a table, over devices and sinks that fail, and the random numbers that they
+//! draw.
+#![tactic(auto)]
+
+mod draw;
+#[cfg(test)]
+mod tests;
+
+pub use draw::Draw;

@@ -1,0 +1,10 @@
+mod action;
+mod bank;
+mod drawing;
+mod driving;
+mod expected;
+mod random;
+mod reading;
+mod refusing;
+mod running;
+mod table;
