@@ -1,0 +1,165 @@
+-- How what is put joins where memory may be refused besides.
+use Rattle.std.proofs.Common.{◌≡◌, ℕ, ◌+◌, ◌<◌, ◌≤◌, List, [], ◌∷◌, ◌++◌, Option, Result, Ok, Err, inl, inr, refl, sym, ap, subst, ◌∙◌, append_assoc, append-nil, length, take, drop, get_or, take-append-drop, arith}
+use Rattle.std.specs.List.{flat_map}
+use Rattle.std.specs.Prelude.{IsErr, IsErrAnd}
+use Rattle.std.proofs.lemmas.List.{take_more, take_all}
+use Rattle.std.proofs.lemmas.List.Concat.{flat_map-append}
+use Rattle.razor_base.specs.Faults.{Rose}
+use Rattle.razor_base.specs.Output.{LeavesOut, Puts, Writes}
+use Rattle.razor_base.proofs.Output.{leaves_out-none, leaves_out-then, leaves_out-all, leaves_out-appends, appends_front-none, appends_front-longer, appends_front-rest, appends_front-then}
+use Rattle.box_partition.specs.declared.stop.Stop.{Stop}
+use Rattle.box_partition.specs.declared.stop.Stop.TheVariants.{Fault, Memory}
+use Rattle.box_partition.specs.Output.{PutsUntil}
+
+rose-later : (a b c : ℕ) → a ≤ b → Rose b c → Rose a c
+rose-later a b c le (inl lt) = inl (omega arith)
+rose-later a b c le (inr last) = inr last
+
+-- all that was to be put so far was put
+abbrev pub HasPutSo : {S : Type 0} → (S → Option (List ℕ)) → (S → ℕ) → S → S → List ℕ → List ℕ → List ℕ → Type 0
+HasPutSo w f a b waited waits text = PutsUntil {T = Unit {0}} w f a b waited waits text (Ok tt)
+
+-- nothing was put yet
+pub until-none : {S : Type 0} {w : S → Option (List ℕ)} {f : S → ℕ} {a : S} {waited : List ℕ} → HasPutSo w f a a waited waited []
+until-none {w = w} {a = a} {waited = waited} = record {
+  ok = rw (append-nil waited) (leaves_out-none (w a) waited);
+  err = tt;
+  failed = tt;
+  counts = omega arith;
+}
+
+-- what was put without a failure
+pub until-put : {S T U E : Type 0} {w : S → Option (List ℕ)} {f : S → ℕ} {a b : S} {waited waits text : List ℕ} {x : T} {y : U} →
+    Puts {T = T} {E = E} w f a b waited waits text (Ok x) → PutsUntil {T = U} w f a b waited waits text (Ok y)
+until-put p = record { ok = p.ok; err = tt; failed = tt; counts = p.counts }
+
+pub until-ok : {S T U : Type 0} {w : S → Option (List ℕ)} {f : S → ℕ} {a b : S} {waited waits text : List ℕ} {x : T} {y : U} →
+    PutsUntil {T = T} w f a b waited waits text (Ok x) → PutsUntil {T = U} w f a b waited waits text (Ok y)
+until-ok p = record { ok = p.ok; err = tt; failed = tt; counts = p.counts }
+
+-- a write failed
+pub until-failed : {S T U E : Type 0} {w : S → Option (List ℕ)} {f : S → ℕ} {a b : S} {waited waits text : List ℕ} {e : E} {r : Result U Stop} →
+    IsErr r → Puts {T = T} {E = E} w f a b waited waits text (Err e) → PutsUntil w f a b waited waits text r
+until-failed {r = Ok y} h p = absurd cc
+until-failed {r = Err y} h p = record { ok = tt; err = p.err; failed = λ is. p.failed; counts = p.counts }
+
+-- memory was refused, before anything was put
+pub until-refused : {S U : Type 0} {w : S → Option (List ℕ)} {f : S → ℕ} {a : S} {waited waits text : List ℕ} {r : Result U Stop} →
+    IsErrAnd r (λ stop. stop ≡ Memory) → PutsUntil w f a a waited waits text r
+until-refused {r = Ok y} h = absurd h
+until-refused {w = w} {a = a} {waited = waited} {text = text} {r = Err y} h = record {
+  ok = tt;
+  err = appends_front-none (w a) (waited ++ text);
+  failed = λ is. let same : Memory ≡ Fault = sym h ∙ is in absurd cc;
+  counts = omega arith;
+}
+
+-- a call stopped, and its caller hands that on
+pub until-stop : {S T U : Type 0} {w : S → Option (List ℕ)} {f : S → ℕ} {a b : S} {waited waits text : List ℕ} {e : Stop} {r : Result U Stop} →
+    IsErrAnd r (λ stop. stop ≡ e) → PutsUntil {T = T} w f a b waited waits text (Err e) → PutsUntil w f a b waited waits text r
+until-stop {r = Ok y} h p = absurd h
+until-stop {r = Err y} h p = record { ok = tt; err = p.err; failed = λ is. p.failed (sym h ∙ is); counts = p.counts }
+
+-- one call puts a text, the next puts more
+pub until-then : {S T U : Type 0} {w : S → Option (List ℕ)} {f : S → ℕ} {a b c : S} {waited waits left text more : List ℕ} {x : T} {r : Result U Stop} →
+    PutsUntil {T = T} w f a b waited waits text (Ok x) → PutsUntil w f b c waits left more r → PutsUntil w f a c waited left (text ++ more) r
+until-then {w = w} {f = f} {a = a} {b = b} {c = c} {waited = waited} {waits = waits} {left = left} {text = text} {more = more} {r = Ok y} p q = record {
+  ok = rw (← append_assoc waited text more) (leaves_out-then (w a) (w b) (w c) (waited ++ text) more waits left p.ok q.ok);
+  err = tt;
+  failed = tt;
+  counts = omega (arith, p.counts, q.counts);
+}
+until-then {w = w} {f = f} {a = a} {b = b} {c = c} {waited = waited} {waits = waits} {left = left} {text = text} {more = more} {r = Err e} p q = record {
+  ok = tt;
+  err = rw (← append_assoc waited text more) (appends_front-then (w a) (w b) (w c) (waited ++ text) more waits p.ok q.err);
+  failed = λ is. rose-later (f a) (f b) (f c) p.counts (q.failed is);
+  counts = omega (arith, p.counts, q.counts);
+}
+
+-- a call stopped: so has a call that puts more behind that
+pub until-more : {S T : Type 0} {w : S → Option (List ℕ)} {f : S → ℕ} {a b : S} {waited waits text : List ℕ} {e : Stop} (more : List ℕ) →
+    PutsUntil {T = T} w f a b waited waits text (Err e) → PutsUntil {T = T} w f a b waited waits (text ++ more) (Err e)
+until-more {w = w} {a = a} {b = b} {waited = waited} {text = text} more p = record {
+  ok = tt;
+  err = rw (← append_assoc waited text more) (appends_front-longer (w a) (w b) (waited ++ text) more p.err);
+  failed = p.failed;
+  counts = p.counts;
+}
+
+-- the text that was put is this one
+pub until-is : {S T : Type 0} {w : S → Option (List ℕ)} {f : S → ℕ} {a b : S} {waited waits text whole : List ℕ} {r : Result T Stop} →
+    PutsUntil w f a b waited waits text r → text ≡ whole → PutsUntil w f a b waited waits whole r
+until-is {w = w} {f = f} {a = a} {b = b} {waited = waited} {waits = waits} {r = r} p e = subst (λ t. PutsUntil w f a b waited waits t r) e p
+
+texts_more : {X : Type 0} (line : X → List ℕ) (items : List X) (i : ℕ) (d : X) → i < length items → flat_map line (take i items) ++ line (get_or items i d) ≡ flat_map line (take (i + 1) items)
+texts_more line items i d lt =
+    ap (λ t. flat_map line (take i items) ++ t) (sym (append-nil (line (get_or items i d))))
+    ∙ sym (flat_map-append line (take i items) (get_or items i d ∷ [])) ∙ ap (flat_map line) (sym (take_more items i d lt))
+
+texts_rest : {X : Type 0} (line : X → List ℕ) (items : List X) (n : ℕ) → flat_map line (take n items) ++ flat_map line (drop n items) ≡ flat_map line items
+texts_rest line items n = sym (flat_map-append line (take n items) (drop n items)) ∙ ap (flat_map line) (take-append-drop n items)
+
+-- the text of the next item is put behind those of the items so far
+pub until-next : {X S T U : Type 0} {w : S → Option (List ℕ)} {f : S → ℕ} {a b c : S} {waited waits left : List ℕ} {x : T} {r : Result U Stop}
+    (line : X → List ℕ) (items : List X) (i : ℕ) (d : X) → i < length items →
+    PutsUntil {T = T} w f a b waited waits (flat_map line (take i items)) (Ok x) → PutsUntil w f b c waits left (line (get_or items i d)) r →
+    PutsUntil w f a c waited left (flat_map line (take (i + 1) items)) r
+until-next line items i d lt p q = until-is (until-then p q) (texts_more line items i d lt)
+
+-- the text of the next item isn't put whole, and nothing that was to come
+pub until-next_cut : {X S T U V : Type 0} {w : S → Option (List ℕ)} {f : S → ℕ} {a b c : S} {waited waits left : List ℕ} {x : T} {e : Stop} {r : Result V Stop}
+    (line : X → List ℕ) (items : List X) (i : ℕ) (d : X) → i < length items → IsErrAnd r (λ stop. stop ≡ e) →
+    PutsUntil {T = T} w f a b waited waits (flat_map line (take i items)) (Ok x) → PutsUntil {T = U} w f b c waits left (line (get_or items i d)) (Err e) →
+    PutsUntil w f a c waited left (flat_map line items) r
+until-next_cut line items i d lt h p q =
+    until-is (until-stop h (until-more (flat_map line (drop (i + 1) items)) (until-next line items i d lt p q))) (texts_rest line items (i + 1))
+
+-- the texts of all items were put
+pub until-each : {X S T : Type 0} {w : S → Option (List ℕ)} {f : S → ℕ} {a b : S} {waited waits : List ℕ} {r : Result T Stop}
+    (line : X → List ℕ) (items : List X) (i : ℕ) → length items ≤ i → PutsUntil w f a b waited waits (flat_map line (take i items)) r → PutsUntil w f a b waited waits (flat_map line items) r
+until-each line items i le p = until-is p (ap (flat_map line) (take_all i items le))
+
+err_of : {T : Type 0} (P : Stop → Type 0) (r : Result T Stop) → IsErrAnd r P → IsErr r
+err_of P (Ok y) h = absurd h
+err_of P (Err y) h = refl
+
+-- where a call stops, nothing is said of what waits
+pub until-lost : {S T : Type 0} {w : S → Option (List ℕ)} {f : S → ℕ} {a b : S} {waited waits other text : List ℕ} {r : Result T Stop} →
+    IsErr r → PutsUntil w f a b waited waits text r → PutsUntil w f a b waited other text r
+until-lost {r = Ok y} h p = absurd cc
+until-lost {r = Err y} h p = record { ok = tt; err = p.err; failed = p.failed; counts = p.counts }
+
+-- A whole text: two parts that are put behind nothing, and a flush.
+
+pub whole-first_cut : {S T U : Type 0} {w : S → Option (List ℕ)} {f : S → ℕ} {a b : S} {waited waits text : List ℕ} {e : Stop} {r : Result U Stop} (more whole : List ℕ) →
+    IsErrAnd r (λ stop. stop ≡ e) → waited ≡ [] → PutsUntil {T = T} w f a b waited waits text (Err e) → text ++ more ≡ whole → PutsUntil w f a b [] [] whole r
+whole-first_cut {w = w} {f = f} {a = a} {b = b} {waited = waited} {waits = waits} {e = e} {r = r} more whole h none p is =
+    until-lost (err_of (λ stop. stop ≡ e) r h) (subst (λ ws. PutsUntil w f a b ws waits whole r) none (until-is (until-stop h (until-more more p)) is))
+
+pub whole-second_cut : {S T U E V : Type 0} {w : S → Option (List ℕ)} {f : S → ℕ} {a b c : S} {waited waits left text more : List ℕ} {x : T} {e : E} {r : Result U Stop} (whole : List ℕ) →
+    IsErr r → waited ≡ [] → PutsUntil {T = T} w f a b waited waits text (Ok x) → Puts {T = V} {E = E} w f b c waits left more (Err e) → text ++ more ≡ whole → PutsUntil w f a c [] [] whole r
+whole-second_cut {w = w} {f = f} {a = a} {c = c} {waited = waited} {left = left} {r = r} whole h none p q is =
+    until-lost h (subst (λ ws. PutsUntil w f a c ws left whole r) none (until-is (until-then p (until-failed h q)) is))
+
+pub whole-third_cut : {S T U V W E F : Type 0} {w : S → Option (List ℕ)} {f : S → ℕ} {a b c d : S} {waited waits left text more : List ℕ} {x : T} {y : V} {e : F} {r : Result U Stop} (whole : List ℕ) →
+    IsErr r → waited ≡ [] → PutsUntil {T = T} w f a b waited waits text (Ok x) → Puts {T = V} {E = E} w f b c waits left more (Ok y) → Writes {T = W} {E = F} w f c d left (Err e) →
+    text ++ more ≡ whole → PutsUntil w f a d [] [] whole r
+whole-third_cut {r = Ok z} whole h none p q k is = absurd cc
+whole-third_cut {w = w} {f = f} {a = a} {b = b} {c = c} {d = d} {waited = waited} {waits = waits} {left = left} {text = text} {more = more} {x = x} {y = y} {r = Err z} whole h none p q k is =
+    let both = until-is (until-then p (until-put {y = x} q)) is in record {
+      ok = tt;
+      err = appends_front-rest (w a) (w c) (w d) whole left (subst (λ ws. LeavesOut (w a) (w c) (ws ++ whole) left) none both.ok) k.err;
+      failed = λ said. rose-later (f a) (f c) (f d) both.counts k.failed;
+      counts = omega (arith, both.counts, k.counts);
+    }
+
+pub whole-written : {S T U V W E F : Type 0} {w : S → Option (List ℕ)} {f : S → ℕ} {a b c d : S} {waited waits left text more : List ℕ} {x : T} {y : V} {z : W} {u : U} (whole : List ℕ) →
+    waited ≡ [] → PutsUntil {T = T} w f a b waited waits text (Ok x) → Puts {T = V} {E = E} w f b c waits left more (Ok y) → Writes {T = W} {E = F} w f c d left (Ok z) →
+    text ++ more ≡ whole → PutsUntil {T = U} w f a d [] [] whole (Ok u)
+whole-written {w = w} {f = f} {a = a} {b = b} {c = c} {d = d} {waited = waited} {waits = waits} {left = left} {text = text} {more = more} {x = x} whole none p q k is =
+    let both = until-is (until-then p (until-put {y = x} q)) is in record {
+      ok = leaves_out-all (w a) (w d) whole (leaves_out-appends (w a) (w c) (w d) whole left (subst (λ ws. LeavesOut (w a) (w c) (ws ++ whole) left) none both.ok) k.ok);
+      err = tt;
+      failed = tt;
+      counts = omega (arith, both.counts, k.counts);
+    }

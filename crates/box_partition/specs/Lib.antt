@@ -1,0 +1,10 @@
+pub mod Coarsest
+pub mod Certificate
+pub mod Difference
+pub mod Standing
+pub mod Names
+pub mod Firsts
+pub mod Rows
+pub mod Output
+pub mod Stopped
+pub mod Outcome

@@ -1,0 +1,48 @@
+-- How the writing of a certificate ends.
+use Rattle.std.specs.Prelude.{◌≡◌, ◌⊎◌, ℕ, List, [], Option, Result, IfOk, length}
+use Rattle.std.specs.Io.KnownBytes.{Appends, Keeps}
+use Rattle.razor_base.specs.Output.{AppendsFront}
+use Rattle.filter_reader.specs.declared.list.RuleList.{RuleList}
+use Rattle.ternary_words.specs.declared.table.Table.{Table}
+use Rattle.partition_check.specs.Checking.{Statement}
+use Rattle.partition_check.specs.Good.{certificate_text}
+use Rattle.partition_check.specs.PrefixWords.{ArePrefixes, IsFirstOther}
+use Rattle.box_partition.specs.Certificate.{IsCertificate}
+use Rattle.box_partition.specs.Output.{PutsUntil}
+use Rattle.box_partition.specs.Difference.{IsFirstDifference, IsListNumber, IsTableNumber}
+use Rattle.box_partition.specs.declared.stop.Stop.{Stop}
+use Rattle.box_partition.specs.declared.error.CertError.{CertError}
+use Rattle.box_partition.specs.declared.error.CertError.TheVariants.{Differs, NotPrefix, Fault, Memory}
+
+-- the certificate of list and table was appended, and has so many rows
+pub record IsWritten (list : RuleList) (table : Table) (before after : Option (List ℕ)) (count : ℕ) : Type 0 where
+  pub rows : List Statement
+  pub certificate : IsCertificate list table rows
+  pub appended : Appends before after (certificate_text rows)
+  pub counted : count ≡ length rows
+
+-- a front of the certificate was appended
+pub record IsCut (list : RuleList) (table : Table) (before after : Option (List ℕ)) : Type 0 where
+  pub rows : List Statement
+  pub certificate : IsCertificate list table rows
+  pub appended : AppendsFront before after (certificate_text rows)
+
+-- the certificate is being written: all of it, or a front of it where the call stops
+pub record IsWriting {S : Type 0} (list : RuleList) (table : Table) (written : S → Option (List ℕ)) (faults : S → ℕ) (before after : S) (answer : Result ℕ Stop) : Type 0 where
+  pub rows : List Statement
+  pub certificate : IsCertificate list table rows
+  pub puts : PutsUntil written faults before after [] [] (certificate_text rows) answer
+  pub counted : IfOk answer (λ n. n ≡ length rows)
+
+-- the least header on which list and table differ, with the number of what each says there
+pub record AreApart (list : RuleList) (table : Table) (header : List ℕ) (said answered : ℕ) : Type 0 where
+  pub first : IsFirstDifference list table header
+  pub left : IsListNumber list header said
+  pub right : IsTableNumber table header answered
+
+-- what each error says, and what stands after it; a word that is no prefix comes before all else
+abbrev pub Ends : RuleList → Table → Option (List ℕ) → Option (List ℕ) → CertError → Type 0
+Ends list table before after (NotPrefix entry) = IsFirstOther table.entries.items entry × Keeps before after
+Ends list table before after (Differs header left right) = ArePrefixes table.entries.items × AreApart list table header.values left right × Keeps before after
+Ends list table before after Fault = ArePrefixes table.entries.items × IsCut list table before after
+Ends list table before after Memory = ArePrefixes table.entries.items × (Keeps before after ⊎ IsCut list table before after)

@@ -1,0 +1,13 @@
+-- What stands of a text that is put in parts, until a write fails or memory is refused.
+use Rattle.std.specs.Prelude.{◌≡◌, ◌≤◌, ℕ, List, ◌++◌, Option, Result, OnOk, OnErr, IfErr}
+use Rattle.razor_base.specs.Faults.{Rose}
+use Rattle.razor_base.specs.Output.{LeavesOut, AppendsFront}
+use Rattle.box_partition.specs.declared.stop.Stop.{Stop}
+use Rattle.box_partition.specs.declared.stop.Stop.TheVariants.{Fault}
+
+-- the text is put behind the bytes that waited; where the call stops, a front was appended, and a failed write was counted
+pub record PutsUntil {S T : Type 0} (written : S → Option (List ℕ)) (faults : S → ℕ) (before after : S) (waited waits text : List ℕ) (answer : Result T Stop) : Type 0 where
+  pub ok : OnOk answer (LeavesOut (written before) (written after) (waited ++ text) waits)
+  pub err : OnErr answer (AppendsFront (written before) (written after) (waited ++ text))
+  pub failed : IfErr answer (λ stop. stop ≡ Fault → Rose (faults before) (faults after))
+  pub counts : faults before ≤ faults after
