@@ -1,15 +1,17 @@
 -- A list of which no rule is left to draw.
-use Rattle.std.proofs.Common.{◌≡◌, ℕ, zero, suc, ◌+◌, ◌%◌, Bool, true, false, ap, refl, subst, sym, ◌∙◌, append-nil}
+use Rattle.std.proofs.Common.{◌≡◌, List, ℕ, zero, suc, ◌+◌, ◌%◌, Bool, true, false, ap, refl, subst, sym, ◌∙◌, append-nil}
 use Rattle.std.specs.Prelude.{codes, nat_eq, if◌then◌else◌}
 use Rattle.std.specs.Str.{bytes_eq}
 use Rattle.std.proofs.lemmas.Bool.{or_left}
 use Rattle.field_boxes.specs.NamedRules.{named_rules}
+use Rattle.field_boxes.specs.declared.rule.Rule.{Rule}
 use Rattle.field_boxes.specs.Names.{is_decision_word}
 use Rattle.filter_reader.specs.FilterList.{FilterList, own_name}
 use Rattle.filter_reader.specs.OwnNames.{HaveNames}
 use Rattle.filter_reader.specs.declared.list.RuleList.{RuleList}
 use Rattle.list_generator.specs.Draws.{drawn, state_after}
 use Rattle.list_generator.specs.DrawnSets.{decision}
+use Rattle.list_generator.specs.DrawnHeaders.{state_behind}
 use Rattle.list_generator.specs.DrawnRules.{drawn_rules}
 use Rattle.list_generator.specs.Generated.{IsGenerated}
 use Rattle.list_generator.proofs.SoFar.{IsSoFar}
@@ -40,3 +42,7 @@ finished seed count left state list none clean so =
       names = is.seen;
       named = subst (HaveNames 1) (sym whole) (have_names 1 count seed);
     }
+
+-- and the state is the one behind its rules
+pub turned : (seed count left state : ℕ) (names : List (List ℕ)) (rules : List Rule) → left ≡ 0 → IsSoFar seed count left state names rules → state ≡ state_behind count seed
+turned seed count left state names rules none so = subst (λ n. state_behind n state ≡ state_behind count seed) none so.turned

@@ -12,6 +12,7 @@ use Rattle.field_boxes.specs.Rules.{sets_of}
 use Rattle.filter_reader.specs.FilterRules.{IsFilterRule}
 use Rattle.filter_reader.specs.FirstSeen.{first_seen}
 use Rattle.list_generator.specs.Draws.{state_after}
+use Rattle.list_generator.specs.DrawnHeaders.{state_behind}
 use Rattle.list_generator.specs.DrawnRules.{drawn_rule, drawn_rules}
 use Rattle.list_generator.specs.Growing.{AddsDrawn, IsDrawn}
 
@@ -25,6 +26,7 @@ pub record IsSoFar (seed count left state : ℕ) (names : List (List ℕ)) (rule
   pub seen : seen_after names (drawn_rules left state) ≡ first_seen (drawn_rules count seed)
   pub few : length names ≤ length rules
   pub counted : length rules + left ≡ count
+  pub turned : state_behind left state ≡ state_behind count seed
   pub spelled : All IsFilterRule rules
   pub numbered : All (IsNumberedBy names) rules
 
@@ -73,6 +75,7 @@ step seed count left state after old new rules r so is =
       seen = ap (λ s. seen_after new (drawn_rules left s)) is.turned ∙ ap (λ ns. seen_after ns rest) is.seen ∙ so.seen;
       few = let more = grown.1 in omega (arith, more, same, less, size);
       counted = omega (arith, total, size);
+      turned = ap (state_behind left) is.turned ∙ so.turned;
       spelled = All-push IsFilterRule rules r so.spelled is.spelled;
       numbered = All-push (IsNumberedBy new) rules r (All-weaker (IsNumberedBy old) (IsNumberedBy new) (λ x h. (h.0, let below = h.1 in let more = grown.0 in omega (arith, below, more, same))) rules so.numbered) is.within;
     }
@@ -85,4 +88,4 @@ added seed count left next state after old new rules longer e so (r, is, same) =
 
 -- nothing is drawn yet
 pub none : (seed count : ℕ) → IsSoFar seed count count seed [] []
-none seed count = record { whole = refl; seen = refl; few = omega arith; counted = omega arith; spelled = All-nil IsFilterRule; numbered = All-nil (IsNumberedBy []) }
+none seed count = record { whole = refl; seen = refl; few = omega arith; counted = omega arith; turned = refl; spelled = All-nil IsFilterRule; numbered = All-nil (IsNumberedBy []) }

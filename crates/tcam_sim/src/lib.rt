@@ -17,4 +17,4 @@ mod tests;
 pub use bank::Bank;
 pub use device::Device;
 pub use faulty_bank::FaultyBank;
-pub use loading::load;
+pub use loading::{load, loaded};

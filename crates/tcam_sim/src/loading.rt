@@ -1,9 +1,12 @@
-ghost use Rattle.std.specs.Prelude.{◌≡◌, ◌≤◌, ℕ, None, length, replicate, OnOk, OnErr, take};
+ghost use Rattle.std.specs.Prelude.{◌≡◌, ◌≤◌, ℕ, None, length, replicate, IfOk, OnOk, OnErr, take};
 ghost use Rattle.razor_base.specs.Faults.{Rose};
+ghost use Rattle.tcam_sim.specs.Bank.{slots_of};
 ghost use Rattle.tcam_sim.specs.Slots.{filled};
 
+use crate::bank::Bank;
 use crate::device::Device;
-use razor_base::Failed;
+use razor_base::{Failed, Memory};
+use std::alloc::Global;
 use ternary_words::Table;
 
 /// Puts the entries of a table into the first slots of a device whose slots are all empty, in their order.
@@ -24,4 +27,14 @@ pub fn load<V: Device>(device: &mut V, table: &Table) -> Result<(), Failed>
         device.set(slot as u32, Some(*entry))?;
     }
     Ok(())
+}
+
+/// A bank with the entries of a table in its first slots: as many slots as entries, and at least one.
+pub fn loaded(alloc: Global, table: &Table) -> Result<Bank, Memory>
+    ensures { IfOk result (λ bank. slots_of bank ≡ filled (length (slots_of bank)) table.now.entries.items) }
+{
+    let slots = (table.entries.len() as u32).max(1);
+    let mut bank = Bank::new(alloc, slots)?;
+    load(&mut bank, table).unwrap();
+    Ok(bank)
 }

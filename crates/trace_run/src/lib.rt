@@ -12,7 +12,7 @@
 //! `specs/Trace.antt` says what a text spells, and `specs/Outcome.antt` how a run ends.
 #![tactic(auto)]
 
-mod answer;
+mod answering;
 mod column;
 mod error;
 mod feed;
@@ -26,6 +26,7 @@ mod taking;
 #[cfg(test)]
 mod tests;
 
+pub use answering::answer;
 pub use column::next_column;
 pub use error::TraceError;
 pub use reason::TraceReason;

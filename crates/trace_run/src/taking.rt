@@ -6,7 +6,7 @@ ghost use Rattle.trace_run.specs.Answers.{HaveNames, answers_text};
 ghost use Rattle.trace_run.specs.Taking.{count_in, stopped_at, text_for};
 ghost use Rattle.trace_run.specs.Trace.{header_of_line, trace_from};
 
-use crate::answer::put_answer;
+use crate::answering::put_answer;
 use crate::line::line_header;
 use crate::reason::TraceReason;
 use field_boxes::Decisions;

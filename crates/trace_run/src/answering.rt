@@ -8,7 +8,7 @@ use razor_base::{Failed, Part, Pending, Sink, put_parts};
 use tcam_sim::Device;
 
 /// The name of the decision in the least slot that matches the header, or `miss`.
-fn answer<'a, V: Device>(device: &V, names: &'a Decisions, header: &Header) -> &'a str
+pub fn answer<'a, V: Device>(device: &V, names: &'a Decisions, header: &Header) -> &'a str
     requires { HaveNames names.now (V.held device.now) }
     ensures { result.now ≡ text_of (answer_in names.now (V.held device.now) header.now.values) }
 {

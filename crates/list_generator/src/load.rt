@@ -1,0 +1,9 @@
+use field_boxes::Header;
+use filter_reader::RuleList;
+
+/// A list, with headers to try it.
+#[derive(Drop)]
+pub struct Load {
+    pub list: RuleList,
+    pub headers: Vec<Header>,
+}
