@@ -64,7 +64,7 @@ fn script_form(command: CommandName, name: &'static str) -> CommandForm
 }
 
 /// The forms of the commands that are built, in the order of the usage text.
-pub fn built_forms() -> [CommandForm; 8]
+pub fn built_forms() -> [CommandForm; 10]
     ensures forms { map form_seen result ≡ built_forms }
     ensures few { HaveFewWords result }
 {
@@ -76,10 +76,12 @@ pub fn built_forms() -> [CommandForm; 8]
         table_form(CommandName::Expand, "expand"),
         table_form(CommandName::Compile, "compile"),
         plain_form(CommandName::Equiv, "equiv", two, "A B"),
+        plain_form(CommandName::Cert, "cert", two, "LIST TABLE"),
         plain_form(CommandName::Check, "check", three, "LIST TABLE CERT"),
         plain_form(CommandName::Trace, "trace", two, "TABLE TRACE"),
         script_form(CommandName::Drive, "drive"),
         plain_form(CommandName::Gen, "gen", drawing, "SEED N"),
+        plain_form(CommandName::Selfrun, "selfrun", drawing, "SEED N"),
         plain_form(CommandName::Migrate, "migrate", one, "TABLE"),
     ]
 }

@@ -9,10 +9,12 @@ pub enum CommandName {
     Expand,
     Compile,
     Equiv,
+    Cert,
     Check,
     Trace,
     Drive,
     Gen,
+    Selfrun,
     Migrate,
 }
 

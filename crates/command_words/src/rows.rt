@@ -102,7 +102,18 @@ pub fn worked_numbers()
 
 /// The usage text of the commands that are built, and of all nine.
 pub fn worked_usage()
-    ensures built { usage_of built_forms ≡ lines (codes "usage: razor COMMAND" ∷ codes "  expand [--limit N] [--slot W] LIST" ∷ codes "  compile [--limit N] [--slot W] LIST" ∷ codes "  equiv A B" ∷ codes "  check LIST TABLE CERT" ∷ codes "  trace TABLE TRACE" ∷ codes "  drive --slots N SCRIPT TABLE .." ∷ codes "  gen SEED N" ∷ codes "  migrate TABLE" ∷ []) }
+    ensures built { usage_of built_forms ≡ lines (codes "usage: razor COMMAND"
+        ∷ codes "  expand [--limit N] [--slot W] LIST"
+        ∷ codes "  compile [--limit N] [--slot W] LIST"
+        ∷ codes "  equiv A B"
+        ∷ codes "  cert LIST TABLE"
+        ∷ codes "  check LIST TABLE CERT"
+        ∷ codes "  trace TABLE TRACE"
+        ∷ codes "  drive --slots N SCRIPT TABLE .."
+        ∷ codes "  gen SEED N"
+        ∷ codes "  selfrun SEED N"
+        ∷ codes "  migrate TABLE"
+        ∷ []) }
     ensures nine { usage_of nine_forms ≡ lines (codes "usage: razor COMMAND"
         ∷ codes "  expand [--limit N] [--slot W] LIST"
         ∷ codes "  compile [--limit N] [--slot W] LIST"

@@ -171,7 +171,7 @@ fn built_commands_are_read_and_told(rt: HostRuntime) -> Result<(), Fail> {
     }
     assert_eq!(rt;
         usage.as_str(),
-        "  expand [--limit N] [--slot W] LIST\n  compile [--limit N] [--slot W] LIST\n  equiv A B\n  check LIST TABLE CERT\n  trace TABLE TRACE\n  drive --slots N SCRIPT TABLE ..\n  gen SEED N\n  migrate TABLE\n"
+        "  expand [--limit N] [--slot W] LIST\n  compile [--limit N] [--slot W] LIST\n  equiv A B\n  cert LIST TABLE\n  check LIST TABLE CERT\n  trace TABLE TRACE\n  drive --slots N SCRIPT TABLE ..\n  gen SEED N\n  selfrun SEED N\n  migrate TABLE\n"
     );
     Ok(())
 }

@@ -7,7 +7,7 @@ use Rattle.razor_core.specs.declared.ending.Ending.TheVariants.{Done, No, BadLin
 use Rattle.trace_run.specs.Outcome.{GoesOn}
 use Rattle.trace_run.specs.Trace as traces
 use Rattle.trace_run.specs.Trace.{trace_within}
-use Rattle.razor_core.specs.Command.{Command, Make, Equiv, Check, Trace, Drive, Gen, Migrate}
+use Rattle.razor_core.specs.Command.{Command, Make, Equiv, Cert, Check, Trace, Drive, Gen, Selfrun, Migrate}
 use Rattle.razor_core.specs.Inputs.{BadLine, Value, list_value, table_value, lines_value, inputs, most_bytes, text_of_trace}
 use Rattle.razor_core.specs.Outside.{Outside, Tells}
 use Rattle.razor_core.specs.Standing.{IsCutOff, Stands, StandsCut, StandsShort, WritesInTurn, WritesNothing}
@@ -39,6 +39,8 @@ bad_or_long text bad most h same long = no_bad_line (taken_of text).bad bad (sub
 later_alike : (command : Command) (values : List Value) (a b : Stop) → StopsLater command values a → StopsLater command values b → stop_status a ≡ stop_status b
 later_alike (Make method sizes file) (list_value list ∷ values) (too_many needed limit) (too_many more most) h k = refl
 later_alike (Make method sizes file) (list_value list ∷ values) (too_many needed limit) b h k = absurd k
+later_alike (Cert list table) (list_value rules ∷ table_value entries ∷ values) (bad_line name bad) (bad_line other worse) h k = refl
+later_alike (Cert list table) (list_value rules ∷ table_value entries ∷ values) (bad_line name bad) b h k = absurd k
 later_alike (Check list table certificate) (list_value rules ∷ table_value entries ∷ lines_value text ∷ values) (too_long name limit) (too_long other most) h k = refl
 later_alike (Check list table certificate) (list_value rules ∷ table_value entries ∷ lines_value text ∷ values) (too_long name limit) b h k = absurd k
 later_alike (Trace table trace) (table_value entries ∷ lines_value text ∷ values) (bad_line name bad) (bad_line other worse) h k = refl
@@ -47,6 +49,8 @@ later_alike (Trace table trace) (table_value entries ∷ lines_value text ∷ va
 later_alike (Trace table trace) (table_value entries ∷ lines_value text ∷ values) (too_long name limit) (too_long other most) h k = refl
 later_alike (Trace table trace) (table_value entries ∷ lines_value text ∷ values) (too_long other most) (bad_line name bad) h k = absurd (bad_or_long text bad most k.1 h.1 h.2)
 later_alike (Trace table trace) (table_value entries ∷ lines_value text ∷ values) (too_long other most) b h k = absurd k
+later_alike (Selfrun seed rules) values (too_many needed limit) (too_many more most) h k = refl
+later_alike (Selfrun seed rules) values (too_many needed limit) b h k = absurd k
 later_alike command values a b h k = absurd h
 
 -- what ends a command has one status
@@ -135,19 +139,23 @@ not_two Memory = λ e. omega (arith, e)
 cut_unchanged : (command : Command) (before after : Outside) (file : List ℕ) → WritesNothing (Some command) 5 → StandsCut command before after file → Keeps before.written after.written
 cut_unchanged (Make method sizes list) before after file last h = h
 cut_unchanged (Equiv left right) before after file last h = h
+cut_unchanged (Cert list table) before after file last h = h
 cut_unchanged (Check list table certificate) before after file last h = h
 cut_unchanged (Trace table trace) before after file last h = absurd last
 cut_unchanged (Drive slots script tables) before after file last h = h
 cut_unchanged (Gen seed rules) before after file last h = h
+cut_unchanged (Selfrun seed rules) before after file last h = h
 cut_unchanged (Migrate table) before after file last h = h
 
 short_unchanged : (command : Command) (before after : Outside) → WritesNothing (Some command) 7 → StandsShort command before after → Keeps before.written after.written
 short_unchanged (Make method sizes list) before after last h = h
 short_unchanged (Equiv left right) before after last h = h
+short_unchanged (Cert list table) before after last h = absurd (last refl)
 short_unchanged (Check list table certificate) before after last h = h
 short_unchanged (Trace table trace) before after last h = absurd last
 short_unchanged (Drive slots script tables) before after last h = absurd (last refl)
 short_unchanged (Gen seed rules) before after last h = h
+short_unchanged (Selfrun seed rules) before after last h = h
 short_unchanged (Migrate table) before after last h = h
 
 pub unchanged_by : (command : Command) (before after : Outside) (ending : Ending) → Ends command before after ending → WritesNothing (Some command) (status_of ending) → status_of ending ≢ 0 → status_of ending ≢ 1 → status_of ending ≢ 6 →

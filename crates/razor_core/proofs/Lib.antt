@@ -8,3 +8,5 @@ pub mod Endings
 pub mod Tables
 pub mod Traced
 pub mod Turns
+pub mod CertEnding
+pub mod SelfRun

@@ -16,10 +16,12 @@ pub record Sizes : Type 0 where
 pub data Command : Type 0 where
   Make : Method → Sizes → List ℕ → Command
   Equiv : List ℕ → List ℕ → Command
+  Cert : List ℕ → List ℕ → Command
   Check : List ℕ → List ℕ → List ℕ → Command
   Trace : List ℕ → List ℕ → Command
   Drive : ℕ → List ℕ → List (List ℕ) → Command
   Gen : ℕ → ℕ → Command
+  Selfrun : ℕ → ℕ → Command
   Migrate : List ℕ → Command
 
 -- the sizes of a table where these options are given or left out
@@ -27,11 +29,11 @@ abbrev pub sizes_given : Option ℕ → Option ℕ → Sizes
 sizes_given limit slot = record { limit = unwrap_or limit 262144; slot = unwrap_or slot 144 }
 
 -- the command that draws so many rules from a seed
-abbrev pub drawing : List ℕ → Option Command
-drawing [] = None
-drawing (seed ∷ []) = None
-drawing (seed ∷ rules ∷ []) = if nat_le seed 2147483647 && nat_le rules 65536 then Some (Gen seed rules) else None
-drawing (seed ∷ rules ∷ other ∷ numbers) = None
+abbrev pub drawing : (ℕ → ℕ → Command) → List ℕ → Option Command
+drawing command [] = None
+drawing command (seed ∷ []) = None
+drawing command (seed ∷ rules ∷ []) = if nat_le seed 2147483647 && nat_le rules 65536 then Some (command seed rules) else None
+drawing command (seed ∷ rules ∷ other ∷ numbers) = None
 
 -- the command over the only file
 abbrev pub over_one : (List ℕ → Command) → List (List ℕ) → Option Command
@@ -65,10 +67,12 @@ abbrev pub command_named : CommandName → Sizes → Option ℕ → List ℕ →
 command_named names.Expand sizes slots numbers files = over_one (Make Expand sizes) files
 command_named names.Compile sizes slots numbers files = over_one (Make Compile sizes) files
 command_named names.Equiv sizes slots numbers files = over_two Equiv files
+command_named names.Cert sizes slots numbers files = over_two Cert files
 command_named names.Check sizes slots numbers files = over_three Check files
 command_named names.Trace sizes slots numbers files = over_two Trace files
 command_named names.Drive sizes slots numbers files = over_script slots files
-command_named names.Gen sizes slots numbers files = drawing numbers
+command_named names.Gen sizes slots numbers files = drawing Gen numbers
+command_named names.Selfrun sizes slots numbers files = drawing Selfrun numbers
 command_named names.Migrate sizes slots numbers files = over_one Migrate files
 
 -- the command that the words spell, or none

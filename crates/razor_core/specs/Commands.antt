@@ -3,7 +3,7 @@ use Rattle.std.specs.Prelude.{ℕ, List, [], ◌∷◌}
 use Rattle.razor_core.specs.declared.command.Command as code
 use Rattle.razor_core.specs.declared.command.Command.TheVariants as code_variants
 use Rattle.razor_core.specs.declared.sizes.Sizes as code_sizes
-use Rattle.razor_core.specs.Command.{Command, Sizes, Make, Equiv, Check, Trace, Drive, Gen, Migrate}
+use Rattle.razor_core.specs.Command.{Command, Sizes, Make, Equiv, Cert, Check, Trace, Drive, Gen, Selfrun, Migrate}
 
 -- the sizes of a table
 abbrev pub sizes_of : code_sizes.Sizes → Sizes
@@ -23,8 +23,10 @@ fewest_words command = 0
 abbrev pub spelled_over : List (List ℕ) → code.Command → Command
 spelled_over files (code_variants.Make method sizes list) = Make method (sizes_of sizes) list.now
 spelled_over files (code_variants.Equiv lists) = Equiv lists.first.now lists.second.now
+spelled_over files (code_variants.Cert both) = Cert both.first.now both.second.now
 spelled_over files (code_variants.Check all) = Check all.first.now all.second.now all.third.now
 spelled_over files (code_variants.Trace both) = Trace both.first.now both.second.now
 spelled_over files (code_variants.Drive slots) = driving slots.count files
 spelled_over files (code_variants.Gen drawing) = Gen drawing.seed drawing.rules
+spelled_over files (code_variants.Selfrun drawing) = Selfrun drawing.seed drawing.rules
 spelled_over files (code_variants.Migrate table) = Migrate table.now

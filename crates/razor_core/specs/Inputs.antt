@@ -4,7 +4,7 @@ use Rattle.filter_reader.specs.FilterList as lists
 use Rattle.table_text.specs.Reading as tables
 use Rattle.bank_update.specs.Script as scripts
 use Rattle.ternary_words.specs.Table.{Table}
-use Rattle.razor_core.specs.Command.{Command, Make, Equiv, Check, Trace, Drive, Gen, Migrate}
+use Rattle.razor_core.specs.Command.{Command, Make, Equiv, Cert, Check, Trace, Drive, Gen, Selfrun, Migrate}
 use Rattle.razor_core.specs.declared.line_reason.LineReason.{LineReason}
 use Rattle.razor_core.specs.declared.line_reason.LineReason.TheVariants.{OfList, OfTable, OfScript}
 
@@ -46,10 +46,12 @@ certificate_input name = record { name = name; kind = text_of_certificate }
 abbrev pub inputs : Command → List Input
 inputs (Make method sizes list) = list_input list ∷ []
 inputs (Equiv left right) = list_input left ∷ list_input right ∷ []
+inputs (Cert list table) = list_input list ∷ table_input table ∷ []
 inputs (Check list table certificate) = list_input list ∷ table_input table ∷ certificate_input certificate ∷ []
 inputs (Trace table trace) = table_input table ∷ trace_input trace ∷ []
 inputs (Drive slots script tables) = script_input (length tables) script ∷ map table_input tables
 inputs (Gen seed rules) = []
+inputs (Selfrun seed rules) = []
 inputs (Migrate table) = table_input table ∷ []
 
 -- the inputs that a command reads to their end where its answer is yes, or no: a certificate that is wrong needn't be

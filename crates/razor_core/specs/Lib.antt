@@ -4,6 +4,8 @@ pub mod Asked
 pub mod Inputs
 pub mod Traced
 pub mod Certified
+pub mod Written
+pub mod SelfRuns
 pub mod Outside
 pub mod Turns
 pub mod Taking
@@ -15,6 +17,7 @@ pub mod Standing
 pub mod Reasons
 pub mod Messages
 pub mod Ending
+pub mod CertEnds
 pub mod Runs
 pub mod Says
 pub mod Verdicts

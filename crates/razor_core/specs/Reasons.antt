@@ -10,7 +10,7 @@ use Rattle.bank_update.specs.declared.reason.ScriptReason.TheVariants.{Command, 
 use Rattle.trace_run.specs.declared.reason.TraceReason.{TraceReason}
 use Rattle.trace_run.specs.declared.reason.TraceReason.TheVariants.{Short, Digits, Large}
 use Rattle.razor_core.specs.declared.line_reason.LineReason.{LineReason}
-use Rattle.razor_core.specs.declared.line_reason.LineReason.TheVariants.{OfList, OfTable, OfScript, OfTrace}
+use Rattle.razor_core.specs.declared.line_reason.LineReason.TheVariants.{NotPrefix, OfList, OfTable, OfScript, OfTrace}
 
 -- of a list
 abbrev pub list_reason_text : Reason → List ℕ
@@ -56,6 +56,7 @@ trace_reason_text Large = codes "value too large"
 abbrev pub reason_text : LineReason → List ℕ
 reason_text (OfList reason) = list_reason_text reason
 reason_text (OfTable reason) = table_reason_text reason
+reason_text NotPrefix = codes "not a prefix word"
 reason_text (OfScript reason) = script_reason_text reason
 reason_text (OfTrace reason) = trace_reason_text reason
 
@@ -78,5 +79,6 @@ table_counts_text OutsideMask = []
 abbrev pub counts_text : LineReason → List ℕ
 counts_text (OfList reason) = []
 counts_text (OfTable reason) = table_counts_text reason
+counts_text NotPrefix = []
 counts_text (OfScript reason) = []
 counts_text (OfTrace reason) = []

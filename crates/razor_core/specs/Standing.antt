@@ -4,7 +4,7 @@ use Rattle.std.specs.Io.KnownBytes.{Appends, Keeps}
 use Rattle.razor_base.specs.Output.{AppendsFront}
 use Rattle.ternary_words.specs.Table.{Table}
 use Rattle.trace_run.specs.Outcome.{IsCut}
-use Rattle.razor_core.specs.Command.{Command, Trace, Drive}
+use Rattle.razor_core.specs.Command.{Command, Cert, Trace, Drive}
 use Rattle.razor_core.specs.Inputs.{Value, table_input, table_value, inputs, most_bytes, text_of_trace}
 use Rattle.razor_core.specs.Outside.{Outside, Tells, bytes_at}
 use Rattle.razor_core.specs.Outcome.{Outcome, Gives}
@@ -19,6 +19,7 @@ WritesInTurn command = ⊥
 -- with this status, which is neither 0, 1 nor 6, nothing was written
 abbrev pub WritesNothing : Option Command → ℕ → Type 0
 WritesNothing (Some (Trace table trace)) status = ⊥
+WritesNothing (Some (Cert list table)) status = status ≢ 7
 WritesNothing (Some (Drive slots script tables)) status = status ≢ 7
 WritesNothing command status = Unit {0}
 
@@ -57,5 +58,6 @@ StandsCut command before after file = Keeps before.written after.written
 -- what was written where memory was refused
 abbrev pub StandsShort : Command → Outside → Outside → Type 0
 StandsShort (Trace table trace) before after = Tells before (Trace table trace) → Keeps before.written after.written ⊎ IsCutOff (Trace table trace) before after
+StandsShort (Cert list table) before after = Tells before (Cert list table) → Keeps before.written after.written ⊎ IsCutOff (Cert list table) before after
 StandsShort (Drive slots script tables) before after = Tells before (Drive slots script tables) → Keeps before.written after.written ⊎ IsCutOff (Drive slots script tables) before after
 StandsShort command before after = Keeps before.written after.written

@@ -1,10 +1,13 @@
 -- What the inputs of a command come to, each in its turn, and the entries that are needed.
 use Rattle.std.specs.Prelude.{◌≡◌, ℕ, ◌<◌, ◌⊎◌, List, [], ◌∷◌, length, Result, Ok, Err, if◌then◌else◌}
 use Rattle.trace_run.specs.Outcome.{GoesOn}
-use Rattle.razor_core.specs.Command.{Command, Make, Check, Trace}
+use Rattle.list_generator.specs.DrawnRules.{generated}
+use Rattle.razor_core.specs.declared.method.Method.TheVariants.{Compile}
+use Rattle.razor_core.specs.Command.{Command, Make, Cert, Check, Trace, Selfrun}
 use Rattle.razor_core.specs.Inputs.{BadLine, Input, Value, list_value, table_value, lines_value, inputs, is_too_long, most_bytes, spelled_by, text_of_certificate, text_of_trace}
 use Rattle.razor_core.specs.Outside.{Outside, bytes_at}
 use Rattle.razor_core.specs.Making.{IsNeeded}
+use Rattle.razor_core.specs.Written.{IsOtherLine}
 use Rattle.razor_core.specs.Traced.{HasBadLine}
 use Rattle.razor_core.specs.Certified.{GoesOnRight}
 
@@ -41,12 +44,14 @@ turns_of outside [] = Ok []
 turns_of outside (input ∷ others) = before_others (turn input (bytes_at outside input.name)) (turns_of outside others)
 
 -- what ends a command later, while it works on what its inputs came to: more entries are needed than the limit, a
--- line of the trace is bad, or a trace or a certificate goes on after its limit
+-- word of the table isn't a prefix, a line of the trace is bad, or a trace or a certificate goes on after its limit
 abbrev pub StopsLater : Command → List Value → Stop → Type 0
 StopsLater (Make method sizes file) (list_value list ∷ values) (too_many needed limit) = IsNeeded method list.rules needed × (limit ≡ sizes.limit) × (limit < needed)
+StopsLater (Cert list table) (list_value rules ∷ table_value entries ∷ values) (bad_line name bad) = (name ≡ table) × IsOtherLine entries bad
 StopsLater (Check list table certificate) (list_value rules ∷ table_value entries ∷ lines_value text ∷ values) (too_long name limit) = (name ≡ certificate) × (limit ≡ most_bytes text_of_certificate) × GoesOnRight rules entries text
 StopsLater (Trace table trace) (table_value entries ∷ lines_value text ∷ values) (bad_line name bad) = (name ≡ trace) × HasBadLine text bad
 StopsLater (Trace table trace) (table_value entries ∷ lines_value text ∷ values) (too_long name limit) = (name ≡ trace) × (limit ≡ most_bytes text_of_trace) × GoesOn limit text
+StopsLater (Selfrun seed rules) values (too_many needed limit) = IsNeeded Compile (generated seed rules).rules needed × (limit ≡ 262144) × (limit < needed)
 StopsLater command values stop = ⊥
 
 -- nothing ends the command later

@@ -28,6 +28,8 @@ pub enum Command<'a> {
     },
     /// Says whether two lists decide every header alike, or on which header they first differ.
     Equiv(TwoFiles<'a>),
+    /// Writes the certificate that a list and a table decide every header alike, or the first on which they differ.
+    Cert(TwoFiles<'a>),
     /// Says whether a certificate shows that a list and a table decide every header alike.
     Check(ThreeFiles<'a>),
     /// Writes what a table answers to each header of a trace.
@@ -37,6 +39,8 @@ pub enum Command<'a> {
     Drive(Slots),
     /// Writes the list that a seed gives.
     Gen(Drawing),
+    /// Compiles the list that a seed gives, looks up the headers that are drawn behind it, and sums it up.
+    Selfrun(Drawing),
     /// Writes a table of either version in the compact text.
     Migrate(&'a str),
 }
@@ -114,14 +118,13 @@ fn driving<'a>(slots: Option<u32>, files: &[&'a str]) -> Option<Command<'a>>
     Some(Command::Drive(Slots { count }))
 }
 
-/// The command that draws so many rules from a seed.
-fn drawing<'a>(numbers: Option<[u32; 2]>) -> Option<Command<'a>>
-    ensures spelled { (files : List (List ℕ)) → option_map (spelled_over files) result ≡ drawing (numbers_seen numbers) }
-    ensures words { (files : List (List ℕ)) → IfSome result (λ command. fewest_words command ≤ length files) }
+/// The seed and the number of rules that are to be drawn.
+fn drawing(numbers: Option<[u32; 2]>) -> Option<Drawing>
+    ensures { (command : ℕ → ℕ → meant) → option_map (λ drawing. command drawing.seed drawing.rules) result ≡ drawing command (numbers_seen numbers) }
 {
     let [seed, rules] = numbers?;
     if seed <= 2_147_483_647 && rules <= 65_536 {
-        Some(Command::Gen(Drawing { seed, rules }))
+        Some(Drawing { seed, rules })
     } else {
         None
     }
@@ -144,10 +147,12 @@ fn named<'a>(
         CommandName::Expand => making(Method::Expand, sizes, files),
         CommandName::Compile => making(Method::Compile, sizes, files),
         CommandName::Equiv => Some(Command::Equiv(two_files(files)?)),
+        CommandName::Cert => Some(Command::Cert(two_files(files)?)),
         CommandName::Check => Some(Command::Check(three_files(files)?)),
         CommandName::Trace => Some(Command::Trace(two_files(files)?)),
         CommandName::Drive => driving(slots, files),
-        CommandName::Gen => drawing(numbers),
+        CommandName::Gen => Some(Command::Gen(drawing(numbers)?)),
+        CommandName::Selfrun => Some(Command::Selfrun(drawing(numbers)?)),
         CommandName::Migrate => Some(Command::Migrate(one_file(files)?)),
     }
 }

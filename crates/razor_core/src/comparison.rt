@@ -1,12 +1,49 @@
+ghost use Rattle.std.specs.Prelude.{◌≡◌, List, Option, ℕ};
+ghost use Rattle.field_boxes.specs.Names.{text_of};
 ghost use Rattle.filter_reader.specs.Lists.{filter_list};
 ghost use Rattle.list_equiv.specs.Verdict.{IsVerdict};
 ghost use Rattle.razor_base.specs.Output.{Writes};
+ghost use Rattle.razor_core.specs.Comparison.{differ_line};
 ghost use Rattle.razor_core.specs.Verdicts.{verdict_text, IsAnswer};
 
 use crate::ending::{Ending, Summary};
+use field_boxes::Header;
 use filter_reader::RuleList;
 use list_equiv::Verdict;
 use razor_base::{Failed, Part, Sink, write_parts};
+
+/// Writes a header, and the names of two decisions on it.
+pub fn write_difference<'a, K: Sink>(
+    header: &Header,
+    left: &'a str,
+    right: &'a str,
+    out: &mut K,
+) -> Result<(), Failed>
+    ensures { (first second : Option (List ℕ)) → left.now ≡ text_of first → right.now ≡ text_of second →
+        Writes K.written K.faults out.old out.new (differ_line header.now.values first second) result }
+{
+    let [source, destination, source_port, destination_port, protocol] = header.values;
+    write_parts(
+        out,
+        &[
+            Part::Text("differ "),
+            Part::Number(u128::from(source)),
+            Part::Text(" "),
+            Part::Number(u128::from(destination)),
+            Part::Text(" "),
+            Part::Number(u128::from(source_port)),
+            Part::Text(" "),
+            Part::Number(u128::from(destination_port)),
+            Part::Text(" "),
+            Part::Number(u128::from(protocol)),
+            Part::Text(" "),
+            Part::Text(left),
+            Part::Text(" "),
+            Part::Text(right),
+            Part::Text("\n"),
+        ],
+    )
+}
 
 /// Writes what comparing the lists came to.
 pub fn write_verdict<'a, K: Sink>(
@@ -24,29 +61,12 @@ pub fn write_verdict<'a, K: Sink>(
             header,
             left: first,
             right: second,
-        } => {
-            let [source, destination, source_port, destination_port, protocol] = header.values;
-            write_parts(
-                out,
-                &[
-                    Part::Text("differ "),
-                    Part::Number(u128::from(source)),
-                    Part::Text(" "),
-                    Part::Number(u128::from(destination)),
-                    Part::Text(" "),
-                    Part::Number(u128::from(source_port)),
-                    Part::Text(" "),
-                    Part::Number(u128::from(destination_port)),
-                    Part::Text(" "),
-                    Part::Number(u128::from(protocol)),
-                    Part::Text(" "),
-                    Part::Text(left.names.name(first)),
-                    Part::Text(" "),
-                    Part::Text(right.names.name(second)),
-                    Part::Text("\n"),
-                ],
-            )
-        }
+        } => write_difference(
+            &header,
+            left.names.name(first),
+            right.names.name(second),
+            out,
+        ),
     }
 }
 

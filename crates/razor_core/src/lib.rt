@@ -3,12 +3,14 @@
 
 mod asked;
 mod certificate;
+mod certifying;
 mod command;
 mod comparison;
 mod drawing;
 mod ending;
 mod input;
 mod line_reason;
+mod load;
 mod making;
 mod message;
 mod method;
@@ -27,6 +29,3 @@ pub use command_words::Words;
 pub use list_generator::{generate, next};
 pub use making::{CompileError, compile, expand};
 pub use top::razor;
-
-#[cfg(test)]
-mod tests;

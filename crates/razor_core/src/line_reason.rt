@@ -8,6 +8,8 @@ use trace_run::TraceReason;
 pub enum LineReason {
     OfList(Reason),
     OfTable(TableReason),
+    /// The word of a table's entry isn't a prefix in each field.
+    NotPrefix,
     OfScript(ScriptReason),
     OfTrace(TraceReason),
 }

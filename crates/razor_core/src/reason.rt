@@ -15,6 +15,7 @@ pub fn reason_words(reason: LineReason) -> &'static str
     match reason {
         LineReason::OfList(reason) => list_words(reason),
         LineReason::OfTable(reason) => table_words(reason),
+        LineReason::NotPrefix => "not a prefix word",
         LineReason::OfScript(reason) => script_words(reason),
         LineReason::OfTrace(reason) => trace_words(reason),
     }
@@ -25,7 +26,10 @@ pub fn counts(reason: LineReason) -> Option<(u32, u64)>
     ensures { MatchOption result (counts_text reason ≡ []) (λ counts. counts_text reason ≡ two_counts counts.0 counts.1) }
 {
     match reason {
-        LineReason::OfList(_) | LineReason::OfScript(_) | LineReason::OfTrace(_) => None,
+        LineReason::OfList(_)
+        | LineReason::NotPrefix
+        | LineReason::OfScript(_)
+        | LineReason::OfTrace(_) => None,
         LineReason::OfTable(reason) => table_counts(reason),
     }
 }

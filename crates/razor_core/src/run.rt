@@ -10,11 +10,13 @@ ghost use Rattle.razor_core.specs.Messages.{rules_line};
 
 use crate::asked::Asked;
 use crate::certificate::check_certificate;
+use crate::certifying::certify;
 use crate::command::Command;
 use crate::comparison::{answered, write_verdict};
 use crate::drawing::Drawing;
 use crate::ending::{Ending, Summary};
 use crate::input::{take_list, take_table};
+use crate::load::run_load;
 use crate::making::{CompileError, make};
 use crate::method::Method;
 use crate::running::run_script;
@@ -48,10 +50,12 @@ pub fn run<'a, D: Desk, K: Sink>(
             list,
         } => make_table(alloc, method, sizes, list, desk, out),
         Command::Equiv(files) => compare_lists(alloc, files, desk, out),
+        Command::Cert(files) => certify(alloc, files, desk, out),
         Command::Check(files) => check_certificate(alloc, files, desk, out),
         Command::Trace(files) => answer_trace(alloc, files, desk, out),
         Command::Drive(slots) => run_script(alloc, slots, asked.files.as_slice(), desk, out),
         Command::Gen(drawing) => draw_list(alloc, drawing, out),
+        Command::Selfrun(drawing) => run_load(alloc, drawing, out),
         Command::Migrate(file) => migrate_table(alloc, file, desk, out),
     }
 }

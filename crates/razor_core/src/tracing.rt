@@ -1,8 +1,6 @@
 //! The answers of a table to the headers of a trace.
-ghost use Rattle.std.specs.Prelude.{◌≡◌, ◌≢◌, ◌≤◌, ℕ, List, IfOk, length};
+ghost use Rattle.std.specs.Prelude.{◌≢◌, ℕ, List};
 ghost use Rattle.std.specs.Io.KnownBytes.{Keeps};
-ghost use Rattle.tcam_sim.specs.Bank.{slots_of};
-ghost use Rattle.tcam_sim.specs.Slots.{filled};
 ghost use Rattle.razor_core.specs.Command.{Trace};
 ghost use Rattle.razor_core.specs.Outside.{seen};
 ghost use Rattle.razor_core.specs.Ending.{Ends};
@@ -12,25 +10,14 @@ use crate::ending::{Ending, Summary};
 use crate::input::take_table;
 use crate::line_reason::LineReason;
 use crate::two_files::TwoFiles;
-use razor_base::{Desk, Memory, Sink};
+use razor_base::{Desk, Sink};
 use std::alloc::Global;
-use tcam_sim::{Bank, load};
-use ternary_words::Table;
+use tcam_sim::loaded;
 use trace_run::laws::{loaded_entries_answer, loaded_entries_have_names};
 use trace_run::{TraceError, run};
 
 /// The greatest number of bytes of a trace.
 const MOST_TRACE_BYTES: u64 = 67_108_864;
-
-/// A bank with the entries of the table in its first slots.
-fn loaded(alloc: Global, table: &Table) -> Result<Bank, Memory>
-    ensures { IfOk result (λ bank. slots_of bank ≡ filled (length (slots_of bank)) table.now.entries.items) }
-{
-    let slots = (table.entries.len() as u32).max(1);
-    let mut bank = Bank::new(alloc, slots)?;
-    load(&mut bank, table).unwrap();
-    Ok(bank)
-}
 
 /// The ending of a command whose run over the trace ended so.
 fn run_ended(file: &str, ended: Result<u64, TraceError>) -> Ending<'_>

@@ -1,4 +1,5 @@
-use super::{call, calm, check};
+use super::{call, check};
+use crate::setting::calm;
 use std::test::Fail;
 
 #[test]

@@ -1,4 +1,5 @@
-use super::{Setting, WEB, calm, check};
+use super::{WEB, check};
+use crate::setting::{Setting, calm};
 use std::test::Fail;
 
 /// The words of all calls here.

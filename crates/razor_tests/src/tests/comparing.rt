@@ -1,6 +1,6 @@
 use super::{ANY_TCP, ROOM};
-use crate::{Words, razor};
 use razor_base::{MemDesk, MemSink};
+use razor_core::{Words, razor};
 use std::alloc::Global;
 use std::process::Abort;
 use std::test::Fail;

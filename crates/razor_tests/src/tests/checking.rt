@@ -1,12 +1,12 @@
 //! Certificates of a list and a table.
 use super::{ANY_TCP, ANY_TCP_TABLE, ROOM};
-use crate::{Words, razor};
 use razor_base::{MemDesk, MemSink};
+use razor_core::{Words, razor};
 use std::process::Abort;
 use std::test::Fail;
 
 /// The certificate of one rule for protocol 6: 159 bytes.
-const ANY_TCP_ROWS: &[u8] =
+pub(super) const ANY_TCP_ROWS: &[u8] =
     b"0-4294967295 0-4294967295 0-65535 0-65535 0-5 - -\n0-4294967295 0-4294967295 0-65535 0-65535 6-6 1 1\n0-4294967295 0-4294967295 0-65535 0-65535 7-255 - -\nrows 3\n";
 
 /// The same without its third row.
@@ -18,11 +18,11 @@ const FOUR_STATED: &[u8] =
     b"0-4294967295 0-4294967295 0-65535 0-65535 0-5 - -\n0-4294967295 0-4294967295 0-65535 0-65535 6-6 1 1\n0-4294967295 0-4294967295 0-65535 0-65535 7-255 - -\nrows 4\n";
 
 /// The table with another decision.
-const DENIED: &[u8] =
+pub(super) const DENIED: &[u8] =
     b"table 2 slot 144 composed 2 entries 1\n00000000/00000000 00000000/00000000 0000/0000 0000/0000 06/FF deny\n";
 
 /// Protocol 6, and all else denied.
-const TWO_RULES: &[u8] =
+pub(super) const TWO_RULES: &[u8] =
     b"@0.0.0.0/0 0.0.0.0/0 0 : 65535 0 : 65535 0x06/0xFF accept\n@0.0.0.0/0 0.0.0.0/0 0 : 65535 0 : 65535 0x00/0x00 deny\n";
 
 const TWO_ENTRIES: &[u8] =
@@ -32,11 +32,11 @@ const TWO_ENTRIES: &[u8] =
 const SECOND_CLAIMED: &[u8] = b"0-4294967295 0-4294967295 0-65535 0-65535 0-255 2 2\nrows 1\n";
 
 /// Protocols 1 and 3, and all else denied.
-const ODD_RULES: &[u8] =
+pub(super) const ODD_RULES: &[u8] =
     b"@0.0.0.0/0 0.0.0.0/0 0 : 65535 0 : 65535 0x01/0xFF accept\n@0.0.0.0/0 0.0.0.0/0 0 : 65535 0 : 65535 0x03/0xFF accept\n@0.0.0.0/0 0.0.0.0/0 0 : 65535 0 : 65535 0x00/0x00 deny\n";
 
 /// The same with one entry for both protocols, whose word is no prefix.
-const ODD_ENTRIES: &[u8] =
+pub(super) const ODD_ENTRIES: &[u8] =
     b"table 2 slot 144 composed 3 entries 2\n00000000/00000000 00000000/00000000 0000/0000 0000/0000 01/FD accept\n00000000/00000000 00000000/00000000 0000/0000 0000/0000 00/00 deny\n";
 
 const ODD_ROWS: &[u8] =

@@ -1,4 +1,5 @@
-use super::{calm, check};
+use super::check;
+use crate::setting::calm;
 use std::process::Abort;
 use std::test::Fail;
 

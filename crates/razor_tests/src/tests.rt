@@ -1,16 +1,20 @@
+mod certifying;
 mod checking;
 mod comparing;
 mod compiling;
+mod counted;
 mod crossing;
 mod faults;
 mod generating;
 mod limits;
 mod migrating;
 mod running;
+mod selfrun;
 mod tracing;
 
-use crate::{Words, razor};
+use crate::setting::{Setting, calm};
 use razor_base::{MemDesk, MemSink};
+use razor_core::{Words, razor};
 use std::alloc::Global;
 use std::process::Abort;
 use std::test::Fail;
@@ -41,27 +45,6 @@ const WEB: &[u8] = b"@10.0.0.0/8\t0.0.0.0/0\t0 : 65535\t80 : 80\t0x06/0xFF\tweb\
 /// The table of the rule above.
 const WEB_TABLE: &[u8] =
     b"table 2 slot 144 composed 1 entries 1\n0A000000/FF000000 00000000/00000000 0000/0000 0050/FFFF 06/FF web\n";
-
-/// What a call is tried on: the list under `in`, and what fails.
-#[derive(Clone, Copy)]
-struct Setting<'a> {
-    list: &'a [u8],
-    most: usize,
-    failing_read: u64,
-    failing_write: u64,
-    failing_line: u64,
-}
-
-/// A setting in which nothing fails.
-fn calm(list: &[u8]) -> Setting<'_> {
-    Setting {
-        list,
-        most: 65_536,
-        failing_read: 0,
-        failing_write: 0,
-        failing_line: 0,
-    }
-}
 
 /// How a call ended, with what it wrote and said.
 #[derive(Drop)]
@@ -210,7 +193,7 @@ fn knows_its_words(rt: HostRuntime) -> Result<(), Fail> {
     ];
     for words in none {
         let usage =
-            b"usage: razor COMMAND\n  expand [--limit N] [--slot W] LIST\n  compile [--limit N] [--slot W] LIST\n  equiv A B\n  check LIST TABLE CERT\n  trace TABLE TRACE\n  drive --slots N SCRIPT TABLE ..\n  gen SEED N\n  migrate TABLE\n";
+            b"usage: razor COMMAND\n  expand [--limit N] [--slot W] LIST\n  compile [--limit N] [--slot W] LIST\n  equiv A B\n  cert LIST TABLE\n  check LIST TABLE CERT\n  trace TABLE TRACE\n  drive --slots N SCRIPT TABLE ..\n  gen SEED N\n  selfrun SEED N\n  migrate TABLE\n";
         check(&rt, words, calm(WEB), 2, b"", usage)?;
     }
     let limits: [&[&str]; 3] = [

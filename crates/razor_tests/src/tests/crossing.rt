@@ -1,7 +1,8 @@
 //! A list that crosses its fields: as a tree its diagram has more than 2^32 nodes.
-use super::{ROOM, call, calm};
-use crate::{Words, razor};
+use super::{ROOM, call};
+use crate::setting::calm;
 use razor_base::{MemDesk, MemSink};
+use razor_core::{Words, razor};
 use std::alloc::Global;
 use std::test::Fail;
 

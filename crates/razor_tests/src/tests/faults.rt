@@ -1,6 +1,7 @@
-use super::{ROOM, Setting, WEB, WEB_TABLE, call, calm};
-use crate::{Words, razor};
+use super::{ROOM, WEB, WEB_TABLE, call};
+use crate::setting::{Setting, calm};
 use razor_base::{MemDesk, MemSink};
+use razor_core::{Words, razor};
 use std::test::Fail;
 
 #[test]

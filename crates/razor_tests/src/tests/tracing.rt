@@ -1,7 +1,8 @@
 //! The answers of a table to the headers of a trace.
-use super::{ANY_TCP_TABLE, ROOM, Setting, calm};
-use crate::{Words, razor};
+use super::{ANY_TCP_TABLE, ROOM};
+use crate::setting::{Setting, calm};
 use razor_base::{MemDesk, MemSink};
+use razor_core::{Words, razor};
 use std::process::Abort;
 use std::test::Fail;
 

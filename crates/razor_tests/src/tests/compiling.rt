@@ -1,4 +1,5 @@
-use super::{ANY_TCP, ONE_RANGE, RANGES, calm, check};
+use super::{ANY_TCP, ONE_RANGE, RANGES, check};
+use crate::setting::calm;
 use std::process::Abort;
 use std::test::Fail;
 

@@ -1,0 +1,130 @@
+//! Certificates that are written.
+use super::checking::{ANY_TCP_ROWS, DENIED, ODD_ENTRIES, ODD_RULES, TWO_RULES};
+use super::{ANY_TCP, ANY_TCP_TABLE, ONE_RANGE, RANGES, ROOM, WEB};
+use razor_base::{MemDesk, MemSink};
+use razor_core::{Words, razor};
+use std::process::Abort;
+use std::test::Fail;
+
+/// The named texts of a call, of which a word names each that it needs.
+#[derive(Clone, Copy)]
+struct Texts<'a> {
+    list: &'a [u8],
+    table: &'a [u8],
+    rows: &'a [u8],
+}
+
+/// How a call ended, with what it wrote and said.
+#[derive(Drop)]
+struct Ended {
+    status: u8,
+    out: MemSink,
+    err: MemSink,
+}
+
+/// Calls the program with the words, and room for so many bytes of output.
+fn call<R: Abort + AllocGlobal>(
+    rt: &R,
+    words: &[&str],
+    texts: Texts<'_>,
+    room: usize,
+) -> Result<Ended, Fail> {
+    let mut all = Words::new(rt.alloc());
+    for word in words {
+        all.push(word)?;
+    }
+    let mut desk = MemDesk::new(rt.alloc());
+    desk.add("list", texts.list)?;
+    desk.add("table", texts.table)?;
+    desk.add("rows", texts.rows)?;
+    let mut out = MemSink::new(rt.alloc(), room)?;
+    let mut err = MemSink::new(rt.alloc(), ROOM)?;
+    let status = razor(rt.alloc(), &all, &mut desk, &mut out, &mut err);
+    Ok(Ended { status, out, err })
+}
+
+/// Writes the certificate of a list and a table.
+fn check<R: Abort + AllocGlobal>(
+    rt: &R,
+    list: &[u8],
+    table: &[u8],
+    status: u8,
+    out: &[u8],
+    err: &[u8],
+) -> Result<(), Fail> {
+    let texts = Texts {
+        list,
+        table,
+        rows: b"",
+    };
+    let ended = call(rt, &["cert", "list", "table"], texts, ROOM)?;
+    assert_eq!(rt; ended.status, status);
+    assert!(rt; ended.out.bytes() == out);
+    assert!(rt; ended.err.bytes() == err);
+    Ok(())
+}
+
+#[test]
+fn certificates_are_written(rt: HostRuntime) -> Result<(), Fail> {
+    check(&rt, ANY_TCP, ANY_TCP_TABLE, 0, ANY_TCP_ROWS, b"")?;
+    let denied = b"differ 0 0 0 0 6 accept deny\n".as_slice();
+    check(&rt, ANY_TCP, DENIED, 1, denied, b"")?;
+    let other = b"table: line 2: not a prefix word\n".as_slice();
+    check(&rt, ODD_RULES, ODD_ENTRIES, 3, b"", other)?;
+    let short = b"table: line 1: first line\n".as_slice();
+    check(&rt, ANY_TCP, b"table\n", 3, b"", short)
+}
+
+#[test]
+fn a_front_is_written_into_little_room(rt: HostRuntime) -> Result<(), Fail> {
+    let texts = Texts {
+        list: ANY_TCP,
+        table: ANY_TCP_TABLE,
+        rows: b"",
+    };
+    for room in 0..ANY_TCP_ROWS.len() {
+        let ended = call(&rt, &["cert", "list", "table"], texts, room)?;
+        assert_eq!(rt; ended.status, 6);
+        assert!(rt; ended.out.bytes() == &ANY_TCP_ROWS[..room]);
+        assert!(rt; ended.err.bytes() == b"write fault\n".as_slice());
+    }
+    Ok(())
+}
+
+/// Compiles the list, writes the certificate of both, and checks it.
+fn certified<R: Abort + AllocGlobal>(rt: &R, list: &[u8]) -> Result<Ended, Fail> {
+    let mut texts = Texts {
+        list,
+        table: b"",
+        rows: b"",
+    };
+    let compiled = call(rt, &["compile", "list"], texts, ROOM)?;
+    assert_eq!(rt; compiled.status, 0);
+    texts.table = compiled.out.bytes();
+    let written = call(rt, &["cert", "list", "table"], texts, ROOM)?;
+    assert_eq!(rt; written.status, 0);
+    texts.rows = written.out.bytes();
+    call(rt, &["check", "list", "table", "rows"], texts, ROOM)
+}
+
+/// A rule of two destination ports and one protocol: three rows for each port, and one beside and between them.
+const UNION: &[u8] = b"@0.0.0.0/0 0.0.0.0/0 0 : 65535 80 : 80,443 : 443 0x06/0xFF accept\n";
+
+#[test]
+fn written_certificates_are_valid(rt: HostRuntime) -> Result<(), Fail> {
+    for list in [
+        b"".as_slice(),
+        ANY_TCP,
+        ONE_RANGE,
+        RANGES,
+        WEB,
+        TWO_RULES,
+        ODD_RULES,
+    ] {
+        let checked = certified(&rt, list)?;
+        assert_eq!(rt; checked.status, 0);
+    }
+    let union = certified(&rt, UNION)?;
+    assert!(rt; union.out.bytes() == b"valid rows=9\n".as_slice());
+    Ok(())
+}
