@@ -1,0 +1,22 @@
+//! A tour of the program: every command on the files in `data/`, with what it writes and what it says.
+//!
+//! What a command writes may go into a file that later commands name. Nothing is written to the disk.
+#![tactic(auto)]
+
+mod shelf;
+mod steps;
+
+use anyhow::Result;
+use razor_base::{HostDesk, HostSink};
+use shelf::Shelf;
+use steps::STEPS;
+
+fn main(rt: HostRuntime) -> Result<()> {
+    let alloc = rt.alloc();
+    let mut out = HostSink::out(&rt);
+    let mut shelf = Shelf::read(alloc, &mut HostDesk::new(&rt, alloc))?;
+    for step in &STEPS {
+        step.take(alloc, &mut shelf, &mut out)?;
+    }
+    Ok(())
+}
