@@ -1,5 +1,6 @@
 //! Certificates that are written.
 use super::checking::{ANY_TCP_ROWS, DENIED, ODD_ENTRIES, ODD_RULES, TWO_RULES};
+use super::compiling::{HALVES, NET, ORDINARY};
 use super::{ANY_TCP, ANY_TCP_TABLE, ONE_RANGE, RANGES, ROOM, WEB};
 use razor_base::{MemDesk, MemSink};
 use razor_core::{Words, razor};
@@ -110,17 +111,14 @@ fn certified<R: Abort + AllocGlobal>(rt: &R, list: &[u8]) -> Result<Ended, Fail>
 /// A rule of two destination ports and one protocol: three rows for each port, and one beside and between them.
 const UNION: &[u8] = b"@0.0.0.0/0 0.0.0.0/0 0 : 65535 80 : 80,443 : 443 0x06/0xFF accept\n";
 
+/// Lists of the other tests.
+const LISTS: [&[u8]; 10] = [
+    b"", ANY_TCP, ONE_RANGE, RANGES, WEB, TWO_RULES, ODD_RULES, HALVES, NET, ORDINARY,
+];
+
 #[test]
 fn written_certificates_are_valid(rt: HostRuntime) -> Result<(), Fail> {
-    for list in [
-        b"".as_slice(),
-        ANY_TCP,
-        ONE_RANGE,
-        RANGES,
-        WEB,
-        TWO_RULES,
-        ODD_RULES,
-    ] {
+    for list in LISTS {
         let checked = certified(&rt, list)?;
         assert_eq!(rt; checked.status, 0);
     }

@@ -6,15 +6,15 @@ use std::test::Fail;
 const RULES: &[u8] = b"rules 1, flagged 0\n";
 
 /// Two destinations by the protocol, where a header of neither rule is between them.
-const HALVES: &[u8] =
+pub(super) const HALVES: &[u8] =
     b"@0.0.0.0/0 128.0.0.0/1 0 : 65535 0 : 65535 0x06/0xFF accept\n@0.0.0.0/0 0.0.0.0/1 0 : 65535 0 : 65535 0x00/0x00 deny\n";
 
 /// A destination and a protocol, and all else denied.
-const NET: &[u8] =
+pub(super) const NET: &[u8] =
     b"@0.0.0.0/0 10.0.0.0/8 0 : 65535 0 : 65535 0x06/0xFF accept\n@0.0.0.0/0 0.0.0.0/0 0 : 65535 0 : 65535 0x00/0x00 deny\n";
 
 /// An ordinary list, with flags and a tab at each end.
-const ORDINARY: &[u8] =
+pub(super) const ORDINARY: &[u8] =
     b"@0.0.0.0/0\t10.1.0.0/16\t0 : 65535\t80 : 80\t0x06/0xFF\t0x0000/0x0000\t\n@0.0.0.0/0\t10.1.0.0/16\t0 : 65535\t53 : 53\t0x11/0xFF\t0x0000/0x0000\t\n@0.0.0.0/0\t0.0.0.0/0\t0 : 65535\t0 : 65535\t0x00/0x00\t0x0000/0x0000\t\n";
 
 /// Compiles the list.

@@ -31,6 +31,19 @@ fn meets_the_limit_of_bytes(rt: HostRuntime) -> Result<(), Fail> {
 }
 
 #[test]
+fn compiles_at_the_limit_of_bytes(rt: HostRuntime) -> Result<(), Fail> {
+    let list = vec![in rt.alloc(); b'\n'; MOST_BYTES]?;
+    check(
+        &rt,
+        &["compile", "in"],
+        calm(&list),
+        0,
+        b"table 2 slot 144 composed 1 entries 0\n",
+        b"rules 0, flagged 0\n",
+    )
+}
+
+#[test]
 fn meets_the_limit_of_rules(rt: HostRuntime) -> Result<(), Fail> {
     let mut list = Vec::new(rt.alloc());
     for _ in 0..65_537 {
