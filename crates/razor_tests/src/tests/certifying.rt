@@ -7,14 +7,6 @@ use razor_core::{Words, razor};
 use std::process::Abort;
 use std::test::Fail;
 
-/// The named texts of a call, of which a word names each that it needs.
-#[derive(Clone, Copy)]
-struct Texts<'a> {
-    list: &'a [u8],
-    table: &'a [u8],
-    rows: &'a [u8],
-}
-
 /// How a call ended, with what it wrote and said.
 #[derive(Drop)]
 struct Ended {
@@ -23,11 +15,13 @@ struct Ended {
     err: MemSink,
 }
 
-/// Calls the program with the words, and room for so many bytes of output.
+/// Calls the program with the words, over these texts under their names, and room for so many bytes of output.
 fn call<R: Abort + AllocGlobal>(
     rt: &R,
     words: &[&str],
-    texts: Texts<'_>,
+    list: &[u8],
+    table: &[u8],
+    rows: &[u8],
     room: usize,
 ) -> Result<Ended, Fail> {
     let mut all = Words::new(rt.alloc());
@@ -35,14 +29,17 @@ fn call<R: Abort + AllocGlobal>(
         all.push(word)?;
     }
     let mut desk = MemDesk::new(rt.alloc());
-    desk.add("list", texts.list)?;
-    desk.add("table", texts.table)?;
-    desk.add("rows", texts.rows)?;
+    desk.add("list", list)?;
+    desk.add("table", table)?;
+    desk.add("rows", rows)?;
     let mut out = MemSink::new(rt.alloc(), room)?;
     let mut err = MemSink::new(rt.alloc(), ROOM)?;
     let status = razor(rt.alloc(), &all, &mut desk, &mut out, &mut err);
     Ok(Ended { status, out, err })
 }
+
+/// The words that write a certificate.
+const CERT: [&str; 3] = ["cert", "list", "table"];
 
 /// Writes the certificate of a list and a table.
 fn check<R: Abort + AllocGlobal>(
@@ -53,12 +50,7 @@ fn check<R: Abort + AllocGlobal>(
     out: &[u8],
     err: &[u8],
 ) -> Result<(), Fail> {
-    let texts = Texts {
-        list,
-        table,
-        rows: b"",
-    };
-    let ended = call(rt, &["cert", "list", "table"], texts, ROOM)?;
+    let ended = call(rt, &CERT, list, table, b"", ROOM)?;
     assert_eq!(rt; ended.status, status);
     assert!(rt; ended.out.bytes() == out);
     assert!(rt; ended.err.bytes() == err);
@@ -78,13 +70,8 @@ fn certificates_are_written(rt: HostRuntime) -> Result<(), Fail> {
 
 #[test]
 fn a_front_is_written_into_little_room(rt: HostRuntime) -> Result<(), Fail> {
-    let texts = Texts {
-        list: ANY_TCP,
-        table: ANY_TCP_TABLE,
-        rows: b"",
-    };
     for room in 0..ANY_TCP_ROWS.len() {
-        let ended = call(&rt, &["cert", "list", "table"], texts, room)?;
+        let ended = call(&rt, &CERT, ANY_TCP, ANY_TCP_TABLE, b"", room)?;
         assert_eq!(rt; ended.status, 6);
         assert!(rt; ended.out.bytes() == &ANY_TCP_ROWS[..room]);
         assert!(rt; ended.err.bytes() == b"write fault\n".as_slice());
@@ -94,18 +81,13 @@ fn a_front_is_written_into_little_room(rt: HostRuntime) -> Result<(), Fail> {
 
 /// Compiles the list, writes the certificate of both, and checks it.
 fn certified<R: Abort + AllocGlobal>(rt: &R, list: &[u8]) -> Result<Ended, Fail> {
-    let mut texts = Texts {
-        list,
-        table: b"",
-        rows: b"",
-    };
-    let compiled = call(rt, &["compile", "list"], texts, ROOM)?;
+    let compiled = call(rt, &["compile", "list"], list, b"", b"", ROOM)?;
     assert_eq!(rt; compiled.status, 0);
-    texts.table = compiled.out.bytes();
-    let written = call(rt, &["cert", "list", "table"], texts, ROOM)?;
+    let table = compiled.out.bytes();
+    let written = call(rt, &CERT, list, table, b"", ROOM)?;
     assert_eq!(rt; written.status, 0);
-    texts.rows = written.out.bytes();
-    call(rt, &["check", "list", "table", "rows"], texts, ROOM)
+    let words = ["check", "list", "table", "rows"];
+    call(rt, &words, list, table, written.out.bytes(), ROOM)
 }
 
 /// A rule of two destination ports and one protocol: three rows for each port, and one beside and between them.
