@@ -4,10 +4,10 @@ ghost use Rattle.bank_update.specs.Commands.{column_seen, event_of, event_seen};
 ghost use Rattle.bank_update.specs.Script.{IsWithin, begin_of, event_named, event_of_columns, look_of, value_column, when_done};
 ghost use Rattle.bank_update.specs.declared.reason.ScriptReason.TheVariants.{Arguments};
 
-use crate::number::number_within;
 use crate::reason::ScriptReason;
 use crate::script::Command;
 use field_boxes::Header;
+use filter_reader::number_within;
 use trace_run::next_column;
 
 /// The value of the first column, and what stands behind it.
@@ -17,7 +17,7 @@ fn value_column(line: &[u8], greatest: u32) -> Option<(u32, &[u8])>
     ensures within { IfSome result (λ column. column.0 ≤ greatest) }
 {
     let (column, rest) = next_column(line)?;
-    let value = number_within(column, greatest)?;
+    let value = number_within(column, 10, greatest)?;
     Some((value, rest))
 }
 

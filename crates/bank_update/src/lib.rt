@@ -6,7 +6,6 @@ mod command_line;
 mod drive;
 pub mod laws;
 mod line;
-mod number;
 mod placed;
 mod progress;
 mod read;

@@ -45,6 +45,11 @@ impl Ports {
         if !port_spans(spans) {
             return None;
         }
+        if let [only] = spans {
+            return Some(Ports {
+                list: SpanList::one(*only),
+            });
+        }
         let mut list = SpanList::new();
         for span in spans {
             list = united(&list, *span);

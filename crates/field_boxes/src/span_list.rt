@@ -41,6 +41,15 @@ impl SpanList {
         }
     }
 
+    /// The span alone.
+    pub fn one(span: Span) -> SpanList
+        ensures { result ≡ interval_of span ∷ [] }
+    {
+        let mut list = SpanList::new();
+        list.push(span);
+        list
+    }
+
     /// The spans.
     pub fn as_slice(&self) -> &[Span]
         ensures { map interval_of result.now ≡ self.now }

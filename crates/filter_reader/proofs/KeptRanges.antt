@@ -132,6 +132,17 @@ ranges_united ranges r ports sums some few all order values unique =
     let same = unique (union_of-rises ranges are) (λ v. values v ∙ ap (union_holds v) (sums.spans fewer ∙ all_kept ranges are) ∙ sym (union_of-values v ranges are)) in
     rw (e, above, ordered, same) refl
 
+-- one range as the ranges of a column
+abbrev pub alone : Span → Bool → Ranges
+alone s reversed = record { spans = s ∷ []; count = 1; reversed = reversed }
+
+or_no : (b : Bool) → b ≡ (b || false)
+or_no true = refl
+or_no false = refl
+
+pub one_kept : (range seen : Interval) (s : Span) → seen ≡ capped_range range → interval_of s ≡ ordered_range seen → SumsUp (range ∷ []) (alone s (is_reversed seen))
+one_kept range seen s e f = record { count = refl; reversed = or_no (is_reversed seen) ∙ ap (λ (r : Interval). is_reversed r || false) e; spans = λ few. ap (λ (i : Interval). i ∷ []) (f ∙ ap ordered_range e) }
+
 -- the ports that ranges come to
 abbrev pub HasPortsOf : List Interval → List Interval → Type 0
 HasPortsOf ranges set = RiseApart 0 65535 set × ((v : ℕ) → union_holds v set ≡ union_holds v ranges)

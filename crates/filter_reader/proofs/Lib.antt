@@ -3,6 +3,7 @@ pub mod Bytes
 pub mod Cuts
 pub mod Decimals
 pub mod FirstNames
+pub mod Found
 pub mod KeptRanges
 pub mod PortColumns
 pub mod PortTexts

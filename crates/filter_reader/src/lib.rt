@@ -27,7 +27,7 @@ mod write;
 
 pub use lines::{is_skipped, next_line, next_whole_line, without_return};
 pub use list::{ListError, RuleList};
-pub use number::{capped, digits};
+pub use number::{number_up_to, number_within};
 pub use reading::read_list;
 pub use reason::Reason;
 pub use token::is_blank;

@@ -1,11 +1,12 @@
-ghost use Rattle.std.specs.Prelude.{◌≡◌, ◌+◌, ◌<◌, ◌∷◌, ◌==◌, [], find, length, not, IfSome, IfNone, option_copied};
+ghost use Rattle.std.specs.Prelude.{◌≡◌, ◌+◌, ◌<◌, ◌∷◌, ◌==◌, [], find, length, not, option_map, position, IfSome, IfNone, option_copied};
 ghost use Rattle.std.specs.Char.{is_ascii};
 ghost use Rattle.std.specs.List.{list_all};
 ghost use Rattle.filter_reader.specs.FilterList.{text_lines};
 ghost use Rattle.filter_reader.specs.Lines.{is_blank, is_skipped, lines_of, without_return};
+ghost use Rattle.filter_reader.specs.Optional.{split_once};
 
-use crate::separator::split_once;
 use crate::token::is_blank;
+use memchr::memchr;
 
 /// The first line of the text with all its bytes but the line feed, and what stands after it; none where
 /// the text is empty.
@@ -17,10 +18,25 @@ pub fn next_whole_line(text: &[u8]) -> Option<(&[u8], &[u8])>
     if text.is_empty() {
         return None;
     }
-    match split_once(text, b'\n') {
+    match split_line(text) {
         Some((line, rest)) => Some((line, rest)),
         None => Some((text, &text[text.len()..])),
     }
+}
+
+/// What stands before the first line feed, and what stands after it; none where there is no line feed.
+fn split_line(text: &[u8]) -> Option<(&[u8], &[u8])>
+    ensures { option_map (λ parts. (parts.0.now, parts.1.now)) result ≡ split_once 10 text.now }
+{
+    let place = line_feed(text)?;
+    Some((&text[..place], &text[place + 1..]))
+}
+
+/// The place of the first line feed.
+fn line_feed(text: &[u8]) -> Option<usize>
+    ensures { result ≡ position (λ b. b == 10) text.now }
+{
+    memchr(b'\n', text)
 }
 
 /// The line, less one carriage return at its end.
@@ -63,8 +79,14 @@ pub fn is_skipped(line: &[u8]) -> bool
 }
 
 /// Whether the line has no byte above 127.
+///
+/// It goes to the end of the line in any case, so that many bytes are looked at in one step.
 pub fn is_ascii_line(line: &[u8]) -> bool
     ensures { result ≡ list_all is_ascii line.now }
 {
-    line.iter().all(|byte| byte.is_ascii())
+    let mut all = true;
+    for byte in line {
+        all &= byte.is_ascii();
+    }
+    all
 }

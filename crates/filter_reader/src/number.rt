@@ -1,5 +1,4 @@
-ghost use Rattle.std.specs.Prelude.{◌≡◌, ◌<◌, ◌≤◌, ◌^◌, min, nat_lt, IfSome};
-ghost use Rattle.std.specs.List.{list_all};
+ghost use Rattle.std.specs.Prelude.{◌≡◌, ◌≤◌, ◌^◌, min, Option, Some, None, IfSome, if◌then◌else◌};
 ghost use Rattle.std.specs.Char.{digit_value};
 ghost use Rattle.filter_reader.specs.Numbers.{is_number, number_of, number_within, short_number};
 
@@ -15,32 +14,27 @@ fn digit(byte: u8) -> u64
     }
 }
 
-/// Whether the text has no other byte than digits of the base.
-fn all_digits(text: &[u8], base: u64) -> bool
-    ensures { result ≡ list_all (λ b. nat_lt (digit_value b) base) text.now }
-{
-    text.iter().all(|&byte| digit(byte) < base)
-}
-
-/// Whether the text is one or more digits of the base.
-pub fn digits(text: &[u8], base: u64) -> bool
-    ensures { result ≡ is_number base text.now }
-{
-    !text.is_empty() && all_digits(text, base)
-}
-
-/// What the digits stand for, or the cap where they stand for more.
-pub fn capped(text: &[u8], base: u64, cap: u64) -> u64
+/// What the digits of the base stand for, or the cap where they stand for more; none where the text has another
+/// byte than digits, or no digit.
+///
+/// It goes to the end of the text in any case: most texts are numbers.
+pub fn number_up_to(text: &[u8], base: u64, cap: u64) -> Option<u64>
     requires base { 1 ≤ base }
     requires narrow { base ≤ 16 }
     requires cap { cap ≤ 2 ^ 32 }
-    ensures { result ≡ min (number_of base text.now) cap }
+    ensures { result ≡ (if is_number base text.now then Some (min (number_of base text.now) cap) else None) }
 {
-    let mut number = 0u64;
-    for &byte in text {
-        number = (number * base + digit(byte)).min(cap);
+    if text.is_empty() {
+        return None;
     }
-    number
+    let mut number = 0u64;
+    let mut all = true;
+    for &byte in text {
+        let digit = digit(byte);
+        all &= digit < base;
+        number = (number * base + digit).min(cap);
+    }
+    if all { Some(number) } else { None }
 }
 
 /// The number that the text writes in the base, leading zeros allowed; none where the text has another
@@ -52,10 +46,7 @@ pub fn number_within(text: &[u8], base: u64, greatest: u32) -> Option<u32>
     ensures value { result ≡ number_within base greatest text.now }
     ensures within { IfSome result (λ n. n ≤ greatest) }
 {
-    if !digits(text, base) {
-        return None;
-    }
-    let number = capped(text, base, u64::from(greatest) + 1);
+    let number = number_up_to(text, base, u64::from(greatest) + 1)?;
     if number <= u64::from(greatest) {
         Some(number as u32)
     } else {

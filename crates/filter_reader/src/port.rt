@@ -4,13 +4,28 @@ ghost use Rattle.filter_reader.specs.Columns.{port_column};
 ghost use Rattle.filter_reader.specs.Tokens.{tokens};
 ghost use Rattle.filter_reader.specs.Views.{column_by};
 
-use crate::ranges::read_ranges;
+use crate::ranges::{only_range, read_ranges};
 use crate::reason::Reason;
 use field_boxes::Ports;
 
 /// The ports in one of the ranges that the line begins with.
+///
+/// Most columns have one range, whose ports need no union.
 #[tactic(auto, unfolding(crate::specs::Columns::port_column))]
 pub fn port_column(line: &[u8]) -> Result<(Ports, &[u8]), Reason>
+    ensures read { column_by (λ ports. ports) result ≡ port_column (tokens line.now) }
+    ensures ports { IfOk result (λ column. ArePorts column.0) }
+{
+    let Some((range, rest)) = only_range(line) else {
+        return united_column(line);
+    };
+    let ports = range.ports()?;
+    Ok((ports, rest))
+}
+
+/// The same of any ranges.
+#[tactic(auto, unfolding(crate::specs::Columns::port_column))]
+fn united_column(line: &[u8]) -> Result<(Ports, &[u8]), Reason>
     ensures read { column_by (λ ports. ports) result ≡ port_column (tokens line.now) }
     ensures ports { IfOk result (λ column. ArePorts column.0) }
 {

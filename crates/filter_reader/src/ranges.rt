@@ -41,10 +41,7 @@ impl Ranges {
             self.count = 17;
             return;
         }
-        self.spans[self.count] = Span {
-            lo: range.lo.min(range.hi),
-            hi: range.lo.max(range.hi),
-        };
+        self.spans[self.count] = range.ordered();
         self.count += 1;
     }
 
@@ -64,6 +61,17 @@ impl Ranges {
             return Err(Reason::PortOrder);
         }
         Ok(ports)
+    }
+}
+
+/// The range of a column that has no other, and what stands behind it.
+pub fn only_range(line: &[u8]) -> Option<(Range, &[u8])>
+    ensures { IfSome result (λ parts. (range : Interval) × (range_view parts.0 ≡ capped_range range) × (ranges_of (tokens line.now) ≡ Some (range ∷ [], tokens parts.1.now))) }
+{
+    let (range, rest) = first_range(line)?;
+    match behind_comma(rest) {
+        Some(_) => None,
+        None => Some((range, rest)),
     }
 }
 

@@ -32,7 +32,7 @@ fn end_of_word(text: &[u8]) -> Option<usize>
 }
 
 /// The line from its first token on; none where no token is left.
-fn from_token(line: &[u8]) -> Option<&[u8]>
+pub fn from_token(line: &[u8]) -> Option<&[u8]>
     ensures token { MatchOption result (tokens line.now ≡ []) (λ text. (tokens line.now ≡ tokens text.now) × IsTrue (begins_token text.now)) }
     ensures within { IfSome result (λ text. length text.now ≤ length line.now) }
 {
