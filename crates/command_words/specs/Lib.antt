@@ -3,9 +3,9 @@ pub mod Numbers
 pub mod Options
 pub mod Items
 pub mod Commands
-pub mod NineCommands
 pub mod Views
 pub mod PlainWords
 pub mod Parts
 pub mod Usage
 pub mod Built
+pub mod Spelled
