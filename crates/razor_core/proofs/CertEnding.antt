@@ -82,13 +82,13 @@ module _ (first second : List ℕ) (before after : Outside) (list : RuleList) (t
   abbrev values : List Value
   values = value_of list ∷ table_value_of table ∷ []
 
-  passed : Passed before (inputs command) values
+  pub passed : Passed before (inputs command) values
   passed = (
     passed_taken (list_input first) (before.remaining first) (after.remaining first) (value_of list) read.list_taken,
     (passed_taken (table_input second) (before.remaining second) (after.remaining second) (table_value_of table) read.table_taken, tt),
   )
 
-  both_read : Tells before command → AllRead after (inputs command)
+  pub both_read : Tells before command → AllRead after (inputs command)
   both_read tells = (
     read_taken (list_input first) (before.remaining first) (after.remaining first) (value_of list) read.list_taken tells.0,
     (read_taken (table_input second) (before.remaining second) (after.remaining second) (table_value_of table) read.table_taken tells.1.0, tt),

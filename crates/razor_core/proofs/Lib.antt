@@ -1,5 +1,4 @@
 pub mod Apart
-pub mod Certified
 pub mod Compared
 pub mod DifferText
 pub mod Driven
@@ -9,4 +8,5 @@ pub mod Tables
 pub mod Traced
 pub mod Turns
 pub mod CertEnding
+pub mod CheckEnding
 pub mod SelfRun

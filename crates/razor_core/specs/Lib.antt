@@ -18,6 +18,7 @@ pub mod Reasons
 pub mod Messages
 pub mod Ending
 pub mod CertEnds
+pub mod CheckEnds
 pub mod Runs
 pub mod Says
 pub mod Verdicts

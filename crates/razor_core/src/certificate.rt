@@ -4,6 +4,7 @@ ghost use Rattle.std.specs.Io.KnownBytes.{Keeps};
 ghost use Rattle.razor_base.specs.Output.{Writes};
 ghost use Rattle.partition_check.specs.Agreement.{HaveNames};
 ghost use Rattle.razor_core.specs.Certified.{row_line, valid_line, wrong_line};
+ghost use Rattle.razor_core.specs.CheckEnds.{IsEndOfCheck};
 ghost use Rattle.razor_core.specs.Command.{Check};
 ghost use Rattle.razor_core.specs.Outside.{seen};
 ghost use Rattle.razor_core.specs.Ending.{Ends};
@@ -97,6 +98,40 @@ fn write_reason<K: Sink>(row: u64, words: &'static str, out: &mut K) -> Result<(
     )
 }
 
+/// Checks the certificate of the list and the table, writes how many rows it has or which row is wrong, and says how
+/// the command ends.
+fn check_rows<'a, D: Desk, K: Sink>(
+    list: &RuleList,
+    table: &Table,
+    file: &'a str,
+    desk: &mut D,
+    out: &mut K,
+) -> Ending<'a>
+    ensures ends { IsEndOfCheck list.now table.now file.now
+        (seen D.remaining D.faults K.written K.faults desk.old out.old)
+        (seen D.remaining D.faults K.written K.faults desk.new out.new)
+        result }
+    ensures others { (other : List ℕ) → other ≢ file.now → Keeps (D.remaining desk.old other) (D.remaining desk.new other) }
+{
+    let mut buffer = [0; PIECE];
+    let checker = Checker::any(list, table);
+    match check_stream(checker, desk, file, &mut buffer) {
+        Ok(rows) => match write_valid(rows, out) {
+            Ok(()) => Ending::Done(Summary::Nothing),
+            Err(_) => Ending::WriteFault,
+        },
+        Err(Stop::Wrong(wrong)) => match write_wrong(list, table, wrong, out) {
+            Ok(()) => Ending::No,
+            Err(_) => Ending::WriteFault,
+        },
+        Err(Stop::ReadFault) => Ending::ReadFault { file },
+        Err(Stop::TooLong) => Ending::TooLong {
+            file,
+            limit: MOST_CERTIFICATE_BYTES,
+        },
+    }
+}
+
 /// Says whether the certificate shows that list and table decide every header alike.
 pub fn check_certificate<'a, D: Desk, K: Sink>(
     alloc: Global,
@@ -118,22 +153,6 @@ pub fn check_certificate<'a, D: Desk, K: Sink>(
         Ok(table) => table,
         Err(ending) => return ending,
     };
-    let mut buffer = [0; PIECE];
     equal_lists_have_one_verdict();
-    let checker = Checker::any(&list, &table);
-    match check_stream(checker, desk, files.third, &mut buffer) {
-        Ok(rows) => match write_valid(rows, out) {
-            Ok(()) => Ending::Done(Summary::Nothing),
-            Err(_) => Ending::WriteFault,
-        },
-        Err(Stop::Wrong(wrong)) => match write_wrong(&list, &table, wrong, out) {
-            Ok(()) => Ending::No,
-            Err(_) => Ending::WriteFault,
-        },
-        Err(Stop::ReadFault) => Ending::ReadFault { file: files.third },
-        Err(Stop::TooLong) => Ending::TooLong {
-            file: files.third,
-            limit: MOST_CERTIFICATE_BYTES,
-        },
-    }
+    check_rows(&list, &table, files.third, desk, out)
 }
