@@ -8,6 +8,7 @@ mod faults;
 mod generating;
 mod limits;
 mod migrating;
+mod refused;
 mod running;
 mod selfrun;
 mod tracing;

@@ -50,18 +50,3 @@ fn writes_a_front_into_little_room(rt: HostRuntime) -> Result<(), Fail> {
     }
     Ok(())
 }
-
-/// Run with one allocation failing (`rt try --test --fail-alloc N`), the call answers as ever or says that
-/// memory was refused, with nothing written. An allocation of the test's own that fails ends the test.
-#[test]
-fn answers_the_same_or_wants_memory(rt: HostRuntime) -> Result<(), Fail> {
-    let outcome = call(rt.alloc(), &["expand", "in"], calm(WEB))?;
-    if outcome.status == 7 {
-        assert!(rt; outcome.out.bytes().is_empty());
-        assert!(rt; outcome.err.bytes() == b"out of memory\n".as_slice());
-    } else {
-        assert!(rt; outcome.status == 0);
-        assert!(rt; outcome.out.bytes() == WEB_TABLE);
-    }
-    Ok(())
-}

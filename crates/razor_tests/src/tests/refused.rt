@@ -7,7 +7,7 @@ use super::compiling::NET;
 use super::running::{REPLACED, REPLACING, UDP_TABLE};
 use super::tracing::ONE_HEADER;
 use super::{ANY_TCP, ANY_TCP_TABLE, NARROW_TABLE, Outcome, ROOM};
-use razor_base::{Memory, MemDesk, MemSink};
+use razor_base::{MemDesk, MemSink, Memory};
 use razor_core::{Words, razor};
 use std::alloc::Global;
 use std::process::Abort;

@@ -7,14 +7,14 @@ use std::process::Abort;
 use std::test::Fail;
 
 /// Protocol 17 is accepted, and all else denied.
-const UDP_TABLE: &[u8] =
+pub(super) const UDP_TABLE: &[u8] =
     b"table 2 slot 144 composed 2 entries 2\n00000000/00000000 00000000/00000000 0000/0000 0000/0000 11/FF accept\n00000000/00000000 00000000/00000000 0000/0000 0000/0000 00/00 deny\n";
 
 /// The first table, then the second in its place, with three looks at each stage.
-const REPLACING: &[u8] =
+pub(super) const REPLACING: &[u8] =
     b"begin 1\nstep\nbegin 2\nlook 0 0 0 0 6\nlook 0 0 0 0 17\nlook 0 0 0 0 1\nstep\nlook 0 0 0 0 6\nlook 0 0 0 0 17\nlook 0 0 0 0 1\nstep\nlook 0 0 0 0 6\nlook 0 0 0 0 17\nlook 0 0 0 0 1\nstep\nlook 0 0 0 0 6\nlook 0 0 0 0 17\nlook 0 0 0 0 1\nstage\n";
 
-const REPLACED: &[u8] =
+pub(super) const REPLACED: &[u8] =
     b"begun 1\nstage 1 of 1\nbegun 3\naccept\nmiss\nmiss\nstage 1 of 3\naccept\naccept\nmiss\nstage 2 of 3\naccept\naccept\ndeny\nstage 3 of 3\ndeny\naccept\ndeny\nidle\n";
 
 /// A swap that goes back.

@@ -15,7 +15,7 @@ const HALVES: &[u8] =
     b"table 2 slot 144 composed 3 entries 3\n00000000/00000000 80000000/80000000 0000/0000 0000/0000 06/FF accept\n00000000/00000000 80000000/80000000 0000/0000 0000/0000 00/00 miss\n00000000/00000000 00000000/00000000 0000/0000 0000/0000 00/00 deny\n";
 
 /// A header and a further column: 33 bytes.
-const ONE_HEADER: &[u8] = b"167772161 167772162 1024 80 6 12\n";
+pub(super) const ONE_HEADER: &[u8] = b"167772161 167772162 1024 80 6 12\n";
 
 /// Answers the trace under `tr` by the table under `t1`, and compares the status, the output and the line
 /// on standard error.
