@@ -1,12 +1,12 @@
 -- Runs in which no step fails.
-use Rattle.std.proofs.Common.{◌≡◌, ℕ, suc, ◌+◌, ◌≤◌, Bool, true, false, List, [], ◌∷◌, inl, inr, refl, sym, ap, ◌∙◌, length, map, arith}
+use Rattle.std.proofs.Common.{◌≡◌, ℕ, suc, ◌+◌, Bool, true, false, List, [], ◌∷◌, inl, inr, refl, sym, ap, ◌∙◌, length, map, arith}
 use Rattle.std.proofs.lemmas.List.{length-map}
 use Rattle.std.specs.Prelude.{if◌then◌else◌}
 use Rattle.ternary_words.specs.declared.table.Table.{Table}
 use Rattle.bank_update.specs.Lines.{fault_line, stage_or_idle}
 use Rattle.bank_update.specs.Machine.{State, step_answer, stepped}
 use Rattle.bank_update.specs.Script as script
-use Rattle.bank_update.specs.Runs.{IsRun, RoseBy, Turn, calm, fault_count, faults_of, line_of, lines_of, next, session, session_end, state_after, step_fails}
+use Rattle.bank_update.specs.Runs.{IsRun, RoseBy, Turn, fault_count, faults_of, line_of, lines_of, next, session, session_end, state_after, step_fails}
 
 -- a count that stays 0 rose by none
 rose_none : (n : ℕ) → RoseBy n 0 0 → n ≡ 0

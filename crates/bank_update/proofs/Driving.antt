@@ -1,5 +1,5 @@
 -- Runs of commands, one turn after another.
-use Rattle.std.proofs.Common.{◌≡◌, ℕ, ◌+◌, ◌≤◌, ◌<◌, Bool, List, [], ◌∷◌, ◌++◌, Option, Result, Ok, Err, inl, inr, refl, sym, ap, subst, ◌∙◌, append-nil, length, get_or, take, drop, take-append-drop, map, arith}
+use Rattle.std.proofs.Common.{◌≡◌, ℕ, ◌+◌, ◌≤◌, ◌<◌, Bool, List, [], ◌∷◌, ◌++◌, Option, Result, Ok, Err, inl, inr, refl, sym, ap, subst, ◌∙◌, append-nil, length, get_or, take, drop, take-append-drop, arith}
 use Rattle.std.specs.List.{concat}
 use Rattle.std.specs.Prelude.{All, IsErrAnd}
 use Rattle.std.proofs.lemmas.List.{get_or-map, length-map, map-append, take_more}

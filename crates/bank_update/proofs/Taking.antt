@@ -1,5 +1,5 @@
 -- A command takes its turn.
-use Rattle.std.proofs.Common.{◌≡◌, ℕ, ◌+◌, ◌≤◌, Bool, true, false, List, length, Option, Some, None, Result, Ok, Err, inl, inr, refl, sym, ap, subst, ◌∙◌, arith}
+use Rattle.std.proofs.Common.{◌≡◌, ℕ, ◌≤◌, true, false, List, length, Option, Some, None, Result, Ok, Err, inl, inr, refl, sym, ap, subst, ◌∙◌, arith}
 use Rattle.std.specs.Result.{result_ok}
 use Rattle.std.specs.Prelude.{◌↔◌, ok_or, IfOk, IfErr, OnOk, OnErr, is_some, option_map, if◌then◌else◌}
 use Rattle.razor_base.specs.Faults.{Rose}
@@ -13,7 +13,7 @@ use Rattle.bank_update.specs.declared.refusal.Idle.{Idle}
 use Rattle.bank_update.specs.declared.refusal.StepRefusal.{StepRefusal}
 use Rattle.bank_update.specs.declared.refusal.StepRefusal.TheVariants as refusals
 use Rattle.bank_update.specs.Lines.{begin_line, fault_line, stage_or_idle, step_line}
-use Rattle.bank_update.specs.Machine.{State, Swap, begin_answer, begun, moved, reached_by, stage_of, step_answer, stepped}
+use Rattle.bank_update.specs.Machine.{State, begin_answer, begun, moved, reached_by, stage_of, step_answer, stepped}
 use Rattle.bank_update.specs.Script as script
 use Rattle.bank_update.specs.Runs.{RoseBy, begun_to_table, faults_of, line_of, next, table_line, table_of_number}
 use Rattle.bank_update.specs.Turns.{TakesTurn, without_table}

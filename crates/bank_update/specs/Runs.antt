@@ -1,5 +1,5 @@
 -- What the commands of a script do and print, each in its turn.
-use Rattle.std.specs.Prelude.{◌≡◌, ℕ, ◌+◌, ◌-◌, ◌≤◌, ◌^◌, ◌⊎◌, Bool, true, false, ◌&&◌, List, [], ◌∷◌, length, map, slice_get, Option, Some, None, is_some, if◌then◌else◌}
+use Rattle.std.specs.Prelude.{◌≡◌, ℕ, ◌+◌, ◌-◌, ◌≤◌, ◌^◌, ◌⊎◌, Bool, false, ◌&&◌, List, [], ◌∷◌, length, map, slice_get, Option, Some, None, is_some, if◌then◌else◌}
 use Rattle.ternary_words.specs.declared.table.Table.{Table}
 use Rattle.bank_update.specs.Lines.{begin_line, fault_line, look_line, stage_or_idle}
 use Rattle.bank_update.specs.Machine.{State, abort_answer, aborted, begin_answer, begun, looked, stage, step_answer, stepped}

@@ -10,7 +10,7 @@ use Rattle.node_store.specs.Edges.{child_of}
 use Rattle.node_store.specs.Split.{IsSplit, to_left, to_right}
 use Rattle.node_store.proofs.Adjacent as adjacent
 use Rattle.node_store.proofs.Edges as edges
-use Rattle.fdd_ops.specs.Joint.{IsCommon, EndAmong, IsCoarsest}
+use Rattle.fdd_ops.specs.Joint.{IsCoarsest}
 
 -- one of the parts ends at the value
 abbrev HasEnd : List Part → ℕ → Type 0

@@ -1,5 +1,5 @@
 -- The place of a byte, as a search finds it.
-use Rattle.std.proofs.Common.{◌≡◌, ◌∷◌, ℕ, zero, suc, ◌+◌, ◌≤◌, List, Bool, true, false, cond, [], ap, refl, sym, ◌∙◌, arith, add-one, Some, None}
+use Rattle.std.proofs.Common.{◌≡◌, ◌∷◌, ℕ, zero, suc, ◌+◌, List, Bool, true, false, cond, [], ap, refl, sym, ◌∙◌, arith, add-one, Some, None}
 use Rattle.std.specs.Prelude.{Option, option_map, position}
 use Rattle.std.proofs.lemmas.Bool.{false≢true}
 use Rattle.memchr.specs.Find.{IsFirstByte}

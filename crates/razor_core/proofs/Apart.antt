@@ -1,5 +1,5 @@
 -- File words of which no two are equal.
-use Rattle.std.proofs.Common.{◌≡◌, ◌≢◌, ◌∷◌, ◌<◌, ◌≤◌, ℕ, List, [], Bool, true, false, length, slice_index_or, sym, arith}
+use Rattle.std.proofs.Common.{◌≡◌, ◌≢◌, ◌∷◌, ◌≤◌, ℕ, List, [], Bool, true, false, length, slice_index_or, sym, arith}
 use Rattle.std.specs.Prelude.{IsTrue, map, not, ◌&&◌, ◌||◌}
 use Rattle.std.specs.Borrow.{Bor}
 use Rattle.std.specs.Str.{bytes_eq}

@@ -1,5 +1,5 @@
 -- How a command ends that writes the certificate of a list and a table.
-use Rattle.std.proofs.Common.{◌≡◌, ℕ, zero, suc, ◌<◌, ◌+◌, List, [], ◌∷◌, Some, None, inl, inr, refl, subst, sym, ap, ◌∙◌, arith}
+use Rattle.std.proofs.Common.{◌≡◌, ℕ, zero, suc, ◌+◌, List, [], ◌∷◌, Some, None, inl, inr, refl, subst, sym, ap}
 use Rattle.std.specs.Prelude.{true, false, Option, map, slice_get, ◌⊎◌}
 use Rattle.std.specs.Io.KnownBytes.{Appends, Keeps}
 use Rattle.razor_base.specs.Output.{AppendsFront}
@@ -10,7 +10,7 @@ use Rattle.filter_reader.specs.declared.list.RuleList.{RuleList}
 use Rattle.ternary_words.specs.Prefixes.{IsPrefixInEach}
 use Rattle.ternary_words.specs.Table.{answer}
 use Rattle.ternary_words.specs.Table as tables
-use Rattle.ternary_words.specs.Views.{entry_of, table_of, word_of}
+use Rattle.ternary_words.specs.Views.{entry_of, table_of}
 use Rattle.ternary_words.specs.declared.entry.Entry.{Entry}
 use Rattle.ternary_words.specs.declared.table.Table.{Table}
 use Rattle.partition_check.specs.Good.{certificate_text}
@@ -30,11 +30,11 @@ use Rattle.razor_core.specs.Outcome.{Outcome, Gives}
 use Rattle.razor_core.specs.Outside.{Outside, Tells}
 use Rattle.razor_core.specs.Standing.{IsCutOff}
 use Rattle.razor_core.specs.Taking.{TakesTurn, table_value_of, value_of}
-use Rattle.razor_core.specs.Turns.{IsFree, Stop, StopsLater, bad_line, too_long, too_many}
-use Rattle.razor_core.specs.Written.{IsFirstOtherWord, IsOtherLine, IsTableDifference}
+use Rattle.razor_core.specs.Turns.{IsFree, bad_line, too_long, too_many}
+use Rattle.razor_core.specs.Written.{IsFirstOtherWord}
 use Rattle.razor_core.specs.Ending.{Ends, Stops, IsDone, summary_text}
-use Rattle.razor_core.proofs.Ended.{cut_off_ends, done_ends}
-use Rattle.razor_core.proofs.Turns.{AllRead, Passed, PassesWith, passed_taken, read_taken, turns_pass}
+use Rattle.razor_core.proofs.Ended.{done_ends}
+use Rattle.razor_core.proofs.Turns.{AllRead, Passed, passed_taken, read_taken, turns_pass}
 
 -- the entry at a place, as the specification sees it
 entry_at : (names : List (List ℕ)) (es : List Entry) (k : ℕ) (e : tables.Entry) → slice_get (map (entry_of names) es) k ≡ Some e → (x : Entry) × (slice_get es k ≡ Some x) × (e ≡ entry_of names x)

@@ -1,6 +1,6 @@
 -- How a command ends that runs a script.
 use Rattle.std.proofs.Common.{◌≡◌, ℕ, List, [], ◌∷◌, ◌++◌, append-nil, append_assoc, inl, inr, refl, subst, sym, ap, ◌∙◌}
-use Rattle.std.specs.Prelude.{true, Ok, Err, Option, Result, length, map}
+use Rattle.std.specs.Prelude.{true, Ok, Err, Result, length, map}
 use Rattle.std.specs.List.{concat}
 use Rattle.std.proofs.lemmas.List.Folds.{concat-append}
 use Rattle.std.specs.Io.KnownBytes.{Appends}
@@ -9,14 +9,14 @@ use Rattle.razor_base.specs.Output.{AppendsFront}
 use Rattle.ternary_words.specs.declared.table.Table.{Table}
 use Rattle.bank_update.specs.Driven as drives
 use Rattle.bank_update.specs.Machine.{State, unsettled}
-use Rattle.bank_update.specs.Runs.{IsRun, Turn, calm, line_of, next, session}
+use Rattle.bank_update.specs.Runs.{IsRun, calm, line_of, next, session}
 use Rattle.bank_update.specs.Script.{Event}
 use Rattle.bank_update.specs.declared.drive.DriveError.{DriveError}
 use Rattle.bank_update.specs.declared.drive.DriveError.TheVariants as errors
 use Rattle.razor_core.specs.declared.ending.Ending.{Ending}
 use Rattle.razor_core.specs.declared.ending.Ending.TheVariants.{Memory, WriteFault}
 use Rattle.razor_core.specs.Command.{Drive}
-use Rattle.razor_core.specs.Inputs.{Value, inputs, script_input, script_value, table_input}
+use Rattle.razor_core.specs.Inputs.{Value, inputs, script_input, script_value}
 use Rattle.razor_core.specs.Outcome.{Outcome}
 use Rattle.razor_core.specs.Outside.{Outside, Tells}
 use Rattle.razor_core.specs.Runs.{IsEndOfDrive}
@@ -24,7 +24,7 @@ use Rattle.razor_core.specs.Standing.{IsCutOff}
 use Rattle.razor_core.specs.Tables.{AreTaken}
 use Rattle.razor_core.specs.Taking.{TakesTurn, table_value_of}
 use Rattle.razor_core.specs.Ending.{Ends}
-use Rattle.razor_core.proofs.Ended.{cut_off_ends, done_ends}
+use Rattle.razor_core.proofs.Ended.{done_ends}
 use Rattle.razor_core.proofs.Tables.{all_passed, all_read}
 use Rattle.razor_core.proofs.Turns.{Passed, passed_taken, read_taken, turns_pass}
 

@@ -1,6 +1,6 @@
 -- How a command ends: in the turn of an input, with a table that wasn't made, cut off, or done.
 use Rattle.std.proofs.Common.{◌≡◌, ℕ, ◌≤◌, List, [], ◌∷◌, ◌++◌, Some, None, inl, inr, refl, subst, sym, ap, arith, ◌∙◌}
-use Rattle.std.specs.Prelude.{Bool, Option, IfSome, Ok, Err, Result, ◌⊎◌}
+use Rattle.std.specs.Prelude.{Bool, Option, Ok, Err, Result, ◌⊎◌}
 use Rattle.std.specs.Io.KnownBytes.{Appends, Keeps}
 use Rattle.razor_base.specs.Faults.{Rose}
 use Rattle.razor_base.specs.Output.{AppendsFront}

@@ -1,6 +1,6 @@
 -- Tables that are read one after another.
 use Rattle.std.proofs.Common.{◌≡◌, ◌≢◌, ℕ, ◌-◌, ◌≤◌, arith, drop, get_or, length, take, List, [], ◌∷◌, ◌++◌, Some, None, append-nil, append_assoc, inl, inr, refl, subst, sym, ap, ◌∙◌}
-use Rattle.std.specs.Prelude.{Bool, true, false, IfErr, IfSome, IsSome, IsTrue, OnOk, Option, Ok, Err, Result, not, map, ◌&&◌, ◌||◌, ◌⊎◌}
+use Rattle.std.specs.Prelude.{Bool, true, false, IfErr, IsTrue, OnOk, Option, Ok, Err, Result, not, map, ◌&&◌, ◌||◌}
 use Rattle.std.specs.Borrow.{Bor}
 use Rattle.std.specs.List.{AllByRecursion, list_any}
 use Rattle.std.specs.Str.{bytes_eq}
@@ -14,10 +14,8 @@ use Rattle.razor_core.specs.Command.{Command}
 use Rattle.razor_core.specs.Inputs.{Input, Value, inputs, table_input}
 use Rattle.razor_core.specs.Outside.{Outside}
 use Rattle.razor_core.specs.Tables.{AreAdded, AreTaken, Bytes, FailsAmong, IsNone}
-use Rattle.razor_core.specs.Taking.{EndsTurn, TakesTurn, table_value_of}
-use Rattle.razor_core.specs.Turns.{turn}
+use Rattle.razor_core.specs.Taking.{TakesTurn, table_value_of}
 use Rattle.razor_core.specs.Ending.{Ends}
-use Rattle.razor_core.proofs.Apart.{apart_later}
 use Rattle.razor_core.proofs.Ended.{StandsStill, ends_later, turn_ends}
 use Rattle.razor_core.proofs.Turns.{AllRead, AllTold, Passed, PassesWith, keeps_trans, passed_taken, read_taken, taken_before, taken_later}
 

@@ -1,7 +1,6 @@
 -- How a command ends that answers a trace.
-use Rattle.std.proofs.Common.{◌≡◌, ◌≢◌, ℕ, ◌≤◌, ◌<◌, List, [], ◌∷◌, ◌++◌, Some, None, length, inl, inr, le-leb, refl, subst, sym, ap, arith, ◌∙◌}
-use Rattle.std.specs.Prelude.{Bool, true, Option, IfSome, IsErrOf, IsSome, Ok, Err, Result, nat_le, map, option_map, take, unwrap_or, if◌then◌else◌}
-use Rattle.std.specs.List.{flat_map}
+use Rattle.std.proofs.Common.{◌≡◌, ◌≢◌, ℕ, ◌≤◌, List, [], ◌∷◌, ◌++◌, Some, None, length, inr, le-leb, refl, subst, sym, ap, arith, ◌∙◌}
+use Rattle.std.specs.Prelude.{Bool, true, Option, IfSome, IsErrOf, Ok, Err, Result, map, option_map, take, unwrap_or, if◌then◌else◌}
 use Rattle.std.specs.Io.KnownBytes.{Appends, Keeps}
 use Rattle.razor_base.specs.Faults.{Rose}
 use Rattle.razor_base.specs.Output.{AppendsFront}
@@ -20,8 +19,7 @@ use Rattle.trace_run.specs.Trace.{trace_of, trace_within, whole_lines}
 use Rattle.trace_run.specs.declared.error.TraceError.{TraceError}
 use Rattle.trace_run.specs.declared.error.TraceError.TheVariants as errors
 use Rattle.razor_core.specs.declared.ending.Ending.{Ending}
-use Rattle.razor_core.specs.declared.ending.Ending.TheVariants.{Done, No, BadLine as Bad, TooLong, TooMany, ReadFault, WriteFault, Memory}
-use Rattle.razor_core.specs.declared.ending.Summary.TheVariants.{Nothing}
+use Rattle.razor_core.specs.declared.ending.Ending.TheVariants.{BadLine as Bad, TooLong, ReadFault, WriteFault, Memory}
 use Rattle.trace_run.specs.declared.reason.TraceReason.{TraceReason}
 use Rattle.razor_core.specs.declared.line_reason.LineReason.{LineReason}
 use Rattle.razor_core.specs.declared.line_reason.LineReason.TheVariants.{OfTrace}
@@ -34,9 +32,9 @@ use Rattle.razor_core.specs.Standing.{AnswersCut, IsCutOff, Stands, WroteFor}
 use Rattle.razor_core.specs.Taking.{TakesTurn}
 use Rattle.razor_core.specs.Traced.{answer_line, answers_text, bad_line_of, taken_of}
 use Rattle.razor_core.specs.Turns.{Stop, StopsLater, bad_line, too_long, too_many, turn, turns_of}
-use Rattle.razor_core.specs.Ending.{Ends, FailsToRead, IsDone, Stops}
-use Rattle.razor_core.proofs.Ended.{Reached, StandsStill, cut_off_ends, done_ends, passed_or_stopped, same_values}
-use Rattle.razor_core.proofs.Turns.{Passed, PassesWith, keeps_trans, kept_told, passed_taken, read_fails, read_taken, rose_later, some_bytes, told_turn, turns_pass}
+use Rattle.razor_core.specs.Ending.{Ends, IsDone, Stops}
+use Rattle.razor_core.proofs.Ended.{done_ends, passed_or_stopped, same_values}
+use Rattle.razor_core.proofs.Turns.{Passed, PassesWith, kept_told, passed_taken, read_fails, read_taken, rose_later, some_bytes, told_turn, turns_pass}
 
 abbrev pub most : ℕ
 most = 67108864

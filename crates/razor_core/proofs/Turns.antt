@@ -1,6 +1,6 @@
 -- Turns of inputs that pass, and the first that doesn't.
 use Rattle.std.proofs.Common.{◌≡◌, ℕ, ◌≤◌, List, [], ◌∷◌, ◌++◌, Some, None, ap, arith, inl, inr, refl, subst, sym, ◌∙◌}
-use Rattle.std.specs.Prelude.{Option, IfSome, IsSome, Ok, Err, Result, unwrap_or, ◌⊎◌}
+use Rattle.std.specs.Prelude.{Option, IfSome, IsSome, Ok, Err, Result, unwrap_or}
 use Rattle.std.specs.List.{AllByRecursion}
 use Rattle.std.specs.Io.KnownBytes.{Keeps}
 use Rattle.razor_base.specs.Faults.{Rose}
@@ -8,7 +8,7 @@ use Rattle.razor_core.specs.Inputs.{Input, Value}
 use Rattle.razor_core.specs.Outside.{Outside}
 use Rattle.razor_core.specs.Taking.{TakesTurn}
 use Rattle.razor_core.specs.Turns.{Stop, before_others, turn, turns_of}
-use Rattle.razor_core.specs.Ending.{FailsToRead, PassesTurn}
+use Rattle.razor_core.specs.Ending.{FailsToRead}
 
 -- the desk tells the bytes of each of these inputs
 abbrev pub AllTold : Outside → List Input → Type 0

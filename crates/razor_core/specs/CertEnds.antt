@@ -11,7 +11,7 @@ use Rattle.box_partition.specs.Difference.{IsFirstDifference}
 use Rattle.box_partition.specs.Outcome.{IsCut, IsWritten}
 use Rattle.razor_core.specs.Comparison.{differ_line}
 use Rattle.razor_core.specs.declared.ending.Ending.{Ending}
-use Rattle.razor_core.specs.declared.ending.Ending.TheVariants.{Done, No, BadLine as Bad, TooLong, TooMany, ReadFault, WriteFault, Memory}
+use Rattle.razor_core.specs.declared.ending.Ending.TheVariants.{Done, No, BadLine as Bad, WriteFault, Memory}
 use Rattle.razor_core.specs.declared.ending.Summary.TheVariants.{Nothing}
 use Rattle.razor_core.specs.declared.line_reason.LineReason.TheVariants.{NotPrefix}
 

@@ -14,7 +14,7 @@ use Rattle.partition_check.specs.declared.row.Why.{Why}
 use Rattle.partition_check.specs.declared.row.Why.TheVariants.{Form, NotNext, RuleClaim, EntryClaim, Decisions, EndsEarly, Count}
 use Rattle.partition_check.specs.declared.row.Wrong.{Wrong}
 use Rattle.partition_check.specs.Checking.{Checking, begun}
-use Rattle.partition_check.specs.Streams.{ReadsTooMuch, ReadsWrong}
+use Rattle.partition_check.specs.Streams.{ReadsTooMuch}
 use Rattle.partition_check.specs.Verdict.{IsValid}
 use Rattle.razor_core.specs.Inputs.{most_bytes, text_of_certificate}
 

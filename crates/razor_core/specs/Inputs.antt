@@ -1,5 +1,5 @@
 -- The inputs of a command, in the order in which they are read, and what their texts come to.
-use Rattle.std.specs.Prelude.{ℕ, Bool, true, false, nat_lt, List, [], ◌∷◌, length, map, Result, Ok, Err}
+use Rattle.std.specs.Prelude.{ℕ, Bool, false, nat_lt, List, [], ◌∷◌, length, map, Result, Ok, Err}
 use Rattle.filter_reader.specs.FilterList as lists
 use Rattle.table_text.specs.Reading as tables
 use Rattle.bank_update.specs.Script as scripts

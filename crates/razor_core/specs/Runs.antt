@@ -6,7 +6,7 @@ use Rattle.bank_update.specs.declared.drive.DriveError.{DriveError}
 use Rattle.bank_update.specs.declared.drive.DriveError.TheVariants as drive_errors
 use Rattle.razor_core.specs.Inputs.{most_bytes, text_of_trace}
 use Rattle.razor_core.specs.declared.ending.Ending.{Ending}
-use Rattle.razor_core.specs.declared.ending.Ending.TheVariants.{Done, No, BadLine as Bad, TooLong, TooMany, ReadFault, WriteFault, Memory}
+use Rattle.razor_core.specs.declared.ending.Ending.TheVariants.{Done, BadLine as Bad, TooLong, ReadFault, WriteFault, Memory}
 use Rattle.razor_core.specs.declared.ending.Summary.TheVariants.{Nothing}
 use Rattle.razor_core.specs.declared.line_reason.LineReason.TheVariants.{OfTrace}
 

@@ -1,5 +1,5 @@
 -- Tables that are read one after another, over what a desk had at first and what it has then.
-use Rattle.std.specs.Prelude.{◌≡◌, ◌≢◌, ◌⊎◌, ℕ, List, [], ◌∷◌, ◌++◌, Option, map, Ok, IfSome}
+use Rattle.std.specs.Prelude.{◌≡◌, ◌≢◌, ◌⊎◌, ℕ, List, [], ◌∷◌, ◌++◌, Option, Ok, IfSome}
 use Rattle.ternary_words.specs.declared.table.Table.{Table}
 use Rattle.razor_core.specs.declared.ending.Ending.{Ending}
 use Rattle.razor_core.specs.Inputs.{Value, table_input}

@@ -1,5 +1,5 @@
 -- What a table answers to the headers of a trace, and how a trace ends its turn.
-use Rattle.std.specs.Prelude.{◌≡◌, ℕ, List, [], ◌∷◌, ◌++◌, Option, Some, option_map}
+use Rattle.std.specs.Prelude.{◌≡◌, ℕ, List, [], ◌∷◌, ◌++◌, Some, option_map}
 use Rattle.std.specs.List.{flat_map}
 use Rattle.field_boxes.specs.Names.{text_of}
 use Rattle.ternary_words.specs.Table.{Table, answer}

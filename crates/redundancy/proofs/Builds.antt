@@ -1,12 +1,11 @@
 -- Blocks that are added.
-use Rattle.std.proofs.Common.{◌≡◌, ◌∷◌, ◌++◌, ◌⊎◌, ℕ, suc, List, [], ◌<◌, ◌≤◌, ◌+◌, Bool, true, false, length, refl, ap, arith, sym, ◌∙◌, subst, inl, inr, true≢false}
-use Rattle.std.specs.Prelude.{◌||◌, ◌&&◌, ◌==◌, not, cond, Some, slice_get, slice_index_or, map}
+use Rattle.std.proofs.Common.{◌≡◌, ◌∷◌, ◌++◌, ◌⊎◌, ℕ, List, [], ◌<◌, ◌≤◌, ◌+◌, Bool, true, false, length, refl, ap, arith, sym, ◌∙◌, subst, inl, inr, true≢false}
+use Rattle.std.specs.Prelude.{◌||◌, ◌==◌, not, cond, Some, slice_get, slice_index_or, map}
 use Rattle.std.specs.List.{list_any}
 use Rattle.std.proofs.lemmas.Bool.{cases_lt}
 use Rattle.std.proofs.lemmas.List.{length-append}
 use Rattle.std.proofs.lemmas.List.Folds.{list_any-append}
 use Rattle.std.proofs.lemmas.Option.{slice_get_within}
-use Rattle.redundancy.specs.declared.node.NodeId.{NodeId}
 use Rattle.redundancy.specs.declared.node.Node.{Node}
 use Rattle.redundancy.specs.declared.block.Block.{Block}
 use Rattle.redundancy.specs.declared.block.Block.TheVariants.{Last, Behind, Two}

@@ -1,5 +1,5 @@
 -- Rows with trits in front.
-use Rattle.std.proofs.Common.{◌≡◌, ◌∷◌, ◌++◌, ℕ, zero, suc, List, [], ◌<◌, ◌≤◌, ◌+◌, ◌-◌, ◌/◌, ◌%◌, ◌^◌, Bool, true, false, length, refl, ap, arith, sym, ◌∙◌, subst}
+use Rattle.std.proofs.Common.{◌≡◌, ◌∷◌, ◌++◌, ℕ, suc, List, [], ◌<◌, ◌+◌, ◌-◌, ◌/◌, ◌%◌, ◌^◌, Bool, true, false, length, refl, ap, arith, sym, ◌∙◌, subst}
 use Rattle.std.specs.Prelude.{◌&&◌, ◌==◌, not, cond, map, nat_eq, slice_index_or}
 use Rattle.std.specs.List.{list_any}
 use Rattle.field_boxes.specs.Bits.{bits}
@@ -12,7 +12,7 @@ use Rattle.redundancy.specs.declared.block.Cover.{Cover}
 use Rattle.redundancy.specs.declared.front.Front.{Front}
 use Rattle.redundancy.specs.Rows.{Row, AreBits, behind, in_front, matches}
 use Rattle.redundancy.specs.Fronts.{trits_of}
-use Rattle.redundancy.specs.Diagram.{answer, is_in, Grows}
+use Rattle.redundancy.specs.Diagram.{answer, is_in}
 use Rattle.redundancy.specs.Blocks.{IsCover}
 use Rattle.redundancy.specs.Built.{row_at}
 use Rattle.redundancy.proofs.Run.{cover-behind}

@@ -1,5 +1,5 @@
 -- Tables of which entries were removed, by number and by name.
-use Rattle.std.proofs.Common.{◌≡◌, ◌∷◌, ℕ, zero, suc, ◌<◌, ◌≤◌, List, [], Bool, true, false, cond, length, map, ap, arith, refl, sym, subst, ◌∙◌, Some, inl, inr}
+use Rattle.std.proofs.Common.{◌≡◌, ◌∷◌, ℕ, zero, suc, ◌≤◌, List, [], Bool, true, false, cond, length, map, ap, arith, refl, sym, subst, ◌∙◌, Some, inl, inr}
 use Rattle.std.specs.Prelude.{find, Option, option_and_then}
 use Rattle.std.specs.List.{All, remove}
 use Rattle.std.proofs.lemmas.List.{length-map}

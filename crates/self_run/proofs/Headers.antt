@@ -1,5 +1,5 @@
 -- The headers that are drawn have a value in each field.
-use Rattle.std.proofs.Common.{◌≡◌, ◌<◌, ◌^◌, ◌/◌, ◌%◌, ◌+◌, ℕ, zero, suc, List, arith}
+use Rattle.std.proofs.Common.{◌<◌, ◌^◌, ◌/◌, ◌%◌, ◌+◌, ℕ, zero, suc, arith}
 use Rattle.std.specs.Prelude.{Bool, true, false, nat_eq, if◌then◌else◌}
 use Rattle.std.specs.List.{AllByRecursion}
 use Rattle.field_boxes.specs.Fields.{IsHeader}

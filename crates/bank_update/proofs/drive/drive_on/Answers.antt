@@ -1,4 +1,4 @@
-use Rattle.std.proofs.Common.{◌<◌, length, ap, arith}
+use Rattle.std.proofs.Common.{length, ap, arith}
 use Rattle.bank_update.specs.Swapping.{Swapping}
 use Rattle.bank_update.proofs.Driving.{event-within, goes-on, is-cut-off, next-event, out-of-memory, stopped-before, write-failed}
 use Rattle.bank_update.proofs.drive.drive_on.Goals as goal

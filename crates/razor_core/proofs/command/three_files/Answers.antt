@@ -1,4 +1,4 @@
-use Rattle.razor_core.proofs.Apart.{AreApart, three_apart}
+use Rattle.razor_core.proofs.Apart.{three_apart}
 use Rattle.razor_core.proofs.command.three_files.Goals as goal
 
 pub invariant_of-result : goal.invariant_of-result
