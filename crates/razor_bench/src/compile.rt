@@ -6,7 +6,7 @@ use crate::input::{MOST_LIST_BYTES, input, list_of};
 use anyhow::{Result, bail};
 use fdd_build::build;
 use node_store::{NodeId, Store};
-use redundancy::remove;
+use redundancy::{are_prefixes, remove};
 use std::alloc::Global;
 use std::fs::Files;
 use table_compose::{compose, cost};
@@ -53,7 +53,7 @@ fn finish(rt: &(impl Print + AllocGlobal), step: Step, store: &Store, root: Node
         }
         Step::Removal => {
             let entries = composed(rt.alloc(), store, root)?;
-            let kept = remove(rt.alloc(), entries)?;
+            let kept = removed(rt.alloc(), entries)?;
             println!(rt; "entries {}", kept.len())?;
         }
     }
@@ -68,4 +68,13 @@ fn composed(alloc: Global, store: &Store, root: NodeId) -> Result<Vec<Entry>>
         Ok(entries) => Ok(entries),
         Err(_) => bail!("no table is composed"),
     }
+}
+
+/// Those of the entries that stay.
+fn removed(alloc: Global, entries: Vec<Entry>) -> Result<Vec<Entry>> {
+    if !are_prefixes(entries.as_slice()) {
+        bail!("a word is no prefix");
+    }
+    let kept = remove(alloc, entries)?;
+    Ok(kept)
 }

@@ -4,8 +4,8 @@ use Rattle.std.specs.Prelude.{Some, slice_get, slice_index_or}
 use Rattle.std.proofs.lemmas.Bool.{cases_lt}
 use Rattle.std.proofs.lemmas.List.{length-append}
 use Rattle.std.proofs.lemmas.Option.{get_or_from_slice_get, slice_get_within}
-use Rattle.redundancy.specs.declared.pair.Pair.{Pair}
-use Rattle.redundancy.specs.Sifted.{no_pair, pair_at, AreDistinct}
+use Rattle.field_sift.specs.declared.pair.Pair.{Pair}
+use Rattle.field_sift.specs.Sifted.{no_pair, pair_at, AreDistinct}
 use Rattle.redundancy.proofs.Places.{old_item, last_item, pushed_to}
 
 -- the places so far

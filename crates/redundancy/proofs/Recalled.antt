@@ -1,22 +1,22 @@
 -- What was worked out of blocks, as it is kept and found again.
-use Rattle.std.proofs.Common.{◌≡◌, ℕ, List, ap, refl, sym, ◌∙◌, subst, length}
+use Rattle.std.proofs.Common.{◌≡◌, ◌≤◌, ℕ, List, ap, refl, sym, ◌∙◌, subst, length}
 use Rattle.std.specs.Prelude.{nat_eq, Bool, true, false, cond, Option, Some}
 use Rattle.std.specs.Bool.{Decides}
 use Rattle.std.specs.Cmp.Lexicographic.{pointwise, pointwise_decides}
 use Rattle.std.proofs.lemmas.Bool.Decides.{Decides-eqb, Decides-and}
-use Rattle.redundancy.specs.declared.node.Node.{Node}
-use Rattle.redundancy.specs.declared.pair.Pair.{Pair}
+use Rattle.node_store.specs.Diagram.{Node}
+use Rattle.node_store.specs.Store.{Grows}
+use Rattle.field_sift.specs.declared.pair.Pair.{Pair}
+use Rattle.field_sift.specs.declared.sifted.Sifted.{Sifted}
+use Rattle.field_sift.specs.Sifted.{AreNodes, IsSifted, answers_of, contexts_of}
+use Rattle.field_sift.specs.Marks.{marked}
+use Rattle.field_sift.specs.Contexts.{IsRight}
+use Rattle.field_sift.specs.Rows.{Row}
+use Rattle.field_sift.proofs.Kept.{sifted-stays, pairs-stay}
 use Rattle.redundancy.specs.declared.blocks.Blocks.{Blocks}
-use Rattle.redundancy.specs.declared.sifted.Sifted.{Sifted}
 use Rattle.redundancy.specs.declared.memo.Asked.{Asked}
-use Rattle.redundancy.specs.Diagram.{Grows}
 use Rattle.redundancy.specs.Blocks.{rows_of, cover_at}
-use Rattle.redundancy.specs.Sifted.{AreNodes, IsSifted, answers_of, contexts_of}
-use Rattle.redundancy.specs.Marks.{marked}
-use Rattle.redundancy.specs.Contexts.{IsRight}
-use Rattle.redundancy.specs.Rows.{Row}
 use Rattle.redundancy.specs.Remembered.{same_pair, same_asked, IsAnswered}
-use Rattle.redundancy.proofs.Kept.{sifted_stays, pairs_stay}
 
 pair_is : (p q : Pair) → p.after.0 ≡ q.after.0 → p.met.0 ≡ q.met.0 → p ≡ q
 pair_is p q a m =
@@ -34,20 +34,20 @@ same_is p q h =
     (d.0, d.1)
 
 -- the same flags and answers are right for the same rows and contexts
-copied : (nodes : List Node) (width : ℕ) (rows : List Row) (pairs : List Pair) (s t : Sifted) → t.kept.items ≡ s.kept.items → t.after.items ≡ s.after.items → IsSifted nodes width rows pairs s → IsSifted nodes width rows pairs t
-copied nodes width rows pairs s t k a h = record {
+pub copied : (nodes : List Node) (level : ℕ) (rows : List Row) (pairs : List Pair) (s t : Sifted) → t.kept.items ≡ s.kept.items → t.after.items ≡ s.after.items → IsSifted nodes level rows pairs s → IsSifted nodes level rows pairs t
+copied nodes level rows pairs s t k a h = record {
   flags = ap length k ∙ h.flags;
   count = ap length a ∙ h.count;
-  numbers = subst (AreNodes nodes) (sym a) h.numbers;
-  right = subst (λ flags. IsRight width (contexts_of nodes pairs) (marked rows flags) (answers_of nodes t.after.items)) (sym k)
-      (subst (λ ids. IsRight width (contexts_of nodes pairs) (marked rows s.kept.items) (answers_of nodes ids)) (sym a) h.right);
+  numbers = subst (AreNodes nodes level) (sym a) h.numbers;
+  right = subst (λ flags. IsRight level (contexts_of nodes pairs) (marked rows flags) (answers_of nodes t.after.items)) (sym k)
+      (subst (λ ids. IsRight level (contexts_of nodes pairs) (marked rows s.kept.items) (answers_of nodes ids)) (sym a) h.right);
 }
 
 pub answered_as : (nodes : List Node) (blocks : Blocks) (number other : ℕ) (pairs others : List Pair) (s t : Sifted) → other ≡ number → others ≡ pairs → t.kept.items ≡ s.kept.items → t.after.items ≡ s.after.items →
     IsAnswered nodes blocks number pairs s → IsAnswered nodes blocks other others t
 answered_as nodes blocks number other pairs others s t n p k a h =
     subst (λ m. IsAnswered nodes blocks m others t) (sym n) (subst (λ ps. IsAnswered nodes blocks number ps t) (sym p)
-    (record { contexts = h.contexts; sifted = copied nodes (cover_at blocks.covers.items number).bits (rows_of blocks.blocks.keys number) pairs s t k a h.sifted }))
+    (record { within = h.within; contexts = h.contexts; sifted = copied nodes (cover_at blocks.covers.items number).level (rows_of blocks.blocks.items number) pairs s t k a h.sifted }))
 
 some_is : (a b : Sifted) → Some a ≡ Some b → a ≡ b
 some_is a b h = cc
@@ -72,6 +72,7 @@ pub memo_stays : (old new : List Node) (blocks : Blocks) (done : Asked → Optio
     ((q : Asked) (s : Sifted) → done q ≡ Some s → IsAnswered old blocks q.number q.contexts.items s) → (q : Asked) (s : Sifted) → done q ≡ Some s → IsAnswered new blocks q.number q.contexts.items s
 memo_stays old new blocks done g all q s e =
     let h = all q s e in record {
-      contexts = pairs_stay old new q.contexts.items g h.contexts;
-      sifted = sifted_stays old new (cover_at blocks.covers.items q.number).bits (rows_of blocks.blocks.keys q.number) q.contexts.items s g h.contexts h.sifted;
+      within = h.within;
+      contexts = pairs-stay old new (cover_at blocks.covers.items q.number).level q.contexts.items h.within g h.contexts;
+      sifted = sifted-stays old new (cover_at blocks.covers.items q.number).level (rows_of blocks.blocks.items q.number) q.contexts.items s h.within g h.contexts h.sifted;
     }

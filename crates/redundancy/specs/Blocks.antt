@@ -1,24 +1,27 @@
 -- Blocks of rows by number.
-use Rattle.std.specs.Prelude.{◌≡◌, ℕ, zero, suc, ◌<◌, ◌≤◌, ◌+◌, ◌++◌, Bool, List, [], ◌∷◌, Option, Some, None, length, map, slice_get, slice_index_or}
-use Rattle.std.specs.List.{list_any}
-use Rattle.redundancy.specs.declared.node.Node.{Node}
+use Rattle.std.specs.Prelude.{◌≡◌, ℕ, zero, suc, ◌<◌, ◌≤◌, ◌++◌, List, [], ◌∷◌, Option, Some, None, All, length, map, slice_get, slice_index_or}
+use Rattle.field_boxes.specs.Fields.{greatest_of}
+use Rattle.field_boxes.specs.Spans.{interval_of}
+use Rattle.node_store.specs.Diagram.{Node, level_of}
+use Rattle.field_sift.specs.Rows.{Row, last_row}
+use Rattle.field_sift.specs.Layers as laws
+use Rattle.field_sift.specs.Layers.{AreApart, rows_of_runs}
+use Rattle.field_sift.specs.Sifted.{IsCover}
 use Rattle.redundancy.specs.declared.block.Block.{Block}
-use Rattle.redundancy.specs.declared.block.Block.TheVariants.{Last, Behind, Two}
+use Rattle.redundancy.specs.declared.block.Block.TheVariants.{Last, Layer, Two}
 use Rattle.redundancy.specs.declared.block.Cover.{Cover}
+use Rattle.redundancy.specs.declared.block.Run.{Run}
 use Rattle.redundancy.specs.declared.blocks.Blocks.{Blocks}
-use Rattle.redundancy.specs.Rows.{Row, AreBits, in_front, matches}
-use Rattle.redundancy.specs.Fronts.{trits_of}
-use Rattle.redundancy.specs.Diagram.{is_in}
 
--- a row with no trit
-abbrev pub last_row : ℕ → Row
-last_row decision = record { trits = []; decision = decision }
+-- a run with the rows of its block
+abbrev pub run_by : (ℕ → List Row) → Run → laws.Run
+run_by rows r = record { span = interval_of r.span; rows = rows r.block }
 
 -- the rows of a block, by the rows of the blocks that it leads to
 abbrev pub rows_by : (ℕ → List Row) → Option Block → List Row
 rows_by rows None = []
 rows_by rows (Some (Last decision)) = last_row decision ∷ []
-rows_by rows (Some (Behind front block)) = map (in_front (trits_of front)) (rows block)
+rows_by rows (Some (Layer runs)) = rows_of_runs (map (run_by rows) runs.items)
 rows_by rows (Some (Two first second)) = rows first ++ rows second
 
 -- the rows of a block, where blocks lead on to others at most so often
@@ -31,28 +34,40 @@ unfoldable pub rows_of : List Block → ℕ → List Row
 rows_of blocks number = rows_within (suc number) blocks number
 
 abbrev pub no_cover : Cover
-no_cover = record { bits = 0; set = record { 0 = 0 } }
+no_cover = record { level = 0; set = record { 0 = 0 } }
 
 abbrev pub cover_at : List Cover → ℕ → Cover
 cover_at covers number = slice_index_or covers number no_cover
 
--- the block leads to smaller numbers, and has as many bits as its rows have trits
-abbrev pub FitsAt : List Cover → ℕ → Block → Type 0
-FitsAt covers number (Last decision) = (cover_at covers number).bits ≡ 0
-FitsAt covers number (Behind front block) = (block < number) × (front.bits ≤ 104) × ((cover_at covers number).bits ≡ front.bits + (cover_at covers block).bits)
-FitsAt covers number (Two first second) =
-    (first < number) × (second < number) × ((cover_at covers first).bits ≡ (cover_at covers number).bits) × ((cover_at covers second).bits ≡ (cover_at covers number).bits)
+-- the run leads to a block before the number, of the level after the field, and its span ends within the field
+pub record FitsRun (covers : List Cover) (number field : ℕ) (r : Run) : Type 0 where
+  pub older : r.block < number
+  pub level : (cover_at covers r.block).level ≡ suc field
+  pub inside : r.span.hi ≤ greatest_of field
 
--- the set of the bits, so many, that some row matches
-pub record IsCover (nodes : List Node) (cover : Cover) (rows : List Row) : Type 0 where
-  pub number : cover.set.0 < length nodes
-  pub set : (bits : List Bool) → AreBits cover.bits bits → is_in nodes cover.set.0 bits ≡ list_any (matches bits) rows
+-- the spans of the runs rise and are apart
+abbrev pub RiseApart : List Run → Type 0
+RiseApart runs = AreApart 0 (map (run_by (λ block. [])) runs)
+
+-- the block leads to smaller numbers, at the levels that its own asks for
+abbrev pub FitsAt : List Cover → ℕ → Block → Type 0
+FitsAt covers number (Last decision) = (cover_at covers number).level ≡ 5
+FitsAt covers number (Layer runs) =
+    ((cover_at covers number).level < 5) × All (FitsRun covers number (cover_at covers number).level) runs.items × RiseApart runs.items
+FitsAt covers number (Two first second) =
+    (first < number) × (second < number) × ((cover_at covers first).level ≡ (cover_at covers number).level) × ((cover_at covers second).level ≡ (cover_at covers number).level)
+
+-- the set stands at its level, and is that of the values which some row matches
+pub record HasCover (nodes : List Node) (cover : Cover) (rows : List Row) : Type 0 where
+  pub within : cover.level ≤ 5
+  pub level : level_of nodes cover.set.0 ≡ cover.level
+  pub set : IsCover nodes cover.level cover.set.0 rows
 
 -- each block fits where it stands, and has its cover
 pub record AreBlocks (nodes : List Node) (blocks : List Block) (covers : List Cover) : Type 0 where
   pub count : length covers ≡ length blocks
   pub fits : (number : ℕ) (block : Block) → slice_get blocks number ≡ Some block → FitsAt covers number block
-  pub covered : (number : ℕ) → number < length blocks → IsCover nodes (cover_at covers number) (rows_of blocks number)
+  pub covered : (number : ℕ) → number < length blocks → HasCover nodes (cover_at covers number) (rows_of blocks number)
 
 abbrev pub IsBlocks : List Node → Blocks → Type 0
-IsBlocks nodes b = AreBlocks nodes b.blocks.keys b.covers.items
+IsBlocks nodes b = AreBlocks nodes b.blocks.items b.covers.items

@@ -1,13 +1,7 @@
-pub mod Rows
-pub mod Marks
-pub mod Pass
-pub mod Entries
-pub mod Contexts
-pub mod Diagram
-pub mod Unions
-pub mod Fronts
 pub mod Blocks
-pub mod Sifted
 pub mod Built
-pub mod Flags
+pub mod Lists
+pub mod Gathered
 pub mod Remembered
+pub mod Stretches
+pub mod Drafts

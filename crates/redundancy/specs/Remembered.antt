@@ -1,15 +1,15 @@
 -- What was worked out of blocks before.
-use Rattle.std.specs.Prelude.{◌≡◌, ℕ, ◌&&◌, nat_eq, Bool, List, Some}
+use Rattle.std.specs.Prelude.{◌≡◌, ◌≤◌, ℕ, ◌&&◌, nat_eq, Bool, List, Some}
 use Rattle.std.specs.Cmp.Lexicographic.{pointwise}
 use Rattle.std.specs.HashMap.{get}
-use Rattle.redundancy.specs.declared.node.Node.{Node}
-use Rattle.redundancy.specs.declared.pair.Pair.{Pair}
+use Rattle.node_store.specs.Diagram.{Node}
+use Rattle.field_sift.specs.declared.pair.Pair.{Pair}
+use Rattle.field_sift.specs.declared.sifted.Sifted.{Sifted}
+use Rattle.field_sift.specs.Sifted.{ArePairs, IsSifted}
 use Rattle.redundancy.specs.declared.blocks.Blocks.{Blocks}
-use Rattle.redundancy.specs.declared.sifted.Sifted.{Sifted}
 use Rattle.redundancy.specs.declared.memo.Asked.{Asked}
 use Rattle.redundancy.specs.declared.memo.Memo.{Memo}
 use Rattle.redundancy.specs.Blocks.{rows_of, cover_at}
-use Rattle.redundancy.specs.Sifted.{ArePairs, IsSifted}
 
 -- the pairs are of the same nodes
 abbrev pub same_pair : Pair → Pair → Bool
@@ -17,8 +17,9 @@ same_pair p q = nat_eq p.after.0 q.after.0 && nat_eq p.met.0 q.met.0
 
 -- the block under the number was gone through for these contexts
 pub record IsAnswered (nodes : List Node) (blocks : Blocks) (number : ℕ) (pairs : List Pair) (s : Sifted) : Type 0 where
-  pub contexts : ArePairs nodes pairs
-  pub sifted : IsSifted nodes (cover_at blocks.covers.items number).bits (rows_of blocks.blocks.keys number) pairs s
+  pub within : (cover_at blocks.covers.items number).level ≤ 5
+  pub contexts : ArePairs nodes (cover_at blocks.covers.items number).level pairs
+  pub sifted : IsSifted nodes (cover_at blocks.covers.items number).level (rows_of blocks.blocks.items number) pairs s
 
 -- the blocks are the same and the contexts too
 abbrev pub same_asked : Asked → Asked → Bool

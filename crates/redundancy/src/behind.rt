@@ -1,12 +1,13 @@
 //! Contexts behind other entries, and before answers.
-ghost use Rattle.std.specs.Prelude.{◌≡◌, ◌<◌, ℕ, length, IfOk};
-ghost use Rattle.redundancy.specs.Diagram.{Grows};
-ghost use Rattle.redundancy.specs.Sifted.{ArePairs, IsBehind, node_at, pair_at};
+ghost use Rattle.std.specs.Prelude.{◌≡◌, ◌<◌, ◌≤◌, ℕ, length, IfOk};
+ghost use Rattle.node_store.specs.Diagram.{level_of};
+ghost use Rattle.node_store.specs.Store.{Grows};
+ghost use Rattle.field_sift.specs.Sifted.{ArePairs, IsBehind, node_at, pair_at};
 
 use crate::block::Cover;
-use crate::node::NodeId;
-use crate::pair::Pair;
 use crate::sets::Sets;
+use field_sift::Pair;
+use node_store::NodeId;
 use razor_base::Memory;
 use std::alloc::Global;
 
@@ -17,15 +18,17 @@ pub(crate) fn behind_cover(
     cover: Cover,
     contexts: &[Pair],
 ) -> Result<Vec<Pair>, Memory>
-    requires cover { cover.set.0 < length sets.old }
-    requires contexts { ArePairs sets.old contexts.now }
+    requires within { cover.level ≤ 5 }
+    requires cover { level_of sets.old cover.set.0 ≡ cover.level }
+    requires contexts { ArePairs sets.old cover.level contexts.now }
     ensures count { IfOk result (λ pairs. length pairs.items ≡ length contexts.now) }
-    ensures each { IfOk result (λ pairs. (c : ℕ) → c < length contexts.now → IsBehind sets.new cover.bits cover.set (pair_at contexts.now c) (pair_at pairs.items c)) }
+    ensures level { IfOk result (λ pairs. ArePairs sets.new cover.level pairs.items) }
+    ensures each { IfOk result (λ pairs. (c : ℕ) → c < length contexts.now → IsBehind sets.new cover.level cover.set (pair_at contexts.now c) (pair_at pairs.items c)) }
     ensures grows { Grows sets.old sets.new }
 {
     let mut pairs = Vec::with_capacity(alloc, contexts.len())?;
     for pair in contexts {
-        let met = sets.union(cover.bits, pair.met, cover.set)?;
+        let met = sets.union(cover.level, pair.met, cover.set)?;
         pairs.push(Pair {
             after: pair.after,
             met,

@@ -1,55 +1,80 @@
-//! Contexts below a trit: those that follow the bits which it allows.
-ghost use Rattle.std.specs.Prelude.{◌≡◌, ◌<◌, ℕ, length, IfOk};
-ghost use Rattle.redundancy.specs.Sifted.{ArePairs, AreBelow, pair_at, pair_below};
+//! Contexts below a span of values: the pairs of nodes to which they lead.
+ghost use Rattle.std.specs.Prelude.{◌≡◌, ◌≤◌, ◌<◌, ◌++◌, length, map, IfOk, OnOk};
+ghost use Rattle.field_boxes.specs.Fields.{greatest_of};
+ghost use Rattle.field_boxes.specs.Spans.{interval_of};
+ghost use Rattle.node_store.specs.Split.{to_left};
+ghost use Rattle.field_sets.specs.Fill.{Fill};
+ghost use Rattle.field_sift.specs.Sifted.{ArePairs};
+ghost use Rattle.redundancy.specs.Stretches.{AreStretches, AreListed, pair_of};
 
-use crate::pair::Pair;
 use crate::sets::Sets;
+use field_boxes::Span;
+use field_sift::Pair;
+use node_store::Part;
 use razor_base::Memory;
 use std::alloc::Global;
 
-/// The contexts that follow the bits which the trit allows.
-pub(crate) fn below(
-    alloc: Global,
-    sets: &Sets,
-    trit: Option<bool>,
-    contexts: &[Pair],
-) -> Result<Vec<Pair>, Memory>
-    requires { ArePairs sets.now contexts.now }
-    ensures { IfOk result (λ lower. AreBelow sets.now trit contexts.now lower.items) }
-{
-    match trit {
-        Some(bit) => {
-            let pairs = at_bit(alloc, sets, bit, contexts, contexts.len())?;
-            Ok(pairs)
-        }
-        None => {
-            let mut pairs = at_bit(alloc, sets, false, contexts, 2 * contexts.len())?;
-            let ones = at_bit(alloc, sets, true, contexts, contexts.len())?;
-            pairs.extend_from_slice(ones.as_slice())?;
-            Ok(pairs)
-        }
-    }
+/// Values of a field that lead to one pair of nodes, and the place of the pair in a list.
+#[derive(Clone, Copy, Debug, PartialEq, Eq)]
+pub(crate) struct Stretch {
+    pub span: Span,
+    pub place: usize,
 }
 
-/// The contexts that follow one bit, with room for so many.
-fn at_bit(
+/// The pairs to which the contexts lead inside a span, and for each context the stretches of the span.
+#[derive(Drop)]
+pub(crate) struct Below {
+    pub pairs: Vec<Pair>,
+    pub stretches: Vec<Vec<Stretch>>,
+}
+
+/// The pairs to which the contexts of the level lead inside the span.
+pub(crate) fn listed_below(
     alloc: Global,
     sets: &Sets,
-    bit: bool,
+    level: u8,
+    span: Span,
     contexts: &[Pair],
-    room: usize,
-) -> Result<Vec<Pair>, Memory>
-    requires { ArePairs sets.now contexts.now }
-    ensures count { IfOk result (λ pairs. length pairs.items ≡ length contexts.now) }
-    ensures numbers { IfOk result (λ pairs. ArePairs sets.now pairs.items) }
-    ensures each { IfOk result (λ pairs. (c : ℕ) → c < length contexts.now → pair_at pairs.items c ≡ pair_below sets.now bit (pair_at contexts.now c)) }
+) -> Result<Below, Memory>
+    requires level { level < 5 }
+    requires inside { span.hi ≤ greatest_of level }
+    requires contexts { ArePairs sets.now level contexts.now }
+    ensures { IfOk result (λ b. AreListed sets.now (interval_of span) contexts.now (length contexts.now) b.pairs.items b.stretches.items) }
 {
-    let mut pairs = Vec::with_capacity(alloc, room)?;
+    let _level = level;
+    let mut pairs = Vec::with_capacity(alloc, contexts.len())?;
+    let mut stretches = Vec::with_capacity(alloc, contexts.len())?;
     for pair in contexts {
-        pairs.push(Pair {
-            after: sets.below(pair.after, bit),
-            met: sets.below(pair.met, bit),
-        })?;
+        let parts = sets.parts(pair.after, pair.met, span)?;
+        let own = stretches_of(alloc, &mut pairs, span, parts.as_slice())?;
+        stretches.push(own)?;
     }
-    Ok(pairs)
+    Ok(Below { pairs, stretches })
+}
+
+/// The stretches of one context by the parts of the span; the list gains a pair for each.
+fn stretches_of(
+    alloc: Global,
+    pairs: &mut Vec<Pair>,
+    span: Span,
+    parts: &[Part],
+) -> Result<Vec<Stretch>, Memory>
+    requires { Fill span.lo span.hi (map to_left parts.now) }
+    ensures stretches { IfOk result (λ own. AreStretches span.lo (length pairs.old.items) parts.now own.items) }
+    ensures pairs { OnOk result (pairs.new.items ≡ pairs.old.items ++ map pair_of parts.now) }
+{
+    let mut own = Vec::with_capacity(alloc, parts.len())?;
+    let mut lo = span.lo;
+    for part in parts {
+        own.push(Stretch {
+            span: Span { lo, hi: part.hi },
+            place: pairs.len(),
+        })?;
+        pairs.push(Pair {
+            after: part.left,
+            met: part.right,
+        })?;
+        lo = part.hi.saturating_add(1);
+    }
+    Ok(own)
 }

@@ -1,24 +1,31 @@
 //! Blocks of entries.
 
-use crate::front::Front;
-use crate::node::NodeId;
+use field_boxes::Span;
+use node_store::NodeId;
 
-/// A list of entries over their last trits, as many in each.
+/// The entries of a block of the next level, each with the span in front.
+#[derive(Clone, Copy, Debug, PartialEq, Eq)]
+pub struct Run {
+    pub span: Span,
+    pub block: usize,
+}
+
+/// A list of entries over the fields from a level on.
 ///
 /// Blocks have numbers, and lead to blocks of smaller numbers.
-#[derive(Clone, Copy, Debug, PartialEq, Eq, Hash)]
-pub(crate) enum Block {
-    /// One entry with no trit left, by its decision.
+#[derive(Drop)]
+pub enum Block {
+    /// One entry with no field left, by its decision.
     Last(u32),
-    /// The entries of a block, each with the trits in front.
-    Behind(Front, usize),
+    /// Runs whose spans rise and are apart.
+    Layer(Vec<Run>),
     /// The entries of a block, and then those of another.
     Two(usize, usize),
 }
 
-/// How many trits the entries of a block have, and the set of the bits that some of them match.
+/// The level of a block, and the set of the values of the fields from there on that some of its entries match.
 #[derive(Clone, Copy, Debug)]
-pub(crate) struct Cover {
-    pub bits: u8,
+pub struct Cover {
+    pub level: u8,
     pub set: NodeId,
 }

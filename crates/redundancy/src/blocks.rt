@@ -1,37 +1,36 @@
 //! Blocks by number.
 
 use crate::block::{Block, Cover};
-use indexmap::IndexSet;
 use std::alloc::Global;
 
-/// Blocks, each once, and for each its cover.
+/// Blocks, and for each its cover.
 #[derive(Drop)]
-pub(crate) struct Blocks {
-    pub blocks: IndexSet<Block>,
+pub struct Blocks {
+    pub blocks: Vec<Block>,
     pub covers: Vec<Cover>,
 }
 
 impl Blocks {
     ghost use Rattle.std.specs.Prelude.{◌≡◌, ◌<◌, ℕ, List, Some, length, slice_get};
-    ghost use Rattle.redundancy.specs.declared.node.Node.{Node};
-    ghost use Rattle.redundancy.specs.Blocks.{IsBlocks, FitsAt, cover_at};
+    ghost use Rattle.node_store.specs.Diagram.{Node};
+    ghost use Rattle.redundancy.specs.Blocks.{IsBlocks, cover_at};
 
     /// No blocks.
     pub fn new(alloc: Global) -> Blocks
         ensures { (nodes : List Node) → IsBlocks nodes result }
     {
         Blocks {
-            blocks: IndexSet::new(alloc),
+            blocks: Vec::new(alloc),
             covers: Vec::new(alloc),
         }
     }
 
     /// The block under the number.
-    pub fn block(&self, number: usize) -> Block
-        requires { number < length self.now.blocks.keys }
-        ensures found { slice_get self.now.blocks.keys number ≡ Some result }
+    pub fn block(&self, number: usize) -> &Block
+        requires { number < length self.now.blocks.items }
+        ensures found { slice_get self.now.blocks.items number ≡ Some result.now }
     {
-        self.blocks[number]
+        &self.blocks[number]
     }
 
     /// The cover of the block under the number.

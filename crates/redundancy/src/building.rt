@@ -1,167 +1,165 @@
-//! The blocks of a table.
+//! The blocks of lists of runs.
 
-use crate::block::{Block, Cover};
+use crate::block::{Block, Cover, Run};
 use crate::blocks::Blocks;
-use crate::front::Front;
+use crate::layering::{layer_len, placed};
 use crate::sets::Sets;
-use crate::splitting::{all_share, left_of, split_place};
+use node_store::NodeId;
 use razor_base::Memory;
-use ternary_words::Entry;
+use std::alloc::Global;
 
 impl Blocks {
-    ghost use Rattle.std.specs.Prelude.{◌≡◌, ◌<◌, ◌≤◌, ◌+◌, ◌++◌, ◌∷◌, [], ℕ, true, false, Some, slice_index_or, length, map, slice_get, IfOk};
-    ghost use Rattle.redundancy.specs.Rows.{in_front};
-    ghost use Rattle.redundancy.specs.Fronts.{trits_of};
-    ghost use Rattle.redundancy.specs.Blocks.{IsBlocks, rows_of, cover_at, last_row};
-    ghost use Rattle.redundancy.specs.Built.{IsBuilt, row_at};
-    ghost use Rattle.ternary_words.specs.declared.entry.Entry.{Entry as Seen};
+    ghost use Rattle.std.specs.Prelude.{◌≡◌, ◌<◌, ◌≤◌, ◌++◌, ◌∷◌, [], ℕ, length, map, IfOk};
+    ghost use Rattle.std.specs.List.{flat_map};
+    ghost use Rattle.node_store.specs.Diagram.{level_of};
+    ghost use Rattle.node_store.specs.Store.{Grows};
+    ghost use Rattle.field_sift.specs.Rows.{last_row};
+    ghost use Rattle.field_sift.specs.Sifted.{IsCover};
+    ghost use Rattle.field_sift.specs.Layers.{rows_of_runs};
+    ghost use Rattle.redundancy.specs.Blocks.{IsBlocks, RiseApart, rows_of, run_by};
+    ghost use Rattle.redundancy.specs.Built.{IsAdded, IsBuilt, AreBuilt, StandsAt, StandAt, FitRuns};
 
-    /// The number of the block of the entries' last so many trits.
-    ///
-    /// The trits that all entries share stand in front of the block of the others. A list whose entries differ in
-    /// the first of these trits is cut in two near its middle, at a change.
-    #[cycle(build)]
-    pub fn of(&mut self, sets: &mut Sets, entries: &[Entry], bits: u8) -> Result<usize, Memory>
-        requires blocks { IsBlocks sets.old self.old }
-        requires some { 0 < length entries.now }
-        requires bits { bits ≤ 104 }
-        ensures { IfOk result (λ number. IsBuilt sets.old sets.new self.old self.new bits (map (row_at bits) entries.now) number) }
+    /// The block of one entry with no field left.
+    pub fn last(&mut self, sets: &Sets, decision: u32) -> Result<usize, Memory>
+        requires blocks { IsBlocks sets.now self.old }
+        ensures { IfOk result (λ number. IsBuilt sets.now sets.now self.old self.new 5 (last_row decision ∷ []) number) }
     {
-        if entries.len() == 1 {
-            return self.of_one(sets, entries, bits);
-        }
-        let left = left_of(entries, bits);
-        let front = Front::of(&entries[0], bits, left);
-        if left < bits && all_share(entries, front, left) {
-            self.of_behind(sets, entries, front, left)
-        } else {
-            self.of_two(sets, entries, bits, split_place(entries, bits))
-        }
+        self.add(Block::Last(decision), 5, sets.full())
     }
 
-    /// The same of entries that fall in two at the place.
-    #[cycle(build)]
-    fn of_two(
+    /// The block of the runs, in layers: a layer ends where the next run doesn't begin above the one before it.
+    pub fn of_runs(
         &mut self,
+        alloc: Global,
         sets: &mut Sets,
-        entries: &[Entry],
-        bits: u8,
-        place: usize,
+        level: u8,
+        runs: &[Run],
     ) -> Result<usize, Memory>
         requires blocks { IsBlocks sets.old self.old }
-        requires some { 0 < place }
-        requires within { place < length entries.now }
-        requires bits { bits ≤ 104 }
-        ensures { IfOk result (λ number. IsBuilt sets.old sets.new self.old self.new bits (map (row_at bits) entries.now) number) }
+        requires some { 0 < length runs.now }
+        requires level { level < 5 }
+        requires runs { FitRuns self.old level runs.now }
+        ensures { IfOk result (λ number. IsBuilt sets.old sets.new self.old self.new level (rows_of_runs (map (run_by (rows_of self.old.blocks.items)) runs.now)) number) }
     {
-        let (first, second) = entries.split_at(place);
-        let first = self.of(sets, first, bits)?;
-        let second = self.of(sets, second, bits)?;
-        let number = self.two(sets, first, second)?;
-        Ok(number)
+        let numbers = self.layers(alloc, sets, level, runs)?;
+        self.sequence(sets, level, &numbers)
     }
 
-    /// The same of entries that share the trits before those that are left.
-    #[cycle(build)]
-    fn of_behind(
+    /// The block of some blocks of one level in sequence, halved again and again so that no recursion goes deep.
+    pub fn sequence(
         &mut self,
         sets: &mut Sets,
-        entries: &[Entry],
-        front: Front,
-        left: u8,
+        level: u8,
+        numbers: &[usize],
     ) -> Result<usize, Memory>
         requires blocks { IsBlocks sets.old self.old }
-        requires entries { 0 < length entries.now }
-        requires front { 0 < front.bits }
-        requires bits { front.bits + left ≤ 104 }
-        requires same { (k : ℕ) (d : Seen) → k < length entries.now →
-            in_front (trits_of front) (row_at left (slice_index_or entries.now k d)) ≡ row_at (front.bits + left) (slice_index_or entries.now k d) }
-        ensures { IfOk result (λ number. IsBuilt sets.old sets.new self.old self.new (front.bits + left) (map (row_at (front.bits + left)) entries.now) number) }
+        requires some { 0 < length numbers.now }
+        requires level { level ≤ 5 }
+        requires numbers { StandAt self.old level numbers.now }
+        ensures { IfOk result (λ number. IsBuilt sets.old sets.new self.old self.new level (flat_map (rows_of self.old.blocks.items) numbers.now) number) }
     {
-        let child = self.of(sets, entries, left)?;
-        let number = self.behind(sets, front, child)?;
-        Ok(number)
-    }
-
-    /// The same of one entry.
-    fn of_one(&mut self, sets: &mut Sets, entries: &[Entry], bits: u8) -> Result<usize, Memory>
-        requires blocks { IsBlocks sets.old self.old }
-        requires one { length entries.now ≡ 1 }
-        requires bits { bits ≤ 104 }
-        ensures { IfOk result (λ number. IsBuilt sets.old sets.new self.old self.new bits (map (row_at bits) entries.now) number) }
-    {
-        let entry = &entries[0];
-        let child = self.last(sets, entry.decision)?;
-        let number = self.behind(sets, Front::of(entry, bits, 0), child)?;
-        Ok(number)
-    }
-
-    /// The block of one entry with no trit left.
-    fn last(&mut self, sets: &mut Sets, decision: u32) -> Result<usize, Memory>
-        requires blocks { IsBlocks sets.old self.old }
-        ensures { IfOk result (λ number. IsBuilt sets.old sets.new self.old self.new 0 (last_row decision ∷ []) number) }
-    {
-        let (number, added) = self.place(Block::Last(decision))?;
-        if !added {
-            return Ok(number);
+        if numbers.len() == 1 {
+            return Ok(numbers[0]);
         }
-        let set = sets.leaf(1)?;
-        self.covers.push(Cover { bits: 0, set })?;
-        Ok(number)
+        let (first, second) = numbers.split_at(numbers.len() / 2);
+        let first = self.sequence(sets, level, first)?;
+        let second = self.sequence(sets, level, second)?;
+        self.two(sets, level, first, second)
     }
 
-    /// The block of another's entries with the trits in front.
-    fn behind(&mut self, sets: &mut Sets, front: Front, child: usize) -> Result<usize, Memory>
+    /// The blocks of the layers in their order.
+    fn layers(
+        &mut self,
+        alloc: Global,
+        sets: &mut Sets,
+        level: u8,
+        runs: &[Run],
+    ) -> Result<Vec<usize>, Memory>
         requires blocks { IsBlocks sets.old self.old }
-        requires child { child < length self.old.blocks.keys }
-        requires bits { front.bits + (cover_at self.old.covers.items child).bits ≤ 104 }
-        ensures { IfOk result (λ number. IsBuilt sets.old sets.new self.old self.new (front.bits + (cover_at self.old.covers.items child).bits)
-            (map (in_front (trits_of front)) (rows_of self.old.blocks.keys child)) number) }
+        requires some { 0 < length runs.now }
+        requires level { level < 5 }
+        requires runs { FitRuns self.old level runs.now }
+        ensures some { IfOk result (λ numbers. 0 < length numbers.items) }
+        ensures built { IfOk result (λ numbers. AreBuilt sets.old sets.new self.old self.new level (rows_of_runs (map (run_by (rows_of self.old.blocks.items)) runs.now)) numbers.items) }
     {
-        let (number, added) = self.place(Block::Behind(front, child))?;
-        if !added {
-            return Ok(number);
+        let mut numbers = Vec::new(alloc);
+        let mut rest = runs;
+        while !rest.is_empty() {
+            let (layer, others) = rest.split_at(layer_len(rest));
+            let number = self.layer(alloc, sets, level, layer)?;
+            numbers.push(number)?;
+            rest = others;
         }
-        let below = self.cover(child);
-        let set = sets.in_front(front, below.set)?;
-        self.covers.push(Cover {
-            bits: front.bits + below.bits,
-            set,
-        })?;
-        Ok(number)
+        Ok(numbers)
+    }
+
+    /// The block of runs that rise and are apart.
+    fn layer(
+        &mut self,
+        alloc: Global,
+        sets: &mut Sets,
+        level: u8,
+        runs: &[Run],
+    ) -> Result<usize, Memory>
+        requires blocks { IsBlocks sets.old self.old }
+        requires level { level < 5 }
+        requires runs { FitRuns self.old level runs.now }
+        requires apart { RiseApart runs.now }
+        ensures { IfOk result (λ number. IsBuilt sets.old sets.new self.old self.new level (rows_of_runs (map (run_by (rows_of self.old.blocks.items)) runs.now)) number) }
+    {
+        let set = self.layer_set(alloc, sets, level, runs)?;
+        let mut own = Vec::new(alloc);
+        own.extend_from_slice(runs)?;
+        self.add(Block::Layer(own), level, set)
+    }
+
+    /// The set of the values that some entry of such runs matches.
+    fn layer_set(
+        &self,
+        alloc: Global,
+        sets: &mut Sets,
+        level: u8,
+        runs: &[Run],
+    ) -> Result<NodeId, Memory>
+        requires blocks { IsBlocks sets.old self.now }
+        requires level { level < 5 }
+        requires runs { FitRuns self.now level runs.now }
+        requires apart { RiseApart runs.now }
+        ensures level { IfOk result (λ set. level_of sets.new set.0 ≡ level) }
+        ensures cover { IfOk result (λ set. IsCover sets.new level set.0 (rows_of_runs (map (run_by (rows_of self.now.blocks.items)) runs.now))) }
+        ensures grows { IfOk result (λ set. Grows sets.old sets.new) }
+    {
+        let placed = placed(alloc, &self.covers, runs)?;
+        let set = sets.laid(level, sets.none(level), &placed)?;
+        Ok(set)
     }
 
     /// The block of two.
-    fn two(&mut self, sets: &mut Sets, first: usize, second: usize) -> Result<usize, Memory>
+    fn two(
+        &mut self,
+        sets: &mut Sets,
+        level: u8,
+        first: usize,
+        second: usize,
+    ) -> Result<usize, Memory>
         requires blocks { IsBlocks sets.old self.old }
-        requires first { first < length self.old.blocks.keys }
-        requires second { second < length self.old.blocks.keys }
-        requires bits { (cover_at self.old.covers.items second).bits ≡ (cover_at self.old.covers.items first).bits }
-        ensures { IfOk result (λ number. IsBuilt sets.old sets.new self.old self.new (cover_at self.old.covers.items first).bits
-            (rows_of self.old.blocks.keys first ++ rows_of self.old.blocks.keys second) number) }
+        requires level { level ≤ 5 }
+        requires first { StandsAt self.old level first }
+        requires second { StandsAt self.old level second }
+        ensures { IfOk result (λ number. IsBuilt sets.old sets.new self.old self.new level (rows_of self.old.blocks.items first ++ rows_of self.old.blocks.items second) number) }
     {
-        let (number, added) = self.place(Block::Two(first, second))?;
-        if !added {
-            return Ok(number);
-        }
-        let left = self.cover(first);
-        let right = self.cover(second);
-        let set = sets.union(left.bits, left.set, right.set)?;
-        self.covers.push(Cover {
-            bits: left.bits,
-            set,
-        })?;
-        Ok(number)
+        let set = sets.union(level, self.cover(first).set, self.cover(second).set)?;
+        self.add(Block::Two(first, second), level, set)
     }
 
-    /// The number of the block, and whether it was added: then it has no cover yet.
-    fn place(&mut self, block: Block) -> Result<(usize, bool), Memory>
-        ensures found { IfOk result (λ r. slice_get self.new.blocks.keys r.0 ≡ Some block) }
-        ensures known { IfOk result (λ r. r.1 ≡ false → self.new.blocks.keys ≡ self.old.blocks.keys) }
-        ensures added { IfOk result (λ r. r.1 ≡ true → self.new.blocks.keys ≡ self.old.blocks.keys ++ block ∷ []) }
-        ensures covers { self.new.covers.items ≡ self.old.covers.items }
+    /// Adds the block with its cover.
+    fn add(&mut self, block: Block, level: u8, set: NodeId) -> Result<usize, Memory>
+        requires { length self.old.covers.items ≡ length self.old.blocks.items }
+        ensures { IfOk result (λ number. IsAdded self.old self.new block (record { level = level; set = set }) number) }
     {
-        let (number, added) = self.blocks.insert_full(block)?;
-        Ok((number, added))
+        let number = self.blocks.len();
+        self.covers.push(Cover { level, set })?;
+        self.blocks.push(block)?;
+        Ok(number)
     }
 }

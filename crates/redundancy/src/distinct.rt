@@ -1,8 +1,8 @@
 //! Contexts, each once.
 ghost use Rattle.std.specs.Prelude.{◌≡◌, ◌⊎◌, ◌∷◌, ◌++◌, [], true, Some, slice_get, IfOk, IfSome, OnOk};
-ghost use Rattle.redundancy.specs.Sifted.{AreDistinct};
+ghost use Rattle.field_sift.specs.Sifted.{AreDistinct};
 
-use crate::pair::Pair;
+use field_sift::Pair;
 use indexmap::IndexSet;
 use razor_base::Memory;
 use std::alloc::Global;

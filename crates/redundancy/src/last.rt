@@ -1,26 +1,26 @@
-//! Entries with no trit left.
+//! Entries with no field left.
 ghost use Rattle.std.specs.Prelude.{◌≡◌, ◌≢◌, ◌<◌, ℕ, [], ◌∷◌, true, false, length, if◌then◌else◌, IfOk};
-ghost use Rattle.redundancy.specs.Blocks.{last_row};
-ghost use Rattle.redundancy.specs.Contexts.{IsWanted};
-ghost use Rattle.redundancy.specs.Diagram.{answer, is_in, Grows};
-ghost use Rattle.redundancy.specs.Sifted.{ArePairs, IsSifted, contexts_of, node_at, pair_at};
+ghost use Rattle.node_store.specs.Diagram.{answer, level_of};
+ghost use Rattle.node_store.specs.Store.{Grows};
+ghost use Rattle.field_sift.specs.Rows.{last_row};
+ghost use Rattle.field_sift.specs.Contexts.{IsWanted};
+ghost use Rattle.field_sift.specs.Sifted.{is_in, ArePairs, IsSifted, contexts_of, node_at, pair_at};
 
-use crate::node::NodeId;
-use crate::pair::Pair;
 use crate::sets::Sets;
-use crate::sifted::Sifted;
+use field_sift::{Pair, Sifted};
+use node_store::NodeId;
 use razor_base::Memory;
 use std::alloc::Global;
 
-/// What is kept of one entry with no trit left: it stays where some context wants it.
+/// What is kept of one entry with no field left: it stays where some context wants it.
 pub(crate) fn last(
     alloc: Global,
     sets: &mut Sets,
     decision: u32,
     contexts: &[Pair],
 ) -> Result<Sifted, Memory>
-    requires { ArePairs sets.old contexts.now }
-    ensures sifted { IfOk result (λ s. IsSifted sets.new 0 (last_row decision ∷ []) contexts.now s) }
+    requires { ArePairs sets.old 5 contexts.now }
+    ensures sifted { IfOk result (λ s. IsSifted sets.new 5 (last_row decision ∷ []) contexts.now s) }
     ensures grows { Grows sets.old sets.new }
 {
     let wanted = wanted(sets, decision, contexts);
@@ -33,7 +33,7 @@ pub(crate) fn last(
 
 /// Whether some context wants an entry with the decision.
 fn wanted(sets: &Sets, decision: u32, contexts: &[Pair]) -> bool
-    requires { ArePairs sets.now contexts.now }
+    requires { ArePairs sets.now 5 contexts.now }
     ensures { IsWanted (contexts_of sets.now contexts.now) result (last_row decision) }
 {
     for pair in contexts {
@@ -46,8 +46,8 @@ fn wanted(sets: &Sets, decision: u32, contexts: &[Pair]) -> bool
 
 /// Whether no entry before matches, and another decision is answered.
 fn wants(sets: &Sets, decision: u32, pair: Pair) -> bool
-    requires after { pair.after.0 < length sets.now }
-    requires met { pair.met.0 < length sets.now }
+    requires after { level_of sets.now pair.after.0 ≡ 5 }
+    requires met { level_of sets.now pair.met.0 ≡ 5 }
     ensures clear { result ≡ true → is_in sets.now pair.met.0 [] ≡ false }
     ensures other { result ≡ true → answer sets.now pair.after.0 [] ≢ decision }
     ensures same { result ≡ false → is_in sets.now pair.met.0 [] ≡ false → answer sets.now pair.after.0 [] ≡ decision }

@@ -2,26 +2,27 @@
 //!
 //! [`remove`] tries the entries of a table from the last to the first. An entry stays where some header meets it
 //! first and is answered otherwise by what stays of the entries after it. So the answers are the same, and no
-//! entry that stays can be left out alone.
+//! entry that stays can be left out alone. The words have to be prefixes in each field ([`are_prefixes`]).
 //!
 //! ```text
 //! let tight = remove(alloc, entries)?;
 //! ```
 //!
-//! Entries are seen as *blocks*: lists of entries over their last so many trits. A block is one entry with no
-//! trit left, a block with the same trits in front of each entry, or two blocks in sequence. Blocks have numbers,
-//! equal blocks one, since composed tables repeat the same entries under many prefixes; each is kept with the set
-//! of the bits that it matches.
+//! Entries are seen field by field, as *blocks*: lists of entries over the fields from a level on. A block is one
+//! entry with no field left, a *layer*, or two blocks in sequence. A layer has runs whose spans of the level's field
+//! rise and are apart, each in front of a block of the next level; so no run sees the entries of another. Composed
+//! tables repeat the same entries under many prefixes: lists of runs have numbers, equal ones one, and a list that was
+//! met before has its block. Each block is kept with the set of the values that it matches.
 //!
 //! What is kept of a block is worked out for a list of *contexts*: for each, what is answered behind the block,
 //! and the set of what an entry before it matches. Of two blocks in sequence the second stands behind the first
-//! one's set, and the first before the second one's answers. Below a trit only the distinct contexts matter that
-//! follow the bits which the trit allows. With no trit left the entry stays exactly where some context doesn't
-//! meet an entry before it and is answered otherwise. A block of two is gone through once for the same contexts.
+//! one's set, and the first before the second one's answers. Below a run only the distinct contexts matter that
+//! follow the values of its span; its block is gone through once for the same contexts. Where nothing of a run is kept,
+//! nothing changes. With no field left the entry stays exactly where some context doesn't meet an entry before it and
+//! is answered otherwise.
 //!
-//! Sets and answers are binary decision diagrams over the bits of a header's key, whose nodes are shared. A
-//! step costs the same whatever the number of entries, so the whole goes by the entries, their trits, and
-//! how many contexts a block has.
+//! Sets and answers are diagrams of one store. A composed list of one field stands by falling length and rising
+//! value, so it has at most one layer a length. Entries in another order are right too, only slower.
 #![tactic(auto)]
 
 mod behind;
@@ -29,21 +30,21 @@ mod below;
 mod block;
 mod blocks;
 mod building;
-mod diagrams;
 mod distinct;
-mod front;
-mod joining;
+mod draft;
+mod finishing;
 mod last;
-pub mod laws;
+mod layering;
+mod lists;
 mod memo;
-mod node;
-mod pair;
+mod prefixes;
 mod removing;
+mod runs;
 mod sets;
-mod sifted;
 mod sifting;
-mod splitting;
+mod tables;
 #[cfg(test)]
 mod tests;
 
+pub use prefixes::are_prefixes;
 pub use removing::remove;

@@ -1,7 +1,6 @@
 //! What was worked out of blocks before.
 
-use crate::pair::Pair;
-use crate::sifted::Sifted;
+use field_sift::{Pair, Sifted};
 use razor_base::Memory;
 use std::alloc::Global;
 use std::collections::HashMap;
@@ -15,13 +14,13 @@ pub(crate) struct Asked {
 
 /// What was kept of blocks for some contexts.
 #[derive(Drop)]
-pub(crate) struct Memo {
+pub struct Memo {
     done: HashMap<Asked, Sifted>,
 }
 
 impl Memo {
     ghost use Rattle.std.specs.Prelude.{◌≡◌, ℕ, List, IfOk, IfSome, OnOk};
-    ghost use Rattle.redundancy.specs.declared.node.Node.{Node};
+    ghost use Rattle.node_store.specs.Diagram.{Node};
     ghost use Rattle.redundancy.specs.declared.blocks.Blocks.{Blocks};
     ghost use Rattle.redundancy.specs.Remembered.{IsMemo, IsAnswered};
 
@@ -35,7 +34,7 @@ impl Memo {
     }
 
     /// A copy of what was kept of the block for these contexts, if it was worked out.
-    pub fn get(
+    pub(crate) fn get(
         &self,
         alloc: Global,
         number: usize,
@@ -49,13 +48,13 @@ impl Memo {
             contexts: contexts.to_vec(alloc)?,
         };
         match self.done.get(&asked) {
-            Some(sifted) => Ok(Some(sifted.copy(alloc)?)),
+            Some(sifted) => Ok(Some(copy_of(alloc, sifted)?)),
             None => Ok(None),
         }
     }
 
     /// Keeps a copy of what was kept of the block for these contexts.
-    pub fn keep(
+    pub(crate) fn keep(
         &mut self,
         alloc: Global,
         number: usize,
@@ -69,8 +68,20 @@ impl Memo {
             number,
             contexts: contexts.to_vec(alloc)?,
         };
-        let copy = sifted.copy(alloc)?;
+        let copy = copy_of(alloc, sifted)?;
         self.done.insert(asked, copy)?;
         Ok(())
     }
+}
+
+ghost use Rattle.std.specs.Prelude.{◌≡◌, IfOk};
+
+/// The same flags and answers.
+fn copy_of(alloc: Global, sifted: &Sifted) -> Result<Sifted, Memory>
+    ensures kept { IfOk result (λ s. s.kept.items ≡ sifted.now.kept.items) }
+    ensures after { IfOk result (λ s. s.after.items ≡ sifted.now.after.items) }
+{
+    let kept = sifted.kept.as_slice().to_vec(alloc)?;
+    let after = sifted.after.as_slice().to_vec(alloc)?;
+    Ok(Sifted { kept, after })
 }

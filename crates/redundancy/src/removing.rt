@@ -1,25 +1,27 @@
 //! Redundant entries removed.
 ghost use Rattle.std.specs.Prelude.{◌≡◌, ◌<◌, [], length, IfOk};
-ghost use Rattle.redundancy.specs.Entries.{AnswerAlike, IsPart, IsTight};
-ghost use Rattle.redundancy.specs.Pass.{Keeps};
-ghost use Rattle.redundancy.specs.Flags.{AreRightFlags, with_flags};
+ghost use Rattle.field_sift.specs.Built.{ArePrefixes};
+ghost use Rattle.field_sift.specs.Entries.{AnswerAlike, IsPart, IsTight};
+ghost use Rattle.field_sift.specs.Pass.{Keeps};
+ghost use Rattle.field_sift.specs.Flags.{AreRightFlags, with_flags};
 
 use crate::blocks::Blocks;
+use crate::lists::Lists;
 use crate::memo::Memo;
-use crate::pair::Pair;
 use crate::sets::Sets;
+use field_sift::Pair;
+use field_sift::laws::{one_pass, whole_table};
 use razor_base::Memory;
 use std::alloc::Global;
 use ternary_words::Entry;
 
-/// The trits of a word.
-const TRITS: u8 = 104;
-
-/// The table without its redundant entries: those that a pass from the last entry to the first keeps.
+/// The table without its redundant entries: those that a pass from the last entry to the first keeps. The entries' words
+/// are prefixes in each field.
 ///
 /// An entry stays where some header meets it first and is answered otherwise by what stays of the entries
 /// after it. To decide nothing and to match no entry is the same answer.
 pub fn remove(alloc: Global, entries: Vec<Entry>) -> Result<Vec<Entry>, Memory>
+    requires prefixes { ArePrefixes entries.items }
     ensures pass { IfOk result (λ kept. Keeps [] entries.items kept.items) }
     ensures part { IfOk result (λ kept. IsPart kept.items entries.items) }
     ensures alike { IfOk result (λ kept. AnswerAlike kept.items entries.items) }
@@ -28,6 +30,8 @@ pub fn remove(alloc: Global, entries: Vec<Entry>) -> Result<Vec<Entry>, Memory>
     if entries.is_empty() {
         return Ok(entries);
     }
+    whole_table();
+    one_pass();
     let flags = flags(alloc, entries.as_slice())?;
     let kept = flagged(alloc, entries.as_slice(), flags.as_slice())?;
     Ok(kept)
@@ -38,10 +42,12 @@ fn flags(alloc: Global, entries: &[Entry]) -> Result<Vec<bool>, Memory>
     requires { 0 < length entries.now }
     ensures { IfOk result (λ flags. AreRightFlags entries.now flags.items) }
 {
-    let mut sets = Sets::new(alloc);
+    whole_table();
+    let mut sets = Sets::new(alloc)?;
     let mut blocks = Blocks::new(alloc);
-    let root = blocks.of(&mut sets, entries, TRITS)?;
-    let none = sets.leaf(0)?;
+    let mut lists = Lists::new(alloc);
+    let root = blocks.of(alloc, &mut sets, &mut lists, entries, 0)?;
+    let none = sets.none(0);
     let context = Pair {
         after: none,
         met: none,

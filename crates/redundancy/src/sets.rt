@@ -1,243 +1,125 @@
-//! Sets of lists of bits, as diagrams of 0 and other numbers.
+//! Sets of values and answers of contexts, as diagrams of one store.
 
-use crate::diagrams::Diagrams;
-use crate::front::Front;
-use crate::node::{NodeId, Sides};
+use field_boxes::Span;
+use field_sets::{Placed, parts_within};
+use node_store::{NodeId, Parts};
 use razor_base::Memory;
 use std::alloc::Global;
-use std::collections::HashMap;
 use std::marker::Model;
 
-/// Diagrams, and the unions of sets that were worked out before.
+/// Diagrams, with the empty set of each level, and the unions that were worked out before.
 #[derive(Drop)]
 pub(crate) struct Sets {
-    diagrams: Diagrams,
-    unions: HashMap<Sides, NodeId>,
+    alloc: Global,
+    sets: field_sets::Sets,
 }
 
 impl Model for Sets {
     ghost use Rattle.std.specs.Prelude.{List};
-    ghost use Rattle.std.specs.HashMap.{get};
-    ghost use Rattle.redundancy.specs.declared.node.Node.{Node as Seen};
-    ghost use Rattle.redundancy.specs.Unions.{AreUnions, same_sides};
+    ghost use Rattle.node_store.specs.Diagram.{Node};
 
-    ghost Value = { List Seen };
+    ghost Value = { List Node };
 
-    ghost view = { λ s. s.diagrams };
-
-    ghost invariant = { λ s. AreUnions s.diagrams (get same_sides s.unions) };
+    ghost view = { λ s. s.sets };
 }
 
 impl Sets {
-    ghost use Rattle.std.specs.Prelude.{◌≡◌, ◌<◌, ◌≤◌, ◌+◌, ◌-◌, ◌||◌, ℕ, Bool, List, [], ◌∷◌, length, map, if◌then◌else◌, IfOk, IfSome};
-    ghost use Rattle.redundancy.specs.Diagram.{answer, below, is_in, Grows, IsUnion};
-    ghost use Rattle.redundancy.specs.Rows.{Row, AreBits, in_front};
-    ghost use Rattle.redundancy.specs.Fronts.{trits_of};
-    ghost use Rattle.redundancy.specs.Blocks.{IsCover};
-    ghost use Rattle.redundancy.specs.Unions.{IsUnionOf};
+    ghost use Rattle.std.specs.Prelude.{◌≡◌, ◌≤◌, ◌<◌, ℕ, suc, List, [], ◌∷◌, true, map, IfOk};
+    ghost use Rattle.field_boxes.specs.Fields.{greatest_of};
+    ghost use Rattle.node_store.specs.Diagram.{answer, edges_of, level_of};
+    ghost use Rattle.node_store.specs.Store.{AreValuesFrom, Grows, IsStore, LeadTo};
+    ghost use Rattle.node_store.specs.Split.{to_left, to_right};
+    ghost use Rattle.field_sift.specs.Sifted.{IsUnion, is_in};
+    ghost use Rattle.field_sets.specs.Parting.{IsSplitWithin};
+    ghost use Rattle.field_sets.specs.Placed.{PlacedAt, RiseFrom, led};
 
-    /// No diagrams.
-    pub fn new(alloc: Global) -> Sets
-        ensures { result ≡ [] }
+    /// No diagrams but the constant ones.
+    pub fn new(alloc: Global) -> Result<Sets, Memory> {
+        let sets = field_sets::Sets::new(alloc)?;
+        Ok(Sets { alloc, sets })
+    }
+
+    /// What holds of every store: the call does nothing.
+    pub fn is_store(&self)
+        ensures { IsStore self.now }
     {
-        Sets {
-            diagrams: Diagrams::new(alloc),
-            unions: HashMap::new(alloc),
-        }
+        self.sets.store().same_answers();
+    }
+
+    /// The empty set of the level.
+    pub fn none(&self, level: u8) -> NodeId
+        requires { level ≤ 5 }
+        ensures level { level_of self.now result.0 ≡ level }
+        ensures empty { (values : List ℕ) → AreValuesFrom level values → answer self.now result.0 values ≡ 0 }
+    {
+        self.sets.none(level)
+    }
+
+    /// The full set where no field is left.
+    pub fn full(&self) -> NodeId
+        ensures level { level_of self.now result.0 ≡ 5 }
+        ensures full { is_in self.now result.0 [] ≡ true }
+    {
+        self.sets.full(5)
     }
 
     /// The leaf with the decision.
     pub fn leaf(&mut self, decision: u32) -> Result<NodeId, Memory>
-        ensures number { IfOk result (λ id. id.0 < length self.new) }
-        ensures answers { IfOk result (λ id. (bits : List Bool) → answer self.new id.0 bits ≡ decision) }
+        ensures level { IfOk result (λ id. level_of self.new id.0 ≡ 5) }
+        ensures answer { IfOk result (λ id. answer self.new id.0 [] ≡ decision) }
         ensures grows { Grows self.old self.new }
     {
-        let id = self.diagrams.leaf(decision)?;
+        let id = self.sets.leaf(decision)?;
         Ok(id)
     }
 
-    /// The diagram that goes on by the first bit.
-    pub fn fork(&mut self, low: NodeId, high: NodeId) -> Result<NodeId, Memory>
-        requires low { low.0 < length self.old }
-        requires high { high.0 < length self.old }
-        ensures number { IfOk result (λ id. id.0 < length self.new) }
-        ensures answers { IfOk result (λ id. (b : Bool) (bits : List Bool) →
-            answer self.new id.0 (b ∷ bits) ≡ answer self.old (if b then high.0 else low.0) bits) }
-        ensures grows { Grows self.old self.new }
-    {
-        let id = self.diagrams.fork(low, high)?;
-        Ok(id)
-    }
-
-    /// Where the bit leads from the node.
-    pub fn below(&self, id: NodeId, bit: bool) -> NodeId
-        requires { id.0 < length self.now }
-        ensures below { result.0 ≡ below self.now id.0 bit }
-        ensures number { result.0 < length self.now }
-    {
-        self.diagrams.below(id, bit)
-    }
-
-    /// What the node answers where no bit is left.
+    /// What the leaf answers.
     pub fn last(&self, id: NodeId) -> u32
-        requires { id.0 < length self.now }
+        requires { level_of self.now id.0 ≡ 5 }
         ensures { result ≡ answer self.now id.0 [] }
     {
-        self.diagrams.last(id)
+        self.sets.store().decision(id).unwrap_or(0)
     }
 
-    /// The set of the bits, so many, that are in one of two sets.
-    ///
-    /// Each union is worked out once.
-    #[cycle(union)]
-    pub fn union(&mut self, bits: u8, left: NodeId, right: NodeId) -> Result<NodeId, Memory>
-        requires left { left.0 < length self.old }
-        requires right { right.0 < length self.old }
-        ensures union { IfOk result (λ id. IsUnionOf self.new (record { bits = bits; left = left; right = right }) id.0) }
+    /// The set of the values that are in one of two sets of the level.
+    pub fn union(&mut self, level: u8, left: NodeId, right: NodeId) -> Result<NodeId, Memory>
+        requires within { level ≤ 5 }
+        requires left { level_of self.old left.0 ≡ level }
+        requires right { level_of self.old right.0 ≡ level }
+        ensures level { IfOk result (λ id. level_of self.new id.0 ≡ level) }
+        ensures union { IfOk result (λ id. IsUnion self.new level left.0 right.0 id.0) }
         ensures grows { Grows self.old self.new }
     {
-        if let Some(known) = self.at_sight(left, right) {
-            return Ok(known);
-        }
-        let sides = Sides { bits, left, right };
-        if let Some(known) = self.known(sides) {
-            return Ok(known);
-        }
-        let id = self.worked_out(bits, left, right)?;
-        self.keep(sides, id)?;
+        let id = self.sets.union(level, left, right)?;
         Ok(id)
     }
 
-    /// The set of the bits that the trits match, where the bits behind them are in the set.
-    pub fn in_front(&mut self, front: Front, inside: NodeId) -> Result<NodeId, Memory>
-        requires inside { inside.0 < length self.old }
-        requires bits { front.bits ≤ 104 }
-        ensures covers { (width : ℕ) (rows : List Row) → IsCover self.old (record { bits = width; set = inside }) rows →
-            IfOk result (λ id. IsCover self.new (record { bits = front.bits + width; set = id }) (map (in_front (trits_of front)) rows)) }
-        ensures number { IfOk result (λ id. id.0 < length self.new) }
+    /// The node of the level that leads, at the values of each of the spans, where that leads, and elsewhere where
+    /// the node leads.
+    pub fn laid(&mut self, level: u8, node: NodeId, placed: &[Placed]) -> Result<NodeId, Memory>
+        requires level { level < 5 }
+        requires node { level_of self.old node.0 ≡ level }
+        requires rise { RiseFrom 0 (greatest_of level) placed.now }
+        requires children { PlacedAt self.old (suc level) placed.now }
+        ensures level { IfOk result (λ id. level_of self.new id.0 ≡ level) }
+        ensures answers { IfOk result (λ id. (v : ℕ) (values : List ℕ) → v ≤ greatest_of level →
+            answer self.new id.0 (v ∷ values) ≡ answer self.old (led placed.now (edges_of self.old node.0) v) values) }
         ensures grows { Grows self.old self.new }
     {
-        if front.bits == 0 {
-            return Ok(inside);
-        }
-        let trit = front.first();
-        let behind = self.in_front(front.rest(), inside)?;
-        let none = self.leaf(0)?;
-        let low = part(trit, false, behind, none);
-        let high = part(trit, true, behind, none);
-        let id = self.fork(low, high)?;
+        let id = self.sets.laid(level, node, placed)?;
         Ok(id)
     }
 
-    /// The union, if it was worked out before.
-    fn known(&self, sides: Sides) -> Option<NodeId>
-        ensures { IfSome result (λ id. IsUnionOf self.now sides id.0) }
+    /// The parts of the span on which each of two inner nodes of one level leads to one child, in rising order.
+    pub fn parts(&self, left: NodeId, right: NodeId, span: Span) -> Result<Parts, Memory>
+        requires inner { level_of self.now left.0 < 5 }
+        requires level { level_of self.now right.0 ≡ level_of self.now left.0 }
+        requires span { span.hi ≤ greatest_of (level_of self.now left.0) }
+        ensures split { IfOk result (λ parts. IsSplitWithin span.lo span.hi (edges_of self.now left.0) (edges_of self.now right.0) parts.items) }
+        ensures left { IfOk result (λ parts. LeadTo self.now (suc (level_of self.now left.0)) (map to_left parts.items)) }
+        ensures right { IfOk result (λ parts. LeadTo self.now (suc (level_of self.now left.0)) (map to_right parts.items)) }
     {
-        self.unions.get(&sides).copied()
-    }
-
-    /// Keeps a union.
-    fn keep(&mut self, sides: Sides, id: NodeId) -> Result<(), Memory>
-        requires { IsUnionOf self.old sides id.0 }
-        ensures { self.new ≡ self.old }
-    {
-        self.unions.insert(sides, id)?;
-        Ok(())
-    }
-
-    /// The same, from the unions of what follows a first bit.
-    #[cycle(union)]
-    fn worked_out(&mut self, bits: u8, left: NodeId, right: NodeId) -> Result<NodeId, Memory>
-        requires left { left.0 < length self.old }
-        requires right { right.0 < length self.old }
-        ensures union { IfOk result (λ id. IsUnionOf self.new (record { bits = bits; left = left; right = right }) id.0) }
-        ensures grows { Grows self.old self.new }
-    {
-        if bits == 0 {
-            return self.last_union(left, right);
-        }
-        let low = self.union_below(bits, left, right, false)?;
-        let high = self.union_below(bits, left, right, true)?;
-        let id = self.fork(low, high)?;
-        Ok(id)
-    }
-
-    /// The union of what follows the bit.
-    #[cycle(union)]
-    fn union_below(
-        &mut self,
-        bits: u8,
-        left: NodeId,
-        right: NodeId,
-        bit: bool,
-    ) -> Result<NodeId, Memory>
-        requires some { 0 < bits }
-        requires left { left.0 < length self.old }
-        requires right { right.0 < length self.old }
-        ensures number { IfOk result (λ id. id.0 < length self.new) }
-        ensures union { IfOk result (λ id. (rest : List Bool) → AreBits (bits - 1) rest →
-            is_in self.new id.0 rest ≡ (is_in self.old left.0 (bit ∷ rest) || is_in self.old right.0 (bit ∷ rest))) }
-        ensures grows { Grows self.old self.new }
-    {
-        let left = self.below(left, bit);
-        let right = self.below(right, bit);
-        let id = self.union(bits - 1, left, right)?;
-        Ok(id)
-    }
-
-    /// The union where no bit is left.
-    fn last_union(&mut self, left: NodeId, right: NodeId) -> Result<NodeId, Memory>
-        requires left { left.0 < length self.old }
-        requires right { right.0 < length self.old }
-        ensures union { IfOk result (λ id. IsUnionOf self.new (record { bits = 0; left = left; right = right }) id.0) }
-        ensures grows { Grows self.old self.new }
-    {
-        let some = self.last(left) != 0 || self.last(right) != 0;
-        let id = self.leaf(u32::from(some))?;
-        Ok(id)
-    }
-
-    /// The union of two sets where one is empty or full, or both are one.
-    fn at_sight(&self, left: NodeId, right: NodeId) -> Option<NodeId>
-        requires left { left.0 < length self.now }
-        requires right { right.0 < length self.now }
-        ensures number { IfSome result (λ id. id.0 < length self.now) }
-        ensures union { IfSome result (λ id. (width : ℕ) → IsUnion self.now width left.0 right.0 id.0) }
-    {
-        if left == right {
-            return Some(left);
-        }
-        match self.beside(left, right) {
-            Some(known) => Some(known),
-            None => self.beside(right, left),
-        }
-    }
-
-    /// The union with a set that is empty or full.
-    fn beside(&self, side: NodeId, other: NodeId) -> Option<NodeId>
-        requires side { side.0 < length self.now }
-        requires other { other.0 < length self.now }
-        ensures number { IfSome result (λ id. id.0 < length self.now) }
-        ensures union { IfSome result (λ id. (width : ℕ) → IsUnion self.now width side.0 other.0 id.0) }
-    {
-        match self.diagrams.constant(side) {
-            Some(0) => Some(other),
-            Some(_) => Some(side),
-            None => None,
-        }
-    }
-}
-
-ghost use Rattle.std.specs.Prelude.{◌≡◌, true, false};
-ghost use Rattle.ternary_words.specs.Word.{trit_agrees};
-
-/// The set where the trit allows the bit, and else none.
-fn part(trit: Option<bool>, bit: bool, set: NodeId, none: NodeId) -> NodeId
-    ensures inside { trit_agrees trit bit ≡ true → result ≡ set }
-    ensures outside { trit_agrees trit bit ≡ false → result ≡ none }
-{
-    match trit {
-        None => set,
-        Some(own) => { if own == bit { set } else { none } }
+        let parts = parts_within(self.alloc, self.sets.store(), left, right, span)?;
+        Ok(parts)
     }
 }

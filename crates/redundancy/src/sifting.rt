@@ -1,29 +1,31 @@
 //! Which entries of a block are kept.
 
 use crate::behind::{before_answers, behind_cover};
-use crate::below::below;
-use crate::block::Block;
+use crate::below::listed_below;
+use crate::block::{Block, Run};
 use crate::blocks::Blocks;
 use crate::distinct::Distinct;
-use crate::front::Front;
-use crate::joining::{joined, spread};
+use crate::draft::{Draft, take_in};
+use crate::finishing::finished;
 use crate::last::last;
 use crate::memo::Memo;
-use crate::pair::Pair;
 use crate::sets::Sets;
-use crate::sifted::Sifted;
+use field_sift::{Pair, Sifted};
 use razor_base::Memory;
 use std::alloc::Global;
 
 impl Blocks {
-    ghost use Rattle.std.specs.Prelude.{◌≡◌, ◌<◌, ◌≤◌, ◌+◌, ◌++◌, Some, slice_get, length, map, IfOk, OnOk};
-    ghost use Rattle.redundancy.specs.declared.block.Block.TheVariants.{Two};
+    ghost use Rattle.std.specs.Prelude.{◌≡◌, ◌<◌, ◌≤◌, ◌++◌, ℕ, suc, List, length, map, All, IfOk, OnOk};
+    ghost use Rattle.field_boxes.specs.Fields.{greatest_of};
+    ghost use Rattle.field_boxes.specs.Spans.{interval_of};
+    ghost use Rattle.node_store.specs.Diagram.{Node};
+    ghost use Rattle.node_store.specs.Store.{Grows};
+    ghost use Rattle.field_sift.specs.Rows.{Row, in_front};
+    ghost use Rattle.field_sift.specs.Layers.{AreApartFrom, rows_of_runs};
+    ghost use Rattle.field_sift.specs.Sifted.{ArePairs, IsSifted};
+    ghost use Rattle.redundancy.specs.Blocks.{IsBlocks, FitsRun, RiseApart, rows_of, run_by, cover_at};
+    ghost use Rattle.redundancy.specs.Drafts.{IsDraft};
     ghost use Rattle.redundancy.specs.Remembered.{IsMemo};
-    ghost use Rattle.redundancy.specs.Rows.{in_front};
-    ghost use Rattle.redundancy.specs.Fronts.{trits_of};
-    ghost use Rattle.redundancy.specs.Diagram.{Grows};
-    ghost use Rattle.redundancy.specs.Blocks.{IsBlocks, rows_of, cover_at};
-    ghost use Rattle.redundancy.specs.Sifted.{ArePairs, IsSifted};
 
     /// What is kept of the block for the contexts.
     #[cycle(sift)]
@@ -37,29 +39,38 @@ impl Blocks {
     ) -> Result<Sifted, Memory>
         requires blocks { IsBlocks sets.old self.now }
         requires memo { IsMemo sets.old self.now memo.old }
-        requires number { number < length self.now.blocks.keys }
-        requires contexts { ArePairs sets.old contexts.now }
-        ensures sifted { IfOk result (λ s. IsSifted sets.new (cover_at self.now.covers.items number).bits (rows_of self.now.blocks.keys number) contexts.now s) }
+        requires number { number < length self.now.blocks.items }
+        requires contexts { ArePairs sets.old (cover_at self.now.covers.items number).level contexts.now }
+        ensures sifted { IfOk result (λ s. IsSifted sets.new (cover_at self.now.covers.items number).level (rows_of self.now.blocks.items number) contexts.now s) }
         ensures memo { OnOk result (IsMemo sets.new self.now memo.new) }
         ensures grows { Grows sets.old sets.new }
     {
         match self.block(number) {
             Block::Last(decision) => {
-                let sifted = last(alloc, sets, decision, contexts)?;
+                let sifted = last(alloc, sets, *decision, contexts)?;
                 Ok(sifted)
             }
-            Block::Behind(front, child) => {
-                let sifted = self.sift_behind(alloc, sets, memo, front, child, contexts)?;
+            Block::Layer(runs) => {
+                let level = self.cover(number).level;
+                let sifted = self.sift_layer(
+                    alloc,
+                    sets,
+                    memo,
+                    level,
+                    number,
+                    runs.as_slice(),
+                    contexts,
+                )?;
                 Ok(sifted)
             }
             Block::Two(first, second) => {
-                let sifted = self.sift_once(alloc, sets, memo, number, first, second, contexts)?;
+                let sifted = self.sift_two(alloc, sets, memo, *first, *second, contexts)?;
                 Ok(sifted)
             }
         }
     }
 
-    /// The same of a block of two: each is gone through once for the same contexts.
+    /// The same of a run's block: it is gone through once for the same contexts.
     #[cycle(sift)]
     fn sift_once(
         &self,
@@ -67,22 +78,20 @@ impl Blocks {
         sets: &mut Sets,
         memo: &mut Memo,
         number: usize,
-        first: usize,
-        second: usize,
         contexts: &[Pair],
     ) -> Result<Sifted, Memory>
         requires blocks { IsBlocks sets.old self.now }
         requires memo { IsMemo sets.old self.now memo.old }
-        requires two { slice_get self.now.blocks.keys number ≡ Some (Two first second) }
-        requires contexts { ArePairs sets.old contexts.now }
-        ensures sifted { IfOk result (λ s. IsSifted sets.new (cover_at self.now.covers.items number).bits (rows_of self.now.blocks.keys number) contexts.now s) }
+        requires number { number < length self.now.blocks.items }
+        requires contexts { ArePairs sets.old (cover_at self.now.covers.items number).level contexts.now }
+        ensures sifted { IfOk result (λ s. IsSifted sets.new (cover_at self.now.covers.items number).level (rows_of self.now.blocks.items number) contexts.now s) }
         ensures memo { OnOk result (IsMemo sets.new self.now memo.new) }
         ensures grows { Grows sets.old sets.new }
     {
         if let Some(known) = memo.get(alloc, number, contexts)? {
             return Ok(known);
         }
-        let sifted = self.sift_two(alloc, sets, memo, first, second, contexts)?;
+        let sifted = self.sift(alloc, sets, memo, number, contexts)?;
         memo.keep(alloc, number, contexts, &sifted)?;
         Ok(sifted)
     }
@@ -100,11 +109,11 @@ impl Blocks {
     ) -> Result<Sifted, Memory>
         requires blocks { IsBlocks sets.old self.now }
         requires memo { IsMemo sets.old self.now memo.old }
-        requires first { first < length self.now.blocks.keys }
-        requires second { second < length self.now.blocks.keys }
-        requires bits { (cover_at self.now.covers.items second).bits ≡ (cover_at self.now.covers.items first).bits }
-        requires contexts { ArePairs sets.old contexts.now }
-        ensures sifted { IfOk result (λ s. IsSifted sets.new (cover_at self.now.covers.items first).bits (rows_of self.now.blocks.keys first ++ rows_of self.now.blocks.keys second) contexts.now s) }
+        requires first { first < length self.now.blocks.items }
+        requires second { second < length self.now.blocks.items }
+        requires level { (cover_at self.now.covers.items second).level ≡ (cover_at self.now.covers.items first).level }
+        requires contexts { ArePairs sets.old (cover_at self.now.covers.items first).level contexts.now }
+        ensures sifted { IfOk result (λ s. IsSifted sets.new (cover_at self.now.covers.items first).level (rows_of self.now.blocks.items first ++ rows_of self.now.blocks.items second) contexts.now s) }
         ensures memo { OnOk result (IsMemo sets.new self.now memo.new) }
         ensures grows { Grows sets.old sets.new }
     {
@@ -117,44 +126,76 @@ impl Blocks {
         Ok(Sifted { kept, after })
     }
 
-    /// What is kept of the entries of a block with trits in front.
+    /// What is kept of the runs of a layer that lead to blocks before the number.
     #[cycle(sift)]
-    fn sift_behind(
+    fn sift_layer(
         &self,
         alloc: Global,
         sets: &mut Sets,
         memo: &mut Memo,
-        front: Front,
-        child: usize,
+        level: u8,
+        number: usize,
+        runs: &[Run],
         contexts: &[Pair],
     ) -> Result<Sifted, Memory>
         requires blocks { IsBlocks sets.old self.now }
         requires memo { IsMemo sets.old self.now memo.old }
-        requires child { child < length self.now.blocks.keys }
-        requires bits { front.bits ≤ 104 }
-        requires contexts { ArePairs sets.old contexts.now }
-        ensures sifted { IfOk result (λ s. IsSifted sets.new (front.bits + (cover_at self.now.covers.items child).bits) (map (in_front (trits_of front)) (rows_of self.now.blocks.keys child)) contexts.now s) }
+        requires level { level < 5 }
+        requires number { number < length self.now.blocks.items }
+        requires fit { All (FitsRun self.now.covers.items number level) runs.now }
+        requires apart { RiseApart runs.now }
+        requires contexts { ArePairs sets.old level contexts.now }
+        ensures sifted { IfOk result (λ s. IsSifted sets.new level (rows_of_runs (map (run_by (rows_of self.now.blocks.items)) runs.now)) contexts.now s) }
         ensures memo { OnOk result (IsMemo sets.new self.now memo.new) }
         ensures grows { Grows sets.old sets.new }
     {
-        if front.bits == 0 {
-            let sifted = self.sift(alloc, sets, memo, child, contexts)?;
-            return Ok(sifted);
+        let mut draft = Draft {
+            kept: Vec::new(alloc),
+            changes: Vec::new(alloc),
+        };
+        sets.is_store();
+        for run in runs {
+            self.sift_run(alloc, sets, memo, level, *run, contexts, &mut draft)?;
         }
-        let trit = front.first();
-        let lower = below(alloc, sets, trit, contexts)?;
-        let distinct = Distinct::of(alloc, lower.as_slice())?;
-        let inner = self.sift_behind(
-            alloc,
-            sets,
-            memo,
-            front.rest(),
-            child,
-            distinct.pairs.as_slice(),
-        )?;
-        let Sifted { kept, after } = inner;
-        let answers = spread(alloc, distinct.places.as_slice(), after.as_slice())?;
-        let after = joined(alloc, sets, trit, contexts, answers.as_slice())?;
+        let Draft { kept, changes } = draft;
+        let after = finished(alloc, sets, level, contexts, changes.as_slice())?;
         Ok(Sifted { kept, after })
+    }
+
+    /// Takes what is kept of a run into the draft of those before it.
+    #[cycle(sift)]
+    fn sift_run(
+        &self,
+        alloc: Global,
+        sets: &mut Sets,
+        memo: &mut Memo,
+        level: u8,
+        run: Run,
+        contexts: &[Pair],
+        draft: &mut Draft,
+    ) -> Result<(), Memory>
+        requires blocks { IsBlocks sets.old self.now }
+        requires memo { IsMemo sets.old self.now memo.old }
+        requires level { level < 5 }
+        requires block { run.block < length self.now.blocks.items }
+        requires next { (cover_at self.now.covers.items run.block).level ≡ suc level }
+        requires inside { run.span.hi ≤ greatest_of level }
+        requires contexts { ArePairs sets.old level contexts.now }
+        ensures draft { (base : List Node) (rows : List Row) (next : ℕ) → next ≤ run.span.lo → AreApartFrom (interval_of run.span) rows → IsDraft base sets.old level rows contexts.now next draft.old →
+            OnOk result (IsDraft base sets.new level (rows ++ map (in_front (interval_of run.span)) (rows_of self.now.blocks.items run.block)) contexts.now (suc run.span.hi) draft.new) }
+        ensures memo { OnOk result (IsMemo sets.new self.now memo.new) }
+        ensures grows { Grows sets.old sets.new }
+    {
+        sets.is_store();
+        let below = listed_below(alloc, sets, level, run.span, contexts)?;
+        let distinct = Distinct::of(alloc, below.pairs.as_slice())?;
+        let inner = self.sift_once(alloc, sets, memo, run.block, distinct.pairs.as_slice())?;
+        take_in(
+            alloc,
+            draft,
+            below.stretches.as_slice(),
+            distinct.places.as_slice(),
+            &inner,
+        )
     }
 }

@@ -1,7 +1,8 @@
 //! Worked tables, and random tables against a pass by the definition.
 ghost use Rattle.std.specs.Prelude.{◌<◌, length};
 
-use crate::{laws, remove};
+use crate::{are_prefixes, remove};
+use razor_base::Memory;
 use std::alloc::Global;
 use std::process::Abort;
 use std::test::Fail;
@@ -20,12 +21,22 @@ fn entry(rt: &impl Abort, value: u128, mask: u128, decision: u32) -> Entry {
     }
 }
 
+/// What stays of the entries; none where a word is no prefix.
+fn removed(alloc: Global, entries: Vec<Entry>) -> Result<Option<Vec<Entry>>, Memory> {
+    if !are_prefixes(entries.as_slice()) {
+        return Ok(None);
+    }
+    Ok(Some(remove(alloc, entries)?))
+}
+
 /// What a pass leaves of the entries.
 fn expect(rt: &impl Abort, alloc: Global, entries: &[Entry], want: &[Entry]) -> Result<(), Fail> {
     let mut table = Vec::new(alloc);
     table.extend_from_slice(entries)?;
-    let kept = remove(alloc, table)?;
-    assert_eq!(rt; kept.as_slice(), want);
+    match removed(alloc, table)? {
+        Some(kept) => assert_eq!(rt; kept.as_slice(), want),
+        None => assert!(rt; false),
+    }
     Ok(())
 }
 
@@ -72,12 +83,19 @@ fn is_met(entries: &[Entry], place: usize, kept: &[Entry], key: u128) -> bool
         && answer(kept, key) != entry.decision
 }
 
-/// Whether some key of the last six trits does.
+/// The key of a destination port below 4 and a protocol below 16, by their number.
+fn key(number: u32) -> u128
+    requires { number < 64 }
+{
+    u128::from(number / 16) * 256 + u128::from(number % 16)
+}
+
+/// Whether some key of such a port and protocol does.
 fn is_needed(entries: &[Entry], place: usize, kept: &[Entry]) -> bool
     requires { place < length entries.now }
 {
-    for key in 0..64u32 {
-        if is_met(entries, place, kept, u128::from(key)) {
+    for number in 0..64u32 {
+        if is_met(entries, place, kept, key(number)) {
             return true;
         }
     }
@@ -109,10 +127,12 @@ impl Draw {
         (self.0 >> 33) as u32
     }
 
-    /// An entry of six trits, of which some are `*`, that decides from 0 to 2.
+    /// An entry with a prefix of the destination ports and of the protocols, that decides from 0 to 2.
     fn entry(&mut self, rt: &impl Abort) -> Entry {
-        let mask = u128::from(self.bits() % 64) | u128::from(self.bits() % 8);
-        let value = u128::from(self.bits() % 64) & mask;
+        let port = 0x1_0000 - (1u128 << (self.bits() % 3));
+        let protocol = 0x100 - (1u128 << (self.bits() % 5));
+        let mask = port * 256 + protocol;
+        let value = key(self.bits() % 64) & mask;
         let decision = self.bits() % 3;
         entry(rt, value, mask, decision)
     }
@@ -128,8 +148,8 @@ fn random_tables_as_by_the_definition(rt: HostRuntime) -> Result<(), Fail> {
             entries.push(draw.entry(&rt))?;
         }
         let want = plain_pass(alloc, &entries)?;
-        for key in 0..64u32 {
-            let key = u128::from(key);
+        for number in 0..64u32 {
+            let key = key(number);
             assert_eq!(rt; answer(&want, key), answer(&entries, key));
         }
         expect(&rt, alloc, &entries, &want)?;
@@ -138,8 +158,9 @@ fn random_tables_as_by_the_definition(rt: HostRuntime) -> Result<(), Fail> {
 }
 
 #[test]
-fn laws_are_called() {
-    laws::one_pass();
-    laws::in_sequence();
-    laws::with_one_trit();
+fn other_words_are_told(rt: HostRuntime) {
+    let ten = entry(&rt, 10 << 96, FIRST_BYTE, 1);
+    assert!(rt; are_prefixes(&[ten]));
+    let odd = entry(&rt, 1, 5, 1);
+    assert!(rt; !are_prefixes(&[ten, odd]));
 }

@@ -4,6 +4,7 @@ ghost use Rattle.field_boxes.specs.Fields.{stated};
 ghost use Rattle.field_boxes.specs.NamedRules.{IsNumberedBy, named_rules};
 ghost use Rattle.ternary_words.specs.Limits.{IsSlotWidth};
 ghost use Rattle.ternary_words.specs.Views.{table_of};
+ghost use Rattle.field_sift.specs.Built.{ArePrefixes};
 ghost use Rattle.table_compose.specs.LeastCost.{IsLeastCost};
 ghost use Rattle.rule_compilation.specs.Compiled.{IsCompiled, IsRefused};
 ghost use Rattle.rule_compilation.specs.Entries.{AreEntriesOf};
@@ -64,6 +65,7 @@ fn composed_entries(
     ensures entries { MatchResult result
         (λ entries. AreEntriesOf names.now (named_rules names.now rules.now) entries.items)
         (λ e. IsRefused (named_rules names.now rules.now) limit e) }
+    ensures prefixes { IfOk result (λ entries. ArePrefixes entries.items) }
     ensures within { IfOk result (λ entries. length entries.items ≤ limit) }
 {
     names.are_names();

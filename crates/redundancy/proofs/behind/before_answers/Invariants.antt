@@ -1,5 +1,5 @@
 use Rattle.std.proofs.Common.{◌≡◌, ◌<◌, ℕ, length}
-use Rattle.redundancy.specs.Sifted.{node_at, pair_at}
+use Rattle.field_sift.specs.Sifted.{node_at, pair_at}
 use Rattle.redundancy.proofs.behind.before_answers.Given as goal
 
 abbrev pub invariant-loop-place : goal.invariant-loop-place

@@ -1,5 +1,5 @@
 use Rattle.std.proofs.Common.{◌≡◌, ◌<◌, ℕ, length, if◌then◌else◌}
-use Rattle.redundancy.specs.Sifted.{node_at, pair_at}
+use Rattle.field_sift.specs.Sifted.{node_at, pair_at}
 use Rattle.redundancy.proofs.last.answered.Given as goal
 
 abbrev pub invariant-loop-pair : goal.invariant-loop-pair

@@ -1,6 +1,6 @@
 use Rattle.std.proofs.Common.{◌≡◌, ◌<◌, ℕ, [], false}
-use Rattle.redundancy.specs.Diagram.{answer, is_in}
-use Rattle.redundancy.specs.Sifted.{pair_at}
+use Rattle.node_store.specs.Diagram.{answer}
+use Rattle.field_sift.specs.Sifted.{is_in, pair_at}
 use Rattle.redundancy.proofs.last.wanted.Given as goal
 
 abbrev pub invariant-loop-pair : goal.invariant-loop-pair

@@ -1,6 +1,8 @@
 use Rattle.std.proofs.lemmas.List.Elements.{recursion_from_All}
 use Rattle.field_boxes.specs.Fields.{stated}
 use Rattle.field_boxes.specs.NamedRules.{IsNumberedBy}
+use Rattle.std.proofs.lemmas.Result.{IfOk-weaker}
+use Rattle.rule_compilation.proofs.Prefixed.{are_prefixes}
 use Rattle.rule_compilation.proofs.Composed.{IsDiagramOf, compiled}
 use Rattle.rule_compilation.proofs.compiling.composed_entries.Goals as goal
 
@@ -17,3 +19,6 @@ returns-clause-entries c =
     } in
     compiled names rules nodes root c.args.limit c.compose.result diagram (c.decisions_have_names.ensures names)
     c.compose.ensures.count c.compose.ensures.answers c.compose.ensures.decisions c.compose.ensures.refusal
+
+pub returns-clause-prefixes : goal.returns-clause-prefixes
+returns-clause-prefixes c = IfOk-weaker c.compose.result _ _ (λ entries all. are_prefixes entries.items all) c.compose.ensures.prefixes

@@ -1,134 +1,178 @@
-use Rattle.std.proofs.Common.{◌≡◌, ◌∷◌, ◌++◌, ◌+◌, ◌-◌, [], suc, ap, arith, refl, sym, ◌∙◌, subst}
+use Rattle.std.proofs.Common.{◌≡◌, ◌∷◌, ◌++◌, ◌+◌, ◌-◌, ◌<◌, ◌≤◌, [], ap, arith, refl, sym, ◌∙◌, subst, take, length}
 use Rattle.std.specs.HashMap.{get}
-use Rattle.std.specs.Prelude.{map, IfSome}
-use Rattle.std.proofs.lemmas.Option.{slice_get_within}
-use Rattle.redundancy.specs.declared.block.Block.TheVariants.{Two}
-use Rattle.redundancy.specs.declared.front.Front.{Front}
-use Rattle.redundancy.specs.Rows.{behind, in_front}
-use Rattle.redundancy.specs.Fronts.{trits_of}
-use Rattle.redundancy.proofs.Fronts.{none_in_front, one_in_front}
-use Rattle.redundancy.specs.Blocks.{last_row, rows_of, cover_at}
-use Rattle.redundancy.specs.Sifted.{ArePairs, AreDistinct, node_at}
-use Rattle.redundancy.proofs.Growing.{twice}
-use Rattle.redundancy.proofs.BlockRows.{last_rows, behind_rows, two_rows}
-use Rattle.redundancy.proofs.Kept.{two_end, behind_pairs, pairs_stay}
-use Rattle.redundancy.proofs.Sifts.{moved, behind_end, blocks_stay, cover_stays, leads}
+use Rattle.std.specs.Prelude.{All, Some, map, slice_get, IfSome}
+use Rattle.std.proofs.lemmas.Option.{slice_get-get_or}
+use Rattle.std.proofs.lemmas.Result.{on_ok_weaker}
+use Rattle.node_store.specs.Diagram.{level_of}
+use Rattle.node_store.proofs.Growth.{stays, twice}
+use Rattle.field_sift.specs.Rows.{last_row}
+use Rattle.field_sift.specs.Layers.{rows_of_runs, end_of}
+use Rattle.field_sift.specs.Sifted.{ArePairs, node_at}
+use Rattle.field_sift.proofs.Kept.{pairs-stay}
+use Rattle.redundancy.specs.declared.block.Block.TheVariants.{Last, Layer, Two}
+use Rattle.redundancy.specs.declared.block.Cover.{Cover}
+use Rattle.redundancy.specs.Blocks.{FitsRun, RiseApart, rows_of, cover_at, run_by}
 use Rattle.redundancy.specs.Remembered.{IsAnswered, same_asked}
+use Rattle.redundancy.proofs.BlockRows.{last_rows, layer_rows, two_rows}
+use Rattle.redundancy.proofs.BlocksStay.{blocks_stay, leads}
 use Rattle.redundancy.proofs.Recalled.{memo_stays}
-use Rattle.redundancy.proofs.Trits.{keys_pairs}
+use Rattle.redundancy.proofs.Ends.{moved, two_end, before_pairs}
+use Rattle.redundancy.proofs.LayerDrafts.{draft_start, draft_next, draft_full, above_front, apart_front, end_inside, numbers_now, changes_now, layer_end}
+use Rattle.redundancy.proofs.Running.{keys_pairs, run_clause, lists_room, answers_room}
 use Rattle.redundancy.proofs.blocks.Blocks.+sift.Goals as goal
 
-pub sift-sift_behind-requires : goal.sift-sift_behind-requires
-sift-sift_behind-requires t c =
-    let f = c.requires.blocks.fits c.args.number _ c.in-Behind.ensures.found in
-    (omega (arith, c.decreases, f.0, f.1), (c.requires.blocks, (c.requires.memo, (omega (arith, f.0, c.requires.number), (f.1, c.requires.contexts)))))
+pub sift-last-requires : goal.sift-last-requires
+sift-last-requires t c =
+    subst (λ l. ArePairs c.args.sets.now l c.args.contexts.now) (c.requires.blocks.fits c.args.number (Last c.in-Last.decision) (c.block.ensures.found ∙ ap Some c.in-Last.is)) c.requires.contexts
 
-pub sift-returns-in_ok-sifted-in-Last-clause-sifted :
-    goal.sift-returns-in_ok-sifted-in-Last-clause-sifted
-sift-returns-in_ok-sifted-in-Last-clause-sifted t c =
-    let blocks = c.args.self.now.blocks.keys in
-    moved c.last.new.sets 0 (cover_at c.args.self.now.covers.items c.args.number).bits (last_row c.in-Last.decision ∷ []) (rows_of blocks c.args.number) c.args.contexts.now c.in_ok-sifted-in-Last.sifted
-    (c.requires.blocks.fits c.args.number _ c.in-Last.ensures.found) (last_rows blocks c.args.number c.in-Last.decision c.in-Last.ensures.found) c.in_ok-sifted-in-Last.ensures.sifted
-
-pub sift-returns-in_ok-sifted-in-Behind-clause-sifted :
-    goal.sift-returns-in_ok-sifted-in-Behind-clause-sifted
-sift-returns-in_ok-sifted-in-Behind-clause-sifted t c =
-    let blocks = c.args.self.now.blocks.keys in
-    let k = c.in-Behind in
-    let f = c.requires.blocks.fits c.args.number _ k.ensures.found in
-    moved c.sift_behind.new.sets (k.front.bits + (cover_at c.args.self.now.covers.items k.child).bits) (cover_at c.args.self.now.covers.items c.args.number).bits
-    (map (in_front (trits_of k.front)) (rows_of blocks k.child)) (rows_of blocks c.args.number) c.args.contexts.now c.in_ok-sifted-in-Behind.sifted
-    f.2 (behind_rows blocks c.args.number k.front k.child (leads c.args.sets.now blocks c.args.self.now.covers.items c.requires.blocks) k.ensures.found) c.in_ok-sifted-in-Behind.ensures.sifted
-
-pub sift_behind-sift-requires : goal.sift_behind-sift-requires
-sift_behind-sift-requires t c = (omega (arith, c.decreases), (c.requires.blocks, (c.requires.memo, (c.requires.child, c.requires.contexts))))
-
-pub sift_behind-returns-then-front-eq0-clause-sifted : goal.sift_behind-returns-then-front-eq0-clause-sifted
-sift_behind-returns-then-front-eq0-clause-sifted t c =
-    let bits = (cover_at c.args.self.now.covers.items c.args.child).bits in
-    let rows = rows_of c.args.self.now.blocks.keys c.args.child in
-    let front = c.args.front in
-    moved c.sift.new.sets bits (front.bits + bits) rows (map (in_front (trits_of front)) rows) c.args.contexts.now c.in_ok-sifted.sifted
-    (omega (arith, c.if-front-eq0.true)) (none_in_front front rows c.if-front-eq0.true) c.in_ok-sifted.ensures.sifted
-
-pub sift_behind-sift_behind-requires : goal.sift_behind-sift_behind-requires
-sift_behind-sift_behind-requires t c =
-    let nodes = c.args.sets.now in
-    let keys = c.in_ok-distinct.distinct.pairs.items in
-    let h = c.in_ok-lower.ensures in
-    let k = subst (λ ps. AreDistinct ps keys c.in_ok-distinct.distinct.places.items) c.as_slice.ensures.value c.in_ok-distinct.ensures in
-    let shorter : c.rest.result.bits ≡ c.args.front.bits - 1 = ap (λ (f : Front). f.bits) c.rest.ensures in (
-      omega (arith, c.decreases, shorter, c.if-front-eq0.false),
+pub sift-sift_layer-requires : goal.sift-sift_layer-requires
+sift-sift_layer-requires t c =
+    let covers = c.args.self.now.covers.items in
+    let e = sym c.cover-level.ensures in
+    let f = c.requires.blocks.fits c.args.number (Layer c.in-Layer.runs) (c.block.ensures.found ∙ ap Some c.in-Layer.is) in (
+      omega (arith, c.decreases),
       (
         c.requires.blocks,
         (
           c.requires.memo,
           (
-            c.requires.child,
+            subst (λ (r : Cover). r.level < 5) e f.0,
             (
-              omega (arith, shorter, c.requires.bits),
-              subst (ArePairs nodes) (sym c.as_slice-2.ensures.value)
-                  (keys_pairs nodes c.first-trit.result c.args.contexts.now c.in_ok-lower.lower.items keys c.in_ok-distinct.distinct.places.items h k),
+              c.requires.number,
+              (
+                subst (All (FitsRun covers c.args.number c.cover-level.result.level)) (sym c.as_slice.ensures.value) (subst (λ (r : Cover). All (FitsRun covers c.args.number r.level) c.in-Layer.runs.items) e f.1),
+                (subst RiseApart (sym c.as_slice.ensures.value) f.2, subst (λ (r : Cover). ArePairs c.args.sets.now r.level c.args.contexts.now) e c.requires.contexts),
+              ),
             ),
           ),
         ),
       ),
     )
 
-pub sift_behind-returns-clause-sifted : goal.sift_behind-returns-clause-sifted
-sift_behind-returns-clause-sifted t c =
-    let bits = (cover_at c.args.self.now.covers.items c.args.child).bits in
-    let rows = rows_of c.args.self.now.blocks.keys c.args.child in
-    let front = c.args.front in
-    let rest = c.rest.result in
-    let trit = c.first-trit.result in
-    let shorter : rest.bits ≡ front.bits - 1 = ap (λ (f : Front). f.bits) c.rest.ensures in
-    let inner = map (in_front (trits_of rest)) rows in
-    moved c.joined.new.sets (suc (rest.bits + bits)) (front.bits + bits) (map (behind trit) inner) (map (in_front (trits_of front)) rows) c.args.contexts.now _
-    (omega (arith, shorter, c.if-front-eq0.false)) (one_in_front front rest trit rows (c.first-trit.ensures ∙ ap (λ (f : Front). trit ∷ trits_of f) (sym c.rest.ensures)))
-    (behind_end c.args.sets.now c.sift_behind.new.sets c.joined.new.sets trit c.args.contexts.now c.in_ok-lower.lower.items c.in_ok-distinct.distinct.pairs.items c.as_slice.result.now c.as_slice-2.result.now
-    c.in_ok-distinct.distinct.places.items c.as_slice-3.result.now c.in_ok-answers.answers.items c.as_slice-4.result.now c.as_slice-5.result.now c.in_ok-inner.inner _
-    (rest.bits + bits) inner c.in_ok-inner.ensures.grows c.in_ok-after.ensures.grows c.requires.contexts
-    c.in_ok-lower.ensures c.as_slice.ensures.value c.in_ok-distinct.ensures c.as_slice-2.ensures.value c.in_ok-inner.ensures.sifted c.as_slice-3.ensures.value c.as_slice-4.ensures.value
-    c.in_ok-answers.ensures.count c.in_ok-answers.ensures.each c.as_slice-5.ensures.value c.in_ok-after.ensures.count c.in_ok-after.ensures.each refl)
+pub sift-sift_two-requires : goal.sift-sift_two-requires
+sift-sift_two-requires t c =
+    let f = c.requires.blocks.fits c.args.number (Two c.in-Two.first c.in-Two.second) (c.block.ensures.found ∙ ap Some c.in-Two.is) in (
+      omega (arith, c.decreases, f.0, f.1),
+      (
+        c.requires.blocks,
+        (
+          c.requires.memo,
+          (
+            omega (arith, f.0, c.requires.number),
+            (omega (arith, f.1, c.requires.number), (f.3 ∙ sym f.2, subst (λ l. ArePairs c.args.sets.now l c.args.contexts.now) (sym f.2) c.requires.contexts)),
+          ),
+        ),
+      ),
+    )
 
-pub sift_two-returns-clause-sifted : goal.sift_two-returns-clause-sifted
-sift_two-returns-clause-sifted t c =
-    let blocks = c.args.self.now.blocks.keys in
-    let nodes = c.sift-2.new.sets in
-    let covers = c.args.self.now.covers.items in
-    two_end c.args.sets.now c.behind_cover.new.sets c.sift.new.sets nodes (rows_of blocks c.args.first) (rows_of blocks c.args.second) c.args.contexts.now
-    c.in_ok-behind.behind.items c.in_ok-before.before.items c.as_slice.result.now c.as_slice-3.result.now (cover_at covers c.args.first) c.cover.result (cover_at covers c.args.second).bits
-    c.in_ok-later.later c.in_ok-earlier.earlier _ c.in_ok-behind.ensures.grows c.in_ok-later.ensures.grows c.in_ok-earlier.ensures.grows c.requires.contexts
-    (cover_stays c.args.sets.now nodes (cover_at covers c.args.first) (rows_of blocks c.args.first)
-    (twice c.args.sets.now c.behind_cover.new.sets nodes c.in_ok-behind.ensures.grows (twice c.behind_cover.new.sets c.sift.new.sets nodes c.in_ok-later.ensures.grows c.in_ok-earlier.ensures.grows))
-    (c.requires.blocks.covered c.args.first c.requires.first))
-    c.cover.ensures c.requires.bits c.as_slice.ensures.value c.as_slice-3.ensures.value c.in_ok-behind.ensures.count c.in_ok-before.ensures.count c.in_ok-behind.ensures.each
-    (λ k less. c.in_ok-before.ensures.after k less ∙ ap (λ ids. node_at ids k) c.as_slice-2.ensures.value) c.in_ok-before.ensures.met
-    c.in_ok-later.ensures.sifted c.in_ok-earlier.ensures.sifted (c.in_ok-extend_from_slice.ensures.items ∙ ap (λ ks. c.in_ok-earlier.earlier.kept.items ++ ks) c.as_slice-4.ensures.value) refl
+pub sift-returns-in_ok-sifted-in-Last-clause-sifted : goal.sift-returns-in_ok-sifted-in-Last-clause-sifted
+sift-returns-in_ok-sifted-in-Last-clause-sifted t c =
+    let blocks = c.args.self.now.blocks.items in
+    let found = c.block.ensures.found ∙ ap Some c.in-Last.is in
+    moved c.last.new.sets 5 (cover_at c.args.self.now.covers.items c.args.number).level (last_row c.in-Last.decision ∷ []) (rows_of blocks c.args.number) c.args.contexts.now c.in_ok-sifted-in-Last.sifted
+    (c.requires.blocks.fits c.args.number (Last c.in-Last.decision) found) (last_rows blocks c.args.number c.in-Last.decision found) c.in_ok-sifted-in-Last.ensures.sifted
 
-pub sift_once-sift_two-requires : goal.sift_once-sift_two-requires
-sift_once-sift_two-requires t c =
-    let f = c.requires.blocks.fits c.args.number _ c.requires.two in
-    let w = slice_get_within c.args.self.now.blocks.keys c.args.number (Two c.args.first c.args.second) c.requires.two in
-    (omega (arith, c.decreases, f.0, f.1), (c.requires.blocks, (c.requires.memo, (omega (arith, f.0, w), (omega (arith, f.1, w), (f.3 ∙ sym f.2, c.requires.contexts))))))
-
-pub sift_once-returns-clause-sifted : goal.sift_once-returns-clause-sifted
-sift_once-returns-clause-sifted t c =
-    let blocks = c.args.self.now.blocks.keys in
-    let f = c.requires.blocks.fits c.args.number _ c.requires.two in
-    moved c.sift_two.new.sets (cover_at c.args.self.now.covers.items c.args.first).bits (cover_at c.args.self.now.covers.items c.args.number).bits
-    (rows_of blocks c.args.first ++ rows_of blocks c.args.second) (rows_of blocks c.args.number) c.args.contexts.now c.in_ok-sifted.sifted
-    (sym f.2) (two_rows blocks c.args.number c.args.first c.args.second (leads c.args.sets.now blocks c.args.self.now.covers.items c.requires.blocks) c.requires.two) c.in_ok-sifted.ensures.sifted
-
-pub sift-returns-in_ok-sifted-in-Last-clause-memo :
-    goal.sift-returns-in_ok-sifted-in-Last-clause-memo
+pub sift-returns-in_ok-sifted-in-Last-clause-memo : goal.sift-returns-in_ok-sifted-in-Last-clause-memo
 sift-returns-in_ok-sifted-in-Last-clause-memo t c =
     memo_stays c.args.sets.now c.last.new.sets c.args.self.now (λ q. get same_asked c.args.memo.now.done q) c.in_ok-sifted-in-Last.ensures.grows c.requires.memo
 
-pub sift_behind-returns-clause-memo : goal.sift_behind-returns-clause-memo
-sift_behind-returns-clause-memo t c =
-    memo_stays c.sift_behind.new.sets c.joined.new.sets c.args.self.now (λ q. get same_asked c.sift_behind.new.memo.done q) c.in_ok-after.ensures.grows c.in_ok-inner.ensures.memo
+pub sift-returns-in_ok-sifted-in-Layer-clause-sifted : goal.sift-returns-in_ok-sifted-in-Layer-clause-sifted
+sift-returns-in_ok-sifted-in-Layer-clause-sifted t c =
+    let blocks = c.args.self.now.blocks.items in
+    let found = c.block.ensures.found ∙ ap Some c.in-Layer.is in
+    moved c.sift_layer.new.sets c.cover-level.result.level (cover_at c.args.self.now.covers.items c.args.number).level (rows_of_runs (map (run_by (rows_of blocks)) c.as_slice.result.now)) (rows_of blocks c.args.number)
+    c.args.contexts.now c.in_ok-sifted-in-Layer.sifted (ap (λ (r : Cover). r.level) (sym c.cover-level.ensures))
+    (layer_rows blocks c.args.number c.in-Layer.runs (leads c.args.sets.now blocks c.args.self.now.covers.items c.requires.blocks) found ∙ ap (λ rs. rows_of_runs (map (run_by (rows_of blocks)) rs)) (sym c.as_slice.ensures.value))
+    c.in_ok-sifted-in-Layer.ensures.sifted
+
+pub sift-returns-in_ok-sifted-in-Two-clause-sifted : goal.sift-returns-in_ok-sifted-in-Two-clause-sifted
+sift-returns-in_ok-sifted-in-Two-clause-sifted t c =
+    let blocks = c.args.self.now.blocks.items in
+    let covers = c.args.self.now.covers.items in
+    let found = c.block.ensures.found ∙ ap Some c.in-Two.is in
+    let f = c.requires.blocks.fits c.args.number (Two c.in-Two.first c.in-Two.second) found in
+    moved c.sift_two.new.sets (cover_at covers c.in-Two.first).level (cover_at covers c.args.number).level (rows_of blocks c.in-Two.first ++ rows_of blocks c.in-Two.second) (rows_of blocks c.args.number)
+    c.args.contexts.now c.in_ok-sifted-in-Two.sifted (sym f.2) (two_rows blocks c.args.number c.in-Two.first c.in-Two.second (leads c.args.sets.now blocks covers c.requires.blocks) found) c.in_ok-sifted-in-Two.ensures.sifted
+
+pub sift_layer-loop-run-init : goal.sift_layer-loop-run-init
+sift_layer-loop-run-init t c = record {
+  grows = stays c.args.sets.now;
+  memo = c.requires.memo;
+  draft = draft_start c.args.sets.now c.args.level c.args.contexts.now (record { kept = c.new.result; changes = c.new-2.result }) c.is_store.ensures c.requires.level c.requires.contexts c.new.ensures.items c.new-2.ensures.items;
+}
+
+pub sift_layer-sift_run-requires : goal.sift_layer-sift_run-requires
+sift_layer-sift_run-requires t c =
+    let i = c.loop-run.invariant in
+    let covers = c.args.self.now.covers.items in
+    let fit = subst (FitsRun covers c.args.number c.args.level) (sym c.run-item.is) (c.requires.fit c.loop-run.run-index c.run-item.result (omega (arith, c.loop-run-test.true))) in
+    let older = fit.older in (
+      omega (arith, c.decreases, older),
+      (
+        blocks_stay c.args.sets.now c.loop-run.sets c.args.self.now.blocks.items covers i.grows c.requires.blocks,
+        (
+          i.memo,
+          (
+            c.requires.level,
+            (
+              omega (arith, older, c.requires.number),
+              (fit.level, (fit.inside, pairs-stay c.args.sets.now c.loop-run.sets c.args.level c.args.contexts.now (omega (arith, c.requires.level)) i.grows c.requires.contexts)),
+            ),
+          ),
+        ),
+      ),
+    )
+
+pub sift_layer-loop-run-preserved : goal.sift_layer-loop-run-preserved
+sift_layer-loop-run-preserved t c =
+    let i = c.loop-run.invariant in
+    let rows = rows_of c.args.self.now.blocks.items in
+    let runs = c.args.runs.now in
+    let k = c.loop-run.run-index in
+    let r = c.run-item.result in
+    let found = slice_get-get_or runs k r (omega (arith, c.loop-run-test.true)) ∙ ap Some (sym c.run-item.is) in record {
+      grows = twice c.args.sets.now c.loop-run.sets c.sift_run.new.sets i.grows c.in_ok-sift_run.ensures.grows;
+      memo = c.in_ok-sift_run.ensures.memo;
+      draft = draft_next rows runs k r c.args.sets.now c.sift_run.new.sets c.args.level c.args.contexts.now c.sift_run.new.draft c.requires.apart found
+          (c.in_ok-sift_run.ensures.draft c.args.sets.now (rows_of_runs (take k (map (run_by rows) runs))) (end_of 0 (take k (map (run_by rows) runs))) (above_front rows runs k r c.requires.apart found)
+          (apart_front rows runs k r c.requires.apart found) i.draft);
+    }
+
+pub sift_layer-finished-requires-clause-contexts : goal.sift_layer-finished-requires-clause-contexts
+sift_layer-finished-requires-clause-contexts t c =
+    pairs-stay c.args.sets.now c.loop-run.sets c.args.level c.args.contexts.now (omega (arith, c.requires.level)) c.loop-run.invariant.grows c.requires.contexts
+
+pub sift_layer-finished-requires-clause-changes : goal.sift_layer-finished-requires-clause-changes
+sift_layer-finished-requires-clause-changes t c =
+    let rows = rows_of c.args.self.now.blocks.items in
+    let runs = c.args.runs.now in
+    let full = draft_full rows runs c.loop-run.run-index c.args.sets.now c.loop-run.sets c.args.level c.args.contexts.now c.loop-run.draft (omega arith) c.loop-run.invariant.draft in
+    changes_now c.args.sets.now c.loop-run.sets c.args.level c.args.contexts.now c.as_slice.result.now (rows_of_runs (map (run_by rows) runs)) c.loop-run.draft (end_of 0 (map (run_by rows) runs))
+    (end_inside c.args.self.now.covers.items c.args.number c.args.level 0 rows runs (omega arith) c.requires.fit) (sym c.as_slice.ensures.value) full
+
+pub sift_layer-finished-requires-clause-numbers : goal.sift_layer-finished-requires-clause-numbers
+sift_layer-finished-requires-clause-numbers t c =
+    let rows = rows_of c.args.self.now.blocks.items in
+    let runs = c.args.runs.now in
+    let full = draft_full rows runs c.loop-run.run-index c.args.sets.now c.loop-run.sets c.args.level c.args.contexts.now c.loop-run.draft (omega arith) c.loop-run.invariant.draft in
+    numbers_now c.args.sets.now c.loop-run.sets c.args.level c.args.contexts.now c.as_slice.result.now (rows_of_runs (map (run_by rows) runs)) c.loop-run.draft (end_of 0 (map (run_by rows) runs))
+    c.requires.level c.loop-run.invariant.grows c.requires.contexts (sym c.as_slice.ensures.value) full
+
+pub sift_layer-returns-clause-sifted : goal.sift_layer-returns-clause-sifted
+sift_layer-returns-clause-sifted t c =
+    let rows = rows_of c.args.self.now.blocks.items in
+    let runs = c.args.runs.now in
+    let full = draft_full rows runs c.loop-run.run-index c.args.sets.now c.loop-run.sets c.args.level c.args.contexts.now c.loop-run.draft (omega arith) c.loop-run.invariant.draft in
+    layer_end c.args.sets.now c.loop-run.sets c.finished.new.sets c.args.level (end_of 0 (map (run_by rows) runs)) (rows_of_runs (map (run_by rows) runs)) c.args.contexts.now c.loop-run.draft c.as_slice.result.now
+    (record { kept = c.loop-run.draft.kept; after = c.in_ok-after.after }) c.requires.level c.loop-run.invariant.grows c.in_ok-after.ensures.grows c.requires.contexts full (sym c.as_slice.ensures.value) refl
+    c.in_ok-after.ensures.count c.in_ok-after.ensures.each
+
+pub sift_layer-returns-clause-memo : goal.sift_layer-returns-clause-memo
+sift_layer-returns-clause-memo t c =
+    memo_stays c.loop-run.sets c.finished.new.sets c.args.self.now (λ q. get same_asked c.loop-run.memo.done q) c.in_ok-after.ensures.grows c.loop-run.invariant.memo
+
+pub sift_once-sift-requires : goal.sift_once-sift-requires
+sift_once-sift-requires t c = (omega (arith, c.decreases), (c.requires.blocks, (c.requires.memo, (c.requires.number, c.requires.contexts))))
 
 pub sift_once-returns-in-Some-clause-sifted : goal.sift_once-returns-in-Some-clause-sifted
 sift_once-returns-in-Some-clause-sifted t c =
@@ -136,13 +180,60 @@ sift_once-returns-in-Some-clause-sifted t c =
 
 pub sift_once-returns-clause-memo : goal.sift_once-returns-clause-memo
 sift_once-returns-clause-memo t c =
-    let blocks = c.args.self.now.blocks.keys in
-    let f = c.requires.blocks.fits c.args.number _ c.requires.two in
-    let once_sifted = moved c.sift_two.new.sets (cover_at c.args.self.now.covers.items c.args.first).bits (cover_at c.args.self.now.covers.items c.args.number).bits
-    (rows_of blocks c.args.first ++ rows_of blocks c.args.second) (rows_of blocks c.args.number) c.args.contexts.now c.in_ok-sifted.sifted
-    (sym f.2) (two_rows blocks c.args.number c.args.first c.args.second (leads c.args.sets.now blocks c.args.self.now.covers.items c.requires.blocks) c.requires.two) c.in_ok-sifted.ensures.sifted in
-    c.in_ok-keep.ensures c.sift_two.new.sets c.args.self.now c.in_ok-sifted.ensures.memo
-    (record { contexts = pairs_stay c.args.sets.now c.sift_two.new.sets c.args.contexts.now c.in_ok-sifted.ensures.grows c.requires.contexts; sifted = once_sifted })
+    let within = (c.requires.blocks.covered c.args.number c.requires.number).within in
+    c.in_ok-keep.ensures c.sift.new.sets c.args.self.now c.in_ok-sifted.ensures.memo
+    (record {
+      within = within;
+      contexts = pairs-stay c.args.sets.now c.sift.new.sets (cover_at c.args.self.now.covers.items c.args.number).level c.args.contexts.now within c.in_ok-sifted.ensures.grows c.requires.contexts;
+      sifted = c.in_ok-sifted.ensures.sifted;
+    })
+
+pub sift_run-sift_once-requires : goal.sift_run-sift_once-requires
+sift_run-sift_once-requires t c = (
+  omega (arith, c.decreases),
+  (
+    c.requires.blocks,
+    (
+      c.requires.memo,
+      (
+        c.requires.block,
+        keys_pairs c.args.sets.now c.args.level (cover_at c.args.self.now.covers.items c.args.run.block).level c.args.run.span c.args.contexts.now c.in_ok-below.below.pairs.items c.as_slice.result.now
+            c.in_ok-distinct.distinct.pairs.items c.as_slice-2.result.now c.in_ok-below.below.stretches.items c.in_ok-distinct.distinct.places.items c.is_store.ensures c.requires.level c.requires.next c.requires.contexts
+            c.requires.inside c.in_ok-below.ensures c.as_slice.ensures.value c.in_ok-distinct.ensures c.as_slice-2.ensures.value,
+      ),
+    ),
+  ),
+)
+
+pub sift_run-take_in-requires-clause-stretches : goal.sift_run-take_in-requires-clause-stretches
+sift_run-take_in-requires-clause-stretches t c =
+    lists_room c.args.sets.now c.args.run.span c.args.contexts.now c.in_ok-below.below.pairs.items c.as_slice.result.now c.in_ok-distinct.distinct.pairs.items c.in_ok-below.below.stretches.items c.as_slice-3.result.now
+    c.in_ok-distinct.distinct.places.items c.as_slice-4.result.now c.as_slice.ensures.value c.as_slice-3.ensures.value c.as_slice-4.ensures.value c.in_ok-below.ensures c.in_ok-distinct.ensures
+
+pub sift_run-take_in-requires-clause-places : goal.sift_run-take_in-requires-clause-places
+sift_run-take_in-requires-clause-places t c =
+    answers_room c.sift_once.new.sets (cover_at c.args.self.now.covers.items c.args.run.block).level (rows_of c.args.self.now.blocks.items c.args.run.block) c.as_slice.result.now c.in_ok-distinct.distinct.pairs.items
+    c.as_slice-2.result.now c.in_ok-distinct.distinct.places.items c.as_slice-4.result.now c.in_ok-inner.inner c.as_slice-2.ensures.value c.as_slice-4.ensures.value c.in_ok-distinct.ensures c.in_ok-inner.ensures.sifted
+
+pub sift_run-returns-clause-draft : goal.sift_run-returns-clause-draft
+sift_run-returns-clause-draft t c = λ base rows next above apart draft.
+    on_ok_weaker c.take_in.result
+    (λ taken.
+    run_clause base c.args.sets.now c.sift_once.new.sets c.args.level (cover_at c.args.self.now.covers.items c.args.run.block).level rows (rows_of c.args.self.now.blocks.items c.args.run.block) c.args.contexts.now
+    c.in_ok-below.below.pairs.items c.as_slice.result.now c.in_ok-distinct.distinct.pairs.items c.as_slice-2.result.now next c.args.run.span c.in_ok-below.below.stretches.items c.as_slice-3.result.now
+    c.in_ok-distinct.distinct.places.items c.as_slice-4.result.now c.in_ok-inner.inner c.args.draft.now c.take_in.new.draft c.requires.next c.as_slice.ensures.value c.as_slice-2.ensures.value c.as_slice-3.ensures.value
+    c.as_slice-4.ensures.value c.requires.level c.in_ok-inner.ensures.grows c.requires.contexts c.requires.inside c.in_ok-below.ensures c.in_ok-distinct.ensures c.in_ok-inner.ensures.sifted above apart draft taken)
+    c.take_in.ensures
+
+pub sift_two-behind_cover-requires-clause-within : goal.sift_two-behind_cover-requires-clause-within
+sift_two-behind_cover-requires-clause-within t c = subst (λ (r : Cover). r.level ≤ 5) (sym c.cover.ensures) (c.requires.blocks.covered c.args.first c.requires.first).within
+
+pub sift_two-behind_cover-requires-clause-cover : goal.sift_two-behind_cover-requires-clause-cover
+sift_two-behind_cover-requires-clause-cover t c =
+    subst (λ (r : Cover). level_of c.args.sets.now r.set.0 ≡ r.level) (sym c.cover.ensures) (c.requires.blocks.covered c.args.first c.requires.first).level
+
+pub sift_two-behind_cover-requires-clause-contexts : goal.sift_two-behind_cover-requires-clause-contexts
+sift_two-behind_cover-requires-clause-contexts t c = subst (λ (r : Cover). ArePairs c.args.sets.now r.level c.args.contexts.now) (sym c.cover.ensures) c.requires.contexts
 
 pub sift_two-sift-requires : goal.sift_two-sift-requires
 sift_two-sift-requires t c =
@@ -150,14 +241,91 @@ sift_two-sift-requires t c =
     let g = c.in_ok-behind.ensures.grows in (
       omega (arith, c.decreases),
       (
-        blocks_stay c.args.sets.now nodes c.args.self.now.blocks.keys c.args.self.now.covers.items g c.requires.blocks,
+        blocks_stay c.args.sets.now nodes c.args.self.now.blocks.items c.args.self.now.covers.items g c.requires.blocks,
         (
           memo_stays c.args.sets.now nodes c.args.self.now (λ q. get same_asked c.args.memo.now.done q) g c.requires.memo,
           (
             c.requires.second,
-            subst (ArePairs nodes) (sym c.as_slice.ensures.value)
-                (behind_pairs c.args.sets.now nodes c.cover.result.bits c.cover.result.set c.args.contexts.now c.in_ok-behind.behind.items g c.requires.contexts c.in_ok-behind.ensures.count c.in_ok-behind.ensures.each),
+            subst (ArePairs nodes (cover_at c.args.self.now.covers.items c.args.second).level) (sym c.as_slice.ensures.value)
+                (subst (λ l. ArePairs nodes l c.in_ok-behind.behind.items) (ap (λ (r : Cover). r.level) c.cover.ensures ∙ sym c.requires.level) c.in_ok-behind.ensures.level),
           ),
         ),
       ),
     )
+
+pub sift_two-before_answers-requires : goal.sift_two-before_answers-requires
+sift_two-before_answers-requires t c =
+    ap (λ ids. length ids) c.as_slice-2.ensures.value ∙ c.in_ok-later.ensures.sifted.count ∙ ap (λ ps. length ps) c.as_slice.ensures.value ∙ c.in_ok-behind.ensures.count
+
+pub sift_two-sift-requires-2 : goal.sift_two-sift-requires-2
+sift_two-sift-requires-2 t c =
+    let nodes = c.sift.new.sets in
+    let covers = c.args.self.now.covers.items in
+    let g = twice c.args.sets.now c.behind_cover.new.sets nodes c.in_ok-behind.ensures.grows c.in_ok-later.ensures.grows in
+    let five = (c.requires.blocks.covered c.args.first c.requires.first).within in (
+      omega (arith, c.decreases),
+      (
+        blocks_stay c.args.sets.now nodes c.args.self.now.blocks.items covers g c.requires.blocks,
+        (
+          c.in_ok-later.ensures.memo,
+          (
+            c.requires.first,
+            before_pairs c.args.sets.now nodes (cover_at covers c.args.first).level (cover_at covers c.args.second).level c.args.contexts.now c.in_ok-before.before.items c.as_slice-3.result.now c.as_slice-2.result.now
+                c.in_ok-later.later five g c.requires.contexts c.requires.level c.in_ok-later.ensures.sifted.numbers
+                (c.in_ok-later.ensures.sifted.count ∙ ap (λ ps. length ps) c.as_slice.ensures.value ∙ c.in_ok-behind.ensures.count) c.as_slice-2.ensures.value c.in_ok-before.ensures.count c.in_ok-before.ensures.after
+                c.in_ok-before.ensures.met c.as_slice-3.ensures.value,
+          ),
+        ),
+      ),
+    )
+
+pub sift_two-returns-clause-sifted : goal.sift_two-returns-clause-sifted
+sift_two-returns-clause-sifted t c =
+    let blocks = c.args.self.now.blocks.items in
+    let nodes = c.sift-2.new.sets in
+    let covers = c.args.self.now.covers.items in
+    two_end c.args.sets.now c.behind_cover.new.sets c.sift.new.sets nodes (rows_of blocks c.args.first) (rows_of blocks c.args.second) c.args.contexts.now
+    c.in_ok-behind.behind.items c.in_ok-before.before.items c.as_slice.result.now c.as_slice-3.result.now (cover_at covers c.args.first) c.cover.result (cover_at covers c.args.second).level
+    c.in_ok-later.later c.in_ok-earlier.earlier _ c.in_ok-behind.ensures.grows c.in_ok-later.ensures.grows c.in_ok-earlier.ensures.grows c.requires.contexts (c.requires.blocks.covered c.args.first c.requires.first)
+    c.cover.ensures c.requires.level c.as_slice.ensures.value c.as_slice-3.ensures.value c.in_ok-behind.ensures.count c.in_ok-before.ensures.count c.in_ok-behind.ensures.level c.in_ok-behind.ensures.each
+    (λ k less. c.in_ok-before.ensures.after k less ∙ ap (λ ids. node_at ids k) c.as_slice-2.ensures.value) c.in_ok-before.ensures.met
+    c.in_ok-later.ensures.sifted c.in_ok-earlier.ensures.sifted (c.in_ok-extend_from_slice.ensures.items ∙ ap (λ ks. c.in_ok-earlier.earlier.kept.items ++ ks) c.as_slice-4.ensures.value) refl
+
+pub sift_layer-returns-in_err-sift_run-clause-grows : goal.sift_layer-returns-in_err-sift_run-clause-grows
+sift_layer-returns-in_err-sift_run-clause-grows t c = twice c.args.sets.now c.loop-run.sets c.sift_run.new.sets c.loop-run.invariant.grows c.in_err-sift_run.ensures.grows
+
+pub sift_layer-returns-in_err-after-clause-grows : goal.sift_layer-returns-in_err-after-clause-grows
+sift_layer-returns-in_err-after-clause-grows t c = twice c.args.sets.now c.loop-run.sets c.finished.new.sets c.loop-run.invariant.grows c.in_err-after.ensures.grows
+
+pub sift_layer-returns-clause-grows : goal.sift_layer-returns-clause-grows
+sift_layer-returns-clause-grows t c = twice c.args.sets.now c.loop-run.sets c.finished.new.sets c.loop-run.invariant.grows c.in_ok-after.ensures.grows
+
+pub sift_once-returns-in_err-known-clause-grows : goal.sift_once-returns-in_err-known-clause-grows
+sift_once-returns-in_err-known-clause-grows t c = stays c.args.sets.now
+
+pub sift_once-returns-in-Some-clause-grows : goal.sift_once-returns-in-Some-clause-grows
+sift_once-returns-in-Some-clause-grows t c = stays c.args.sets.now
+
+pub sift_run-returns-in_err-below-clause-grows : goal.sift_run-returns-in_err-below-clause-grows
+sift_run-returns-in_err-below-clause-grows t c = stays c.args.sets.now
+
+pub sift_run-returns-in_err-distinct-clause-grows : goal.sift_run-returns-in_err-distinct-clause-grows
+sift_run-returns-in_err-distinct-clause-grows t c = stays c.args.sets.now
+
+pub sift_two-returns-in_err-later-clause-grows : goal.sift_two-returns-in_err-later-clause-grows
+sift_two-returns-in_err-later-clause-grows t c = twice c.args.sets.now c.behind_cover.new.sets c.sift.new.sets c.in_ok-behind.ensures.grows c.in_err-later.ensures.grows
+
+pub sift_two-returns-in_err-before-clause-grows : goal.sift_two-returns-in_err-before-clause-grows
+sift_two-returns-in_err-before-clause-grows t c = twice c.args.sets.now c.behind_cover.new.sets c.sift.new.sets c.in_ok-behind.ensures.grows c.in_ok-later.ensures.grows
+
+pub sift_two-returns-in_err-earlier-clause-grows : goal.sift_two-returns-in_err-earlier-clause-grows
+sift_two-returns-in_err-earlier-clause-grows t c =
+    twice c.args.sets.now c.sift.new.sets c.sift-2.new.sets (twice c.args.sets.now c.behind_cover.new.sets c.sift.new.sets c.in_ok-behind.ensures.grows c.in_ok-later.ensures.grows) c.in_err-earlier.ensures.grows
+
+pub sift_two-returns-in_err-extend_from_slice-clause-grows : goal.sift_two-returns-in_err-extend_from_slice-clause-grows
+sift_two-returns-in_err-extend_from_slice-clause-grows t c =
+    twice c.args.sets.now c.sift.new.sets c.sift-2.new.sets (twice c.args.sets.now c.behind_cover.new.sets c.sift.new.sets c.in_ok-behind.ensures.grows c.in_ok-later.ensures.grows) c.in_ok-earlier.ensures.grows
+
+pub sift_two-returns-clause-grows : goal.sift_two-returns-clause-grows
+sift_two-returns-clause-grows t c =
+    twice c.args.sets.now c.sift.new.sets c.sift-2.new.sets (twice c.args.sets.now c.behind_cover.new.sets c.sift.new.sets c.in_ok-behind.ensures.grows c.in_ok-later.ensures.grows) c.in_ok-earlier.ensures.grows

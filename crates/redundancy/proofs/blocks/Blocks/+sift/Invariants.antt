@@ -1,14 +1,31 @@
-use Rattle.std.proofs.Common.{◌+◌, ◌*◌, max}
+use Rattle.std.proofs.Common.{◌+◌, ◌*◌, max, take}
+use Rattle.std.specs.Prelude.{map}
+use Rattle.node_store.specs.Store.{Grows}
+use Rattle.field_sift.specs.Layers.{rows_of_runs, end_of}
+use Rattle.redundancy.specs.Blocks.{run_by, rows_of}
+use Rattle.redundancy.specs.Drafts.{IsDraft}
+use Rattle.redundancy.specs.Remembered.{IsMemo}
 use Rattle.redundancy.proofs.blocks.Blocks.+sift.Given as goal
 
 abbrev pub decreases-sift : goal.decreases-sift
-decreases-sift l = 110 * l.number + 2
+decreases-sift l = 5 * l.number + 2
 
 abbrev pub decreases-sift_once : goal.decreases-sift_once
-decreases-sift_once l = 110 * l.number + 1
+decreases-sift_once l = 5 * l.number + 3
 
 abbrev pub decreases-sift_two : goal.decreases-sift_two
-decreases-sift_two l = 110 * max l.first l.second + 3
+decreases-sift_two l = 5 * max l.first l.second + 4
 
-abbrev pub decreases-sift_behind : goal.decreases-sift_behind
-decreases-sift_behind l = 110 * l.child + l.front.bits + 3
+abbrev pub decreases-sift_layer : goal.decreases-sift_layer
+decreases-sift_layer l = 5 * l.number + 1
+
+abbrev pub decreases-sift_run : goal.decreases-sift_run
+decreases-sift_run l = 5 * l.run.block + 4
+
+abbrev pub invariant-sift_layer-loop-run : goal.invariant-sift_layer-loop-run
+invariant-sift_layer-loop-run l = record {
+  grows : Grows l.fn.sets l.sets;
+  memo : IsMemo l.sets l.self l.memo;
+  draft : IsDraft l.fn.sets l.sets l.level (rows_of_runs (take l.run-index (map (run_by (rows_of l.self.blocks.items)) l.runs))) l.contexts
+      (end_of 0 (take l.run-index (map (run_by (rows_of l.self.blocks.items)) l.runs))) l.draft;
+}

@@ -1,5 +1,5 @@
 use Rattle.std.proofs.Common.{refl, arith}
-use Rattle.redundancy.specs.Sifted.{pair_at}
+use Rattle.field_sift.specs.Sifted.{pair_at}
 use Rattle.redundancy.proofs.Once.{next, distinct}
 use Rattle.redundancy.proofs.distinct.Distinct.of_few.Goals as goal
 

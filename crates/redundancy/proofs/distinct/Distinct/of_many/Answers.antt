@@ -1,5 +1,5 @@
 use Rattle.std.proofs.Common.{◌≡◌, refl, arith, sym, subst, ◌∙◌, rules}
-use Rattle.redundancy.specs.Sifted.{pair_at, AreDistinct}
+use Rattle.field_sift.specs.Sifted.{pair_at, AreDistinct}
 use Rattle.redundancy.proofs.Once.{next, distinct}
 use Rattle.redundancy.proofs.distinct.Distinct.of_many.Goals as goal
 

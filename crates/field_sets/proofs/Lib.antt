@@ -1,0 +1,9 @@
+pub mod Onward
+pub mod Covering
+pub mod Together
+pub mod Inside
+pub mod Always
+pub mod Lasting
+pub mod UnionParts
+pub mod UnionNodes
+pub mod InTurn

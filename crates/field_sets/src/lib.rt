@@ -1,0 +1,36 @@
+//! Sets and answers over fields: diagrams changed at some spans of one field, and unions of sets.
+//!
+//! The diagrams are those of node_store, over the values of the fields from a level on. [`laid`] gives a node that
+//! leads elsewhere at some spans of its field, in one pass over its edges. [`parts_within`] gives the parts of a span
+//! on which two nodes lead to one child each, and looks at no edge outside of the span but for two binary searches.
+//!
+//! A set of values is a diagram that answers them by other numbers than 0. [`Sets`] is a store that knows the empty
+//! and the full set of each level, and works out each union once.
+//!
+//! ```text
+//! let mut sets = Sets::new(alloc)?;
+//! let (none, full) = (sets.none(2), sets.full(3));
+//! let ports = sets.laid(2, none, &[Placed { span, to: full }])?;
+//! let either = sets.union(2, ports, other)?;
+//! let parts = parts_within(alloc, sets.store(), answers, either, span)?;
+//! ```
+//!
+//! The store only gains nodes: a number that was handed out before keeps what it answers, also where memory was
+//! refused on the way. [`laws`] has what callers need of parts and spans taken one at a time.
+#![tactic(auto)]
+
+mod constant;
+pub mod laws;
+mod laying;
+mod pair;
+mod parting;
+mod placed;
+mod reaching;
+mod sets;
+#[cfg(test)]
+mod tests;
+
+pub use laying::laid;
+pub use parting::parts_within;
+pub use placed::Placed;
+pub use sets::Sets;

@@ -1,0 +1,71 @@
+//! The common split of the edges of two nodes inside a span of their field.
+ghost use Rattle.std.specs.Prelude.{◌≡◌, ◌≤◌, ◌<◌, ◌⊎◌, ℕ, suc, List, [], map, IfOk, MatchOption};
+ghost use Rattle.field_boxes.specs.Fields.{greatest_of};
+ghost use Rattle.node_store.specs.Diagram.{Node, level_of, edges_of};
+ghost use Rattle.node_store.specs.Split.{to_left, to_right};
+ghost use Rattle.node_store.specs.Store.{LeadTo};
+ghost use Rattle.field_sets.specs.Fill.{Fill};
+ghost use Rattle.field_sets.specs.Parting.{IsSplitWithin, IsFirstWithin};
+
+use crate::reaching::{past, reaching};
+use field_boxes::Span;
+use node_store::{Edge, NodeId, Part, Parts, Store};
+use razor_base::Memory;
+use smallvec::SmallVec;
+use std::alloc::Global;
+
+/// The parts of the span on which each of two inner nodes of one level leads to one child, in rising order.
+///
+/// Two binary searches, and one pass over both nodes' edges inside the span.
+pub fn parts_within(
+    alloc: Global,
+    store: &Store,
+    left: NodeId,
+    right: NodeId,
+    span: Span,
+) -> Result<Parts, Memory>
+    requires inner { level_of store.now left.0 < 5 }
+    requires level { level_of store.now right.0 ≡ level_of store.now left.0 }
+    requires span { span.hi ≤ greatest_of (level_of store.now left.0) }
+    ensures split { IfOk result (λ parts. IsSplitWithin span.lo span.hi (edges_of store.now left.0) (edges_of store.now right.0) parts.items) }
+    ensures left { IfOk result (λ parts. LeadTo store.now (suc (level_of store.now left.0)) (map to_left parts.items)) }
+    ensures right { IfOk result (λ parts. LeadTo store.now (suc (level_of store.now left.0)) (map to_right parts.items)) }
+{
+    let left = reaching(store.edges(left), span.lo);
+    let right = reaching(store.edges(right), span.lo);
+    let parts = parts_of(alloc, left, right, span.hi)?;
+    Ok(parts)
+}
+
+/// The parts up to a value, by one pass over both lists of edges.
+fn parts_of(alloc: Global, left: &[Edge], right: &[Edge], hi: u32) -> Result<Parts, Memory>
+    ensures split { (lo top : ℕ) → lo ≤ hi → hi ≤ top → Fill lo top left.now → Fill lo top right.now →
+        IfOk result (λ parts. IsSplitWithin lo hi left.now right.now parts.items) }
+    ensures left { (nodes : List Node) (level : ℕ) → LeadTo nodes level left.now → IfOk result (λ parts. LeadTo nodes level (map to_left parts.items)) }
+    ensures right { (nodes : List Node) (level : ℕ) → LeadTo nodes level right.now → IfOk result (λ parts. LeadTo nodes level (map to_right parts.items)) }
+{
+    let mut parts = SmallVec::new(alloc);
+    let mut left = left;
+    let mut right = right;
+    while let Some(part) = first(left, right, hi) {
+        parts.push(part)?;
+        if part.hi == hi {
+            return Ok(parts);
+        }
+        left = past(left, part.hi);
+        right = past(right, part.hi);
+    }
+    Ok(parts)
+}
+
+/// The first part of the edges that are left; none where none are left.
+fn first(left: &[Edge], right: &[Edge], hi: u32) -> Option<Part>
+    ensures { MatchOption result ((left.now ≡ []) ⊎ (right.now ≡ [])) (λ part. IsFirstWithin hi left.now right.now part) }
+{
+    let (left, right) = (left.first()?, right.first()?);
+    Some(Part {
+        hi: hi.min(left.hi.min(right.hi)),
+        left: left.to,
+        right: right.to,
+    })
+}

@@ -1,0 +1,285 @@
+//! Sets of values of the fields from a level on, as diagrams that answer 0 outside.
+
+use crate::constant::Constant;
+use crate::laying::laid;
+use crate::pair::Pair;
+use crate::placed::Placed;
+use node_store::{Edge, NodeId, Part, Parts, Store};
+use razor_base::Memory;
+use smallvec::SmallVec;
+use std::alloc::Global;
+use std::collections::HashMap;
+use std::marker::Model;
+
+/// The edges of a union.
+type Edges = SmallVec<Edge, 6>;
+
+/// A store, the empty and the full set of each level, and the unions that were worked out before.
+#[derive(Drop)]
+pub struct Sets {
+    alloc: Global,
+    store: Store,
+    none: Constant,
+    full: Constant,
+    unions: HashMap<Pair, NodeId>,
+}
+
+impl Model for Sets {
+    ghost use Rattle.std.specs.Prelude.{List};
+    ghost use Rattle.std.specs.HashMap.{get};
+    ghost use Rattle.node_store.specs.Diagram.{Node as Seen};
+    ghost use Rattle.field_sets.specs.Unions.{AreSets, same_pair};
+
+    ghost Value = { List Seen };
+
+    ghost view = { λ s. s.store };
+
+    ghost invariant = { λ s. AreSets s.store s.none s.full (get same_pair s.unions) };
+}
+
+impl Sets {
+    ghost use Rattle.std.specs.Prelude.{◌≡◌, ◌<◌, ◌≤◌, ◌||◌, ℕ, suc, List, [], ◌∷◌, map, Some, IfOk, IfSome};
+    ghost use Rattle.std.specs.List.{AllZip};
+    ghost use Rattle.field_boxes.specs.Fields.{greatest_of};
+    ghost use Rattle.node_store.specs.Diagram.{level_of, edges_of, decision_of, answer};
+    ghost use Rattle.node_store.specs.Edges.{AreFull, child_of};
+    ghost use Rattle.node_store.specs.Split.{IsSplit, to_left, to_right};
+    ghost use Rattle.node_store.specs.Store.{Grows, LeadTo, AreValuesFrom};
+    ghost use Rattle.field_sets.specs.Placed.{led, RiseFrom, PlacedAt};
+    ghost use Rattle.field_sets.specs.Constant.{AnswersAlways};
+    ghost use Rattle.field_sets.specs.Unions.{is_in, AreAt, IsUnion, IsUnionPart};
+
+    /// A store of the empty and the full set of each level.
+    pub fn new(alloc: Global) -> Result<Sets, Memory> {
+        let mut store = Store::new(alloc);
+        let none = Constant::of(&mut store, 0)?;
+        let full = Constant::of(&mut store, 1)?;
+        Ok(Sets {
+            alloc,
+            store,
+            none,
+            full,
+            unions: HashMap::new(alloc),
+        })
+    }
+
+    /// The store.
+    pub fn store(&self) -> &Store
+        ensures { result.now ≡ self.now }
+    {
+        &self.store
+    }
+
+    /// The empty set of the level, from 0 to 5.
+    pub fn none(&self, level: u8) -> NodeId
+        requires { level ≤ 5 }
+        ensures { AnswersAlways self.now level 0 result.0 }
+    {
+        self.none.at(level)
+    }
+
+    /// The full set of the level, from 0 to 5.
+    pub fn full(&self, level: u8) -> NodeId
+        requires { level ≤ 5 }
+        ensures { AnswersAlways self.now level 1 result.0 }
+    {
+        self.full.at(level)
+    }
+
+    /// The leaf with the decision.
+    pub fn leaf(&mut self, decision: u32) -> Result<NodeId, Memory>
+        ensures level { IfOk result (λ id. level_of self.new id.0 ≡ 5) }
+        ensures decision { IfOk result (λ id. decision_of self.new id.0 ≡ Some decision) }
+        ensures grows { Grows self.old self.new }
+    {
+        let id = self.store.leaf(decision)?;
+        Ok(id)
+    }
+
+    /// The node of the level that leads as placed, and elsewhere where the node leads ([`laid`]).
+    pub fn laid(&mut self, level: u8, node: NodeId, placed: &[Placed]) -> Result<NodeId, Memory>
+        requires level { level < 5 }
+        requires node { level_of self.old node.0 ≡ level }
+        requires rise { RiseFrom 0 (greatest_of level) placed.now }
+        requires children { PlacedAt self.old (suc level) placed.now }
+        ensures level { IfOk result (λ id. level_of self.new id.0 ≡ level) }
+        ensures answers { IfOk result (λ id. (v : ℕ) (values : List ℕ) → v ≤ greatest_of level →
+            answer self.new id.0 (v ∷ values) ≡ answer self.old (led placed.now (edges_of self.old node.0) v) values) }
+        ensures grows { Grows self.old self.new }
+    {
+        let id = laid(self.alloc, &mut self.store, level, node, placed)?;
+        Ok(id)
+    }
+
+    /// The set of the values that are in one of two sets of the level.
+    ///
+    /// Each union is worked out once.
+    pub fn union(&mut self, level: u8, left: NodeId, right: NodeId) -> Result<NodeId, Memory>
+        requires level { level ≤ 5 }
+        requires left { level_of self.old left.0 ≡ level }
+        requires right { level_of self.old right.0 ≡ level }
+        ensures level { IfOk result (λ id. level_of self.new id.0 ≡ level) }
+        ensures union { IfOk result (λ id. (values : List ℕ) → AreValuesFrom level values →
+            is_in self.new id.0 values ≡ (is_in self.old left.0 values || is_in self.old right.0 values)) }
+        ensures small { IfOk result (λ id. (values : List ℕ) → AreValuesFrom level values →
+            answer self.old left.0 values ≤ 1 → answer self.old right.0 values ≤ 1 → answer self.new id.0 values ≤ 1) }
+        ensures grows { Grows self.old self.new }
+    {
+        let id = self.united(level, Pair { left, right })?;
+        Ok(id)
+    }
+
+    /// The union of a pair of a level: known at sight, or from an earlier turn, or worked out and kept.
+    #[cycle(union)]
+    fn united(&mut self, level: u8, pair: Pair) -> Result<NodeId, Memory>
+        requires level { level ≤ 5 }
+        requires pair { AreAt self.old level pair }
+        ensures union { IfOk result (λ id. IsUnion self.new pair id) }
+        ensures grows { Grows self.old self.new }
+    {
+        if let Some(known) = self.at_sight(level, pair) {
+            return Ok(known);
+        }
+        if let Some(known) = self.known(pair) {
+            return Ok(known);
+        }
+        let id = self.worked_out(level, pair)?;
+        self.keep(pair, id)?;
+        Ok(id)
+    }
+
+    /// The same: a leaf, or a node with an edge for each part of the field.
+    #[cycle(union)]
+    fn worked_out(&mut self, level: u8, pair: Pair) -> Result<NodeId, Memory>
+        requires level { level ≤ 5 }
+        requires pair { AreAt self.old level pair }
+        ensures union { IfOk result (λ id. IsUnion self.new pair id) }
+        ensures grows { Grows self.old self.new }
+    {
+        if level == 5 {
+            return self.last_union(pair);
+        }
+        let parts = self.parts(level, pair)?;
+        let edges = self.edges(level + 1, parts.as_slice())?;
+        let id = self.make(level, edges.as_slice())?;
+        Ok(id)
+    }
+
+    /// The parts of their field on which two nodes of the level lead to one child each.
+    fn parts(&self, level: u8, pair: Pair) -> Result<Parts, Memory>
+        requires level { level < 5 }
+        requires pair { AreAt self.now level pair }
+        ensures split { IfOk result (λ parts.
+            IsSplit (greatest_of level) (edges_of self.now pair.left.0) (edges_of self.now pair.right.0) parts.items) }
+        ensures left { IfOk result (λ parts. LeadTo self.now (suc level) (map to_left parts.items)) }
+        ensures right { IfOk result (λ parts. LeadTo self.now (suc level) (map to_right parts.items)) }
+    {
+        let parts = self.store.split(pair.left, pair.right)?;
+        Ok(parts)
+    }
+
+    /// An edge for each part, to the union of its nodes, which stand at the level.
+    #[cycle(union)]
+    fn edges(&mut self, level: u8, parts: &[Part]) -> Result<Edges, Memory>
+        requires level { level ≤ 5 }
+        requires left { LeadTo self.old level (map to_left parts.now) }
+        requires right { LeadTo self.old level (map to_right parts.now) }
+        ensures unions { IfOk result (λ edges. AllZip (IsUnionPart self.new) parts.now edges.items) }
+        ensures grows { Grows self.old self.new }
+    {
+        let mut edges = SmallVec::new(self.alloc);
+        for part in parts {
+            let pair = Pair {
+                left: part.left,
+                right: part.right,
+            };
+            let to = self.united(level, pair)?;
+            edges.push(Edge { hi: part.hi, to })?;
+        }
+        Ok(edges)
+    }
+
+    /// The node of the field with these edges.
+    fn make(&mut self, field: u8, edges: &[Edge]) -> Result<NodeId, Memory>
+        requires field { field < 5 }
+        requires full { AreFull (greatest_of field) edges.now }
+        requires children { LeadTo self.old (suc field) edges.now }
+        ensures level { IfOk result (λ id. level_of self.new id.0 ≡ field) }
+        ensures answers { IfOk result (λ id. (v : ℕ) (values : List ℕ) → v ≤ greatest_of field →
+            answer self.new id.0 (v ∷ values) ≡ answer self.old (child_of edges.now v) values) }
+        ensures grows { Grows self.old self.new }
+    {
+        let id = self.store.make(field, edges)?;
+        Ok(id)
+    }
+
+    /// The union of two leaves.
+    fn last_union(&mut self, pair: Pair) -> Result<NodeId, Memory>
+        requires { AreAt self.old 5 pair }
+        ensures union { IfOk result (λ id. IsUnion self.new pair id) }
+        ensures grows { Grows self.old self.new }
+    {
+        let left = self.store.decision(pair.left).unwrap_or(0);
+        let right = self.store.decision(pair.right).unwrap_or(0);
+        let id = self.leaf(either(left, right))?;
+        Ok(id)
+    }
+
+    /// The union, if it was worked out before.
+    fn known(&self, pair: Pair) -> Option<NodeId>
+        ensures { IfSome result (λ id. IsUnion self.now pair id) }
+    {
+        self.unions.get(&pair).copied()
+    }
+
+    /// Keeps a union.
+    fn keep(&mut self, pair: Pair, id: NodeId) -> Result<(), Memory>
+        requires { IsUnion self.old pair id }
+        ensures { self.new ≡ self.old }
+    {
+        self.unions.insert(pair, id)?;
+        Ok(())
+    }
+
+    /// The union of two sets where both are one, or one is empty or full.
+    fn at_sight(&self, level: u8, pair: Pair) -> Option<NodeId>
+        requires level { level ≤ 5 }
+        requires pair { AreAt self.now level pair }
+        ensures { IfSome result (λ id. IsUnion self.now pair id) }
+    {
+        let Pair { left, right } = pair;
+        if left == right {
+            return Some(left);
+        }
+        match self.beside(level, left, right) {
+            Some(known) => Some(known),
+            None => self.beside(level, right, left),
+        }
+    }
+
+    /// The union with a set that is empty or full.
+    fn beside(&self, level: u8, side: NodeId, other: NodeId) -> Option<NodeId>
+        requires level { level ≤ 5 }
+        requires side { level_of self.now side.0 ≡ level }
+        requires other { level_of self.now other.0 ≡ level }
+        ensures { IfSome result (λ id. IsUnion self.now (record { left = side; right = other }) id) }
+    {
+        if side == self.none(level) {
+            return Some(other);
+        }
+        if side == self.full(level) {
+            return Some(side);
+        }
+        None
+    }
+}
+
+ghost use Rattle.std.specs.Prelude.{◌≡◌, ◌≤◌, ◌||◌, ◌==◌, not};
+
+/// 1 where one of two numbers isn't 0, and else 0.
+fn either(left: u32, right: u32) -> u32
+    ensures either { not (result == 0) ≡ (not (left == 0) || not (right == 0)) }
+    ensures small { result ≤ 1 }
+{
+    u32::from(left != 0 || right != 0)
+}

@@ -1,0 +1,16 @@
+pub mod Alike
+pub mod Merged
+pub mod Sequence
+pub mod Leaves
+pub mod Marked
+pub mod OneRun
+pub mod NextRun
+pub mod Apart
+pub mod LayerRuns
+pub mod Covers
+pub mod Below
+pub mod Passes
+pub mod Prefixed
+pub mod Chosen
+pub mod Kept
+pub mod Filling

@@ -1,0 +1,18 @@
+-- Entries with a flag each.
+use Rattle.std.specs.Prelude.{◌≡◌, ℕ, Bool, cond, List, [], ◌∷◌, length, map}
+use Rattle.ternary_words.specs.declared.entry.Entry.{Entry}
+use Rattle.field_sift.specs.Marks.{marked}
+use Rattle.field_sift.specs.Contexts.{IsRight, whole}
+use Rattle.field_sift.specs.Built.{row_at}
+
+-- the flagged entries
+abbrev pub with_flags : List Entry → List Bool → List Entry
+with_flags [] flags = []
+with_flags (e ∷ entries) [] = []
+with_flags (e ∷ entries) (b ∷ flags) = cond b (e ∷ with_flags entries flags) (with_flags entries flags)
+
+-- a flag for each entry, and what they keep is right for the table as a whole
+pub record AreRightFlags (entries : List Entry) (flags : List Bool) : Type 0 where
+  pub count : length flags ≡ length entries
+  pub out : ℕ → List ℕ → ℕ
+  pub right : IsRight 0 whole (marked (map (row_at 0) entries) flags) out

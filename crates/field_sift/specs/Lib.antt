@@ -1,0 +1,10 @@
+pub mod Rows
+pub mod Marks
+pub mod Contexts
+pub mod Layers
+pub mod Sifted
+pub mod Entries
+pub mod Pass
+pub mod Built
+pub mod Flags
+pub mod Drafts

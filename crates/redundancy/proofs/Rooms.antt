@@ -1,0 +1,44 @@
+-- The places that are read are within their lists.
+use Rattle.std.proofs.Common.{◌≡◌, ◌∷◌, ◌++◌, ℕ, suc, List, [], ◌<◌, ◌+◌, length, take, get_or, ap, arith, sym, ◌∙◌, subst}
+use Rattle.std.proofs.Math.Seq.{take-suc}
+use Rattle.std.specs.Prelude.{All}
+use Rattle.std.specs.Global.{Vec}
+use Rattle.std.proofs.lemmas.List.{get_or-map}
+use Rattle.std.proofs.lemmas.List.Elements.{All-from_get_or, All-weaker}
+use Rattle.field_boxes.specs.Classifier.{Interval}
+use Rattle.node_store.specs.Diagram.{Node}
+use Rattle.field_sets.specs.declared.placed.Placed.{Placed}
+use Rattle.field_sift.specs.declared.pair.Pair.{Pair}
+use Rattle.field_sift.specs.declared.sifted.Sifted.{Sifted}
+use Rattle.field_sift.specs.Rows.{Row}
+use Rattle.field_sift.specs.Sifted.{AreDistinct, IsSifted}
+use Rattle.redundancy.specs.declared.below.Stretch.{Stretch}
+use Rattle.redundancy.specs.declared.draft.Change.{Change}
+use Rattle.redundancy.specs.Stretches.{AreListed}
+use Rattle.redundancy.specs.Drafts.{HaveRoom, placed_in, placed_for}
+use Rattle.redundancy.proofs.Drafting.{change_more}
+
+pub have_room : (nodes : List Node) (span : Interval) (pairs lower keys : List Pair) (lists : List (Vec Stretch)) (places : List ℕ) → AreListed nodes span pairs (length pairs) lower lists → AreDistinct lower keys places → HaveRoom (length places) lists
+have_room nodes span pairs lower keys lists places listed distinct k d less =
+    subst (λ n. All (λ (s : Stretch). s.place < n) (get_or lists k d).items) (sym distinct.count)
+    (subst (All (λ (s : Stretch). s.place < length lower)) (get_or-map (λ (own : Vec Stretch). own.items) lists k d [] less) (listed.each k (let n = listed.number in omega (arith, less, n))).within)
+
+pub places_room : (nodes : List Node) (level : ℕ) (rows : List Row) (lower keys : List Pair) (places : List ℕ) (inner : Sifted) → AreDistinct lower keys places → IsSifted nodes level rows keys inner → All (λ (p : ℕ). p < length inner.after.items) places
+places_room nodes level rows lower keys places inner distinct sifted =
+    All-from_get_or (λ (p : ℕ). p < length inner.after.items) places 0
+    (λ k less. let n = distinct.count in let e = (distinct.each k (omega (arith, less, n))).0 in let m = sifted.count in omega (arith, e, m))
+
+pub change_room : (count place : ℕ) (changes : List Change) → place < count → All (λ (change : Change). length change.placed.items ≡ count) changes → All (λ (change : Change). place < length change.placed.items) changes
+change_room count place changes less room =
+    All-weaker (λ (change : Change). length change.placed.items ≡ count) (λ (change : Change). place < length change.placed.items) (λ change e. omega (arith, e, less)) changes room
+
+-- what one change more says of a context
+pub gathered_next : (changes : List Change) (k place : ℕ) (e : Change) (d : Vec Placed) (placed longer piece : List Placed) → k < length changes → place < length (get_or changes k e).placed.items →
+    placed ≡ placed_for (take k changes) place → longer ≡ placed ++ piece → piece ≡ (get_or (get_or changes k e).placed.items place d).items → longer ≡ placed_for (take (k + 1) changes) place
+gathered_next changes k place e d placed longer piece less room before longer_is piece_is =
+    let one : suc k ≡ k + 1 = omega arith in
+    longer_is
+    ∙ ap (λ ps. placed ++ ps) (piece_is ∙ sym (get_or-map (λ (own : Vec Placed). own.items) (get_or changes k e).placed.items place d [] room))
+    ∙ ap (λ ps. ps ++ placed_in (get_or changes k e) place) before
+    ∙ sym (change_more (take k changes) (get_or changes k e) place)
+    ∙ ap (λ cs. placed_for cs place) (sym (take-suc changes k e less) ∙ ap (λ m. take m changes) one)

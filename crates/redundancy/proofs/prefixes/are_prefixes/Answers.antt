@@ -1,0 +1,12 @@
+use Rattle.std.proofs.Common.{arith}
+use Rattle.ternary_words.specs.Prefixes.{IsPrefixInEach}
+use Rattle.ternary_words.specs.Views.{word_of}
+use Rattle.redundancy.proofs.Chosen.{up_to_next}
+use Rattle.redundancy.proofs.prefixes.are_prefixes.Goals as goal
+
+pub loop-entry-preserved : goal.loop-entry-preserved
+loop-entry-preserved c =
+    up_to_next (λ e. IsPrefixInEach (word_of e.word)) c.args.entries.now c.loop-entry.entry-index c.entry-item.result c.loop-entry-test.true c.entry-item.is c.loop-entry.invariant (c.is_prefix.ensures c.if-not-is_prefix.false)
+
+pub returns : goal.returns
+returns c = λ yes k d less. c.loop-entry.invariant k d (let end = c.loop-entry-test.false in omega (arith, end, less))

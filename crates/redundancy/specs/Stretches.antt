@@ -1,0 +1,45 @@
+-- Stretches of a span that lead to pairs of nodes.
+use Rattle.std.specs.Prelude.{◌≡◌, ℕ, suc, ◌<◌, true, List, [], ◌∷◌, All, length, map, nat_le, if◌then◌else◌, slice_index_or}
+use Rattle.std.specs.Global.{Vec}
+use Rattle.field_boxes.specs.Classifier.{Interval, interval_holds}
+use Rattle.node_store.specs.declared.split.Part.{Part}
+use Rattle.node_store.specs.Diagram.{Node}
+use Rattle.field_sift.specs.declared.pair.Pair.{Pair}
+use Rattle.field_sift.specs.Sifted.{pair_at, pair_below}
+use Rattle.redundancy.specs.declared.below.Stretch.{Stretch}
+
+abbrev pub pair_of : Part → Pair
+pair_of p = record { after = p.left; met = p.right }
+
+-- a stretch for each part from the low value on, whose pairs stand from the place on
+abbrev pub AreStretches : ℕ → ℕ → List Part → List Stretch → Type 0
+AreStretches lo place [] [] = Unit {0}
+AreStretches lo place [] (s ∷ ss) = ⊥
+AreStretches lo place (p ∷ ps) [] = ⊥
+AreStretches lo place (p ∷ ps) (s ∷ ss) = (s.span.lo ≡ lo) × (s.span.hi ≡ p.hi) × (s.place ≡ place) × AreStretches (suc p.hi) (suc place) ps ss
+
+-- the place of the pair to which the value leads
+abbrev pub stretch_at : List Stretch → ℕ → ℕ
+stretch_at [] v = 0
+stretch_at (s ∷ ss) v = if nat_le v s.span.hi then s.place else stretch_at ss v
+
+-- the stretches fill the values from lo to hi
+abbrev pub FillSpan : ℕ → ℕ → List Stretch → Type 0
+FillSpan lo hi [] = lo ≡ suc hi
+FillSpan lo hi (s ∷ ss) = (s.span.lo ≡ lo) × FillSpan (suc s.span.hi) hi ss
+
+-- the stretches of a context
+abbrev pub stretches_at : List (Vec Stretch) → ℕ → List Stretch
+stretches_at lists c = slice_index_or (map (λ (own : Vec Stretch). own.items) lists) c []
+
+-- the stretches fill the span, and the pairs at their places are those to which the pair leads there
+pub record IsListed (nodes : List Node) (span : Interval) (pair : Pair) (lower : List Pair) (own : List Stretch) : Type 0 where
+  pub fill : FillSpan span.lo span.hi own
+  pub within : All (λ (s : Stretch). s.place < length lower) own
+  pub leads : (v : ℕ) → interval_holds v span ≡ true → (stretch_at own v < length lower) × (pair_at lower (stretch_at own v) ≡ pair_below nodes v pair)
+
+-- so are the stretches of the first so many contexts, and the list has no other pairs
+pub record AreListed (nodes : List Node) (span : Interval) (pairs : List Pair) (count : ℕ) (lower : List Pair) (lists : List (Vec Stretch)) : Type 0 where
+  pub number : length lists ≡ count
+  pub each : (c : ℕ) → c < count → IsListed nodes span (pair_at pairs c) lower (stretches_at lists c)
+  pub reached : (d : ℕ) → d < length lower → (c : ℕ) × (v : ℕ) × (c < count) × (interval_holds v span ≡ true) × (pair_at lower d ≡ pair_below nodes v (pair_at pairs c))

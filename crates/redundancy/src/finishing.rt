@@ -1,0 +1,53 @@
+//! The nodes that lead on as a draft says.
+ghost use Rattle.std.specs.Prelude.{◌≡◌, ◌≤◌, ◌<◌, ℕ, suc, length, All, IfOk};
+ghost use Rattle.field_boxes.specs.Fields.{greatest_of};
+ghost use Rattle.node_store.specs.Diagram.{level_of};
+ghost use Rattle.node_store.specs.Store.{Grows};
+ghost use Rattle.field_sets.specs.Placed.{PlacedAt, RiseFrom};
+ghost use Rattle.field_sift.specs.Sifted.{ArePairs, LeadsAs, node_at};
+ghost use Rattle.redundancy.specs.Drafts.{leads_of, placed_for, AreChanges};
+
+use crate::draft::Change;
+use crate::sets::Sets;
+use field_sets::Placed;
+use field_sift::Pair;
+use node_store::NodeId;
+use razor_base::Memory;
+use std::alloc::Global;
+
+/// A node for each context of the level, which leads on as the changes say.
+pub(crate) fn finished(
+    alloc: Global,
+    sets: &mut Sets,
+    level: u8,
+    contexts: &[Pair],
+    changes: &[Change],
+) -> Result<Vec<NodeId>, Memory>
+    requires level { level < 5 }
+    requires contexts { ArePairs sets.old level contexts.now }
+    requires changes { AreChanges sets.old level (length contexts.now) changes.now }
+    requires numbers { (c v : ℕ) → c < length contexts.now → v ≤ greatest_of level → level_of sets.old (leads_of sets.old contexts.now changes.now c v) ≡ suc level }
+    ensures count { IfOk result (λ ids. length ids.items ≡ length contexts.now) }
+    ensures each { IfOk result (λ ids. (c : ℕ) → c < length contexts.now → LeadsAs sets.new level (leads_of sets.old contexts.now changes.now) c (node_at ids.items c)) }
+    ensures grows { Grows sets.old sets.new }
+{
+    let mut after = Vec::with_capacity(alloc, contexts.len())?;
+    for (place, pair) in contexts.iter().enumerate() {
+        let placed = gathered(alloc, changes, place)?;
+        let node = sets.laid(level, pair.after, placed.as_slice())?;
+        after.push(node)?;
+    }
+    Ok(after)
+}
+
+/// What the changes say of the context at the place, in their order.
+fn gathered(alloc: Global, changes: &[Change], place: usize) -> Result<Vec<Placed>, Memory>
+    requires { All (λ change. place < length change.placed.items) changes.now }
+    ensures { IfOk result (λ placed. placed.items ≡ placed_for changes.now place) }
+{
+    let mut placed = Vec::new(alloc);
+    for change in changes {
+        placed.extend_from_slice(change.placed[place].as_slice())?;
+    }
+    Ok(placed)
+}

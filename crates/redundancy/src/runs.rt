@@ -1,0 +1,110 @@
+//! Neighbouring entries with one span in a field.
+ghost use Rattle.std.specs.Prelude.{◌≡◌, ◌<◌, ◌≤◌, ◌+◌, ◌-◌, ◌/◌, ◌%◌, ◌^◌, ◌++◌, length, map, take, true, IfSome, IfNone, []};
+ghost use Rattle.field_boxes.specs.Fields.{greatest_of};
+ghost use Rattle.field_boxes.specs.Spans.{interval_of};
+ghost use Rattle.field_sift.specs.Built.{row_at};
+ghost use Rattle.field_sift.specs.Rows.{in_front};
+
+use field_boxes::Span;
+use ternary_words::Entry;
+
+/// Entries that have one span in a field, and those behind them.
+#[derive(Clone, Copy)]
+pub(crate) struct FirstRun<'a> {
+    pub span: Span,
+    pub run: &'a [Entry],
+    pub rest: &'a [Entry],
+}
+
+/// The entries at the front that have the first one's span in the field, and the others; none where there are none.
+pub(crate) fn first_run(entries: &[Entry], field: u8) -> Option<FirstRun<'_>>
+    requires { field < 5 }
+    ensures none { IfNone result (entries.now ≡ []) }
+    ensures rows { IfSome result (λ first. map (row_at field) entries.now ≡ map (in_front (interval_of first.span)) (map (row_at (field + 1)) first.run.now) ++ map (row_at field) first.rest.now) }
+    ensures some { IfSome result (λ first. 0 < length first.run.now) }
+    ensures shorter { IfSome result (λ first. length first.rest.now < length entries.now) }
+    ensures inside { IfSome result (λ first. first.span.hi ≤ greatest_of field) }
+{
+    let (first, others) = entries.split_first()?;
+    let span = span_in(first, field);
+    let len = run_len(others, field, span);
+    let (run, rest) = entries.split_at(len + 1);
+    Some(FirstRun { span, run, rest })
+}
+
+/// How many entries at the front have the span in the field.
+fn run_len(entries: &[Entry], field: u8, span: Span) -> usize
+    requires { field < 5 }
+    ensures within { result ≤ length entries.now }
+    ensures rows { map (row_at field) (take result entries.now) ≡ map (in_front (interval_of span)) (map (row_at (field + 1)) (take result entries.now)) }
+{
+    for (place, entry) in entries.iter().enumerate() {
+        if !has_span(entry, field, span) {
+            return place;
+        }
+    }
+    entries.len()
+}
+
+/// Whether the entry has the span in the field.
+fn has_span(entry: &Entry, field: u8, span: Span) -> bool
+    requires { field < 5 }
+    ensures { result ≡ true → row_at field entry.now ≡ in_front (interval_of span) (row_at (field + 1) entry.now) }
+{
+    let own = span_in(entry, field);
+    own.lo == span.lo && own.hi == span.hi
+}
+
+/// The span of the entry in the field.
+fn span_in(entry: &Entry, field: u8) -> Span
+    requires { field < 5 }
+    ensures row { row_at field entry.now ≡ in_front (interval_of result) (row_at (field + 1) entry.now) }
+    ensures inside { result.hi ≤ greatest_of field }
+{
+    match field {
+        0 => part_span(entry, 72, 32),
+        1 => part_span(entry, 40, 32),
+        2 => part_span(entry, 24, 16),
+        3 => part_span(entry, 8, 16),
+        _ => part_span(entry, 0, 8),
+    }
+}
+
+/// The values that the entry's word matches in its part of so many bits above the lowest ones, where it is a prefix there.
+fn part_span(entry: &Entry, low: u8, width: u8) -> Span
+    requires low { low ≤ 72 }
+    requires wide { width ≤ 32 }
+    ensures lo { result.lo ≡ entry.now.word.value / 2 ^ low % 2 ^ width }
+    ensures hi { result.hi ≡ entry.now.word.value / 2 ^ low % 2 ^ width + (2 ^ width - 1 - entry.now.word.mask / 2 ^ low % 2 ^ width) }
+    ensures inside { result.hi ≤ 2 ^ width - 1 }
+{
+    let value = part(entry.word.value, low, width);
+    let mask = part(entry.word.mask, low, width);
+    span_of(value, mask, width)
+}
+
+/// So many bits of a number above the lowest ones.
+fn part(number: u128, low: u8, width: u8) -> u32
+    requires low { low ≤ 72 }
+    requires wide { width ≤ 32 }
+    ensures { result ≡ number / 2 ^ low % 2 ^ width }
+{
+    ((number >> low) % (1 << width)) as u32
+}
+
+/// From a value to the one with all bits that the mask leaves out.
+fn span_of(value: u32, mask: u32, width: u8) -> Span
+    requires wide { width ≤ 32 }
+    requires masked { value ≤ mask }
+    requires small { mask < 2 ^ width }
+    ensures lo { result.lo ≡ value }
+    ensures hi { result.hi ≡ value + (2 ^ width - 1 - mask) }
+    ensures inside { result.hi ≤ 2 ^ width - 1 }
+{
+    let left_out = (1u64 << width) - 1 - u64::from(mask);
+    let hi = u64::from(value) + left_out;
+    Span {
+        lo: value,
+        hi: hi as u32,
+    }
+}
