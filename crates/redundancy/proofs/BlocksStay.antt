@@ -1,5 +1,5 @@
 -- Blocks and their covers stay when the store grows.
-use Rattle.std.proofs.Common.{◌≡◌, List, ◌<◌, ◌∙◌}
+use Rattle.std.proofs.Common.{List}
 use Rattle.node_store.specs.Diagram.{Node}
 use Rattle.node_store.specs.Store.{Grows}
 use Rattle.field_sift.specs.Rows.{Row}

@@ -1,7 +1,7 @@
 -- What was kept of the first runs of a layer, and one run more.
-use Rattle.std.proofs.Common.{◌≡◌, ◌∷◌, ◌++◌, ◌⊎◌, ℕ, suc, List, [], ◌<◌, ◌≤◌, ◌+◌, Bool, true, false, length, append_assoc, append-nil, refl, ap, arith, sym, ◌∙◌, subst, inl, inr}
+use Rattle.std.proofs.Common.{◌≡◌, ◌∷◌, ◌++◌, ◌⊎◌, ℕ, suc, List, [], ◌<◌, ◌≤◌, Bool, true, false, length, append_assoc, append-nil, refl, ap, arith, sym, ◌∙◌, subst, inl, inr}
 use Rattle.std.specs.Prelude.{All, cond, map, Some, None, unwrap_or, slice_index_or}
-use Rattle.std.specs.Global.{Vec}
+use Rattle.smallvec.specs.SmallVec.{SmallVec}
 use Rattle.std.specs.List.{list_any}
 use Rattle.std.proofs.lemmas.Bool.{cases_lt, le-leb, true≢false}
 use Rattle.std.proofs.lemmas.List.Elements.{All-append, All-map, All-push, All-weaker}
@@ -116,7 +116,7 @@ pub placed_stays : (old new : List Node) (level : ℕ) (ps : List Placed) → le
 placed_stays old new level ps five g h = All-weaker (λ (p : Placed). level_of old p.to.0 ≡ level) (λ (p : Placed). level_of new p.to.0 ≡ level) (λ p e. number_stays old new p.to.0 level five g e) ps h
 
 -- the pairs at the places of the keys
-pub keys_below : (nodes : List Node) (level : ℕ) (span : Interval) (pairs lower keys : List Pair) (lists : List (Vec Stretch)) (places : List ℕ) → span.hi ≤ greatest_of level →
+pub keys_below : (nodes : List Node) (level : ℕ) (span : Interval) (pairs lower keys : List Pair) (lists : List (SmallVec Stretch)) (places : List ℕ) → span.hi ≤ greatest_of level →
     AreListed nodes span pairs (length pairs) lower lists → AreDistinct lower keys places → AreBelow nodes level span pairs keys (λ c v. slice_index_or places (stretch_at (stretches_at lists c) v) 0)
 keys_below nodes level span pairs lower keys lists places inside listed distinct =
     once-below nodes level span pairs lower keys (λ c v. stretch_at (stretches_at lists c) v) places
@@ -126,7 +126,7 @@ keys_below nodes level span pairs lower keys lists places inside listed distinct
     })
     distinct
 
-module _ (base old new : List Node) (level : ℕ) (rows more : List Row) (pairs lower keys : List Pair) (next : ℕ) (span : Span) (lists : List (Vec Stretch)) (places : List ℕ) (inner : Sifted) (d e : Draft) where
+module _ (base old new : List Node) (level : ℕ) (rows more : List Row) (pairs lower keys : List Pair) (next : ℕ) (span : Span) (lists : List (SmallVec Stretch)) (places : List ℕ) (inner : Sifted) (d e : Draft) where
   abbrev Runs : List Row
   Runs = rows ++ map (in_front (interval_of span)) more
 

@@ -1,5 +1,5 @@
 -- The runs of a table, one after another.
-use Rattle.std.proofs.Common.{◌≡◌, ◌∷◌, ◌++◌, ◌⊎◌, ℕ, zero, suc, List, [], ◌+◌, ◌<◌, ◌≤◌, length, refl, ap, arith, sym, ◌∙◌, subst, inl, inr, get_or, map, take, append_assoc}
+use Rattle.std.proofs.Common.{◌≡◌, ◌∷◌, ◌++◌, ℕ, zero, suc, List, [], ◌+◌, ◌<◌, ◌≤◌, length, refl, ap, arith, sym, ◌∙◌, subst, inl, inr, get_or, map, take, append_assoc}
 use Rattle.std.specs.Prelude.{All, Option, Some, None, slice_get}
 use Rattle.std.proofs.lemmas.Bool.{cases_lt}
 use Rattle.std.proofs.Math.Seq.{get_or-append_seam, take-suc}

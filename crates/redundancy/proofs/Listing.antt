@@ -2,7 +2,7 @@
 use Rattle.std.proofs.Common.{◌≡◌, ◌∷◌, ◌++◌, ℕ, zero, suc, List, [], ◌<◌, ◌≤◌, ◌+◌, ◌-◌, Bool, true, false, length, take, get_or, append_assoc, refl, ap, arith, sym, ◌∙◌, subst, inl, inr}
 use Rattle.std.proofs.Math.Seq.{take-suc}
 use Rattle.std.specs.Prelude.{All, cond, map, nat_le}
-use Rattle.std.specs.Global.{Vec}
+use Rattle.smallvec.specs.SmallVec.{SmallVec}
 use Rattle.std.proofs.lemmas.Bool.{cases_lt, le-leb, leb-true}
 use Rattle.std.proofs.lemmas.List.{length-append, length-map, map-append}
 use Rattle.std.proofs.lemmas.List.Elements.{All-nil, All-cons, All-weaker}
@@ -119,7 +119,7 @@ new_item (x ∷ xs) ys j (suc n) e = new_item xs ys j n (omega (arith, e))
 pair_of_two : {a b m n : ℕ} → a ≡ b → m ≡ n → pair_to a m ≡ pair_to b n
 pair_of_two h k = cc
 
-module _ (nodes : List Node) (span : Interval) (pairs : List Pair) (n : ℕ) (lower more : List Pair) (lists longer : List (Vec Stretch)) (own : Vec Stretch) (ps : List Part) where
+module _ (nodes : List Node) (span : Interval) (pairs : List Pair) (n : ℕ) (lower more : List Pair) (lists longer : List (SmallVec Stretch)) (own : SmallVec Stretch) (ps : List Part) where
   abbrev Split : Type 0
   Split = IsSplitWithin span.lo span.hi (edges_of nodes (pair_at pairs n).after.0) (edges_of nodes (pair_at pairs n).met.0) ps
 
@@ -171,11 +171,11 @@ module _ (nodes : List Node) (span : Interval) (pairs : List Pair) (n : ℕ) (lo
   pub listed_next : Split → more ≡ lower ++ map pair_of ps → AreStretches span.lo (length lower) ps own.items → longer ≡ lists ++ own ∷ [] →
       AreListed nodes span pairs n lower lists → AreListed nodes span pairs (n + 1) more longer
   listed_next split e a longer_is so =
-      let items : map (λ (o : Vec Stretch). o.items) longer ≡ map (λ (o : Vec Stretch). o.items) lists ++ own.items ∷ [] =
-      ap (map (λ (o : Vec Stretch). o.items)) longer_is ∙ map-append (λ (o : Vec Stretch). o.items) lists (own ∷ []) in
-      let p = pushed_to (Listed more) [] (map (λ (o : Vec Stretch). o.items) lists) (map (λ (o : Vec Stretch). o.items) longer) own.items n items
-      (length-map lists (λ (o : Vec Stretch). o.items) ∙ so.number) (λ c less. old_listed e c (stretches_at lists c) (so.each c less)) (own_listed split e a) in record {
-        number = sym (length-map longer (λ (o : Vec Stretch). o.items)) ∙ p.0;
+      let items : map (λ (o : SmallVec Stretch). o.items) longer ≡ map (λ (o : SmallVec Stretch). o.items) lists ++ own.items ∷ [] =
+      ap (map (λ (o : SmallVec Stretch). o.items)) longer_is ∙ map-append (λ (o : SmallVec Stretch). o.items) lists (own ∷ []) in
+      let p = pushed_to (Listed more) [] (map (λ (o : SmallVec Stretch). o.items) lists) (map (λ (o : SmallVec Stretch). o.items) longer) own.items n items
+      (length-map lists (λ (o : SmallVec Stretch). o.items) ∙ so.number) (λ c less. old_listed e c (stretches_at lists c) (so.each c less)) (own_listed split e a) in record {
+        number = sym (length-map longer (λ (o : SmallVec Stretch). o.items)) ∙ p.0;
         each = p.1;
         reached = reached_next split e so;
       }

@@ -1,8 +1,9 @@
 -- The places that are read are within their lists.
-use Rattle.std.proofs.Common.{◌≡◌, ◌∷◌, ◌++◌, ℕ, suc, List, [], ◌<◌, ◌+◌, length, take, get_or, ap, arith, sym, ◌∙◌, subst}
+use Rattle.std.proofs.Common.{◌≡◌, ◌++◌, ℕ, suc, List, [], ◌<◌, ◌+◌, length, take, get_or, ap, arith, sym, ◌∙◌, subst}
 use Rattle.std.proofs.Math.Seq.{take-suc}
 use Rattle.std.specs.Prelude.{All}
 use Rattle.std.specs.Global.{Vec}
+use Rattle.smallvec.specs.SmallVec.{SmallVec}
 use Rattle.std.proofs.lemmas.List.{get_or-map}
 use Rattle.std.proofs.lemmas.List.Elements.{All-from_get_or, All-weaker}
 use Rattle.field_boxes.specs.Classifier.{Interval}
@@ -18,10 +19,10 @@ use Rattle.redundancy.specs.Stretches.{AreListed}
 use Rattle.redundancy.specs.Drafts.{HaveRoom, placed_in, placed_for}
 use Rattle.redundancy.proofs.Drafting.{change_more}
 
-pub have_room : (nodes : List Node) (span : Interval) (pairs lower keys : List Pair) (lists : List (Vec Stretch)) (places : List ℕ) → AreListed nodes span pairs (length pairs) lower lists → AreDistinct lower keys places → HaveRoom (length places) lists
+pub have_room : (nodes : List Node) (span : Interval) (pairs lower keys : List Pair) (lists : List (SmallVec Stretch)) (places : List ℕ) → AreListed nodes span pairs (length pairs) lower lists → AreDistinct lower keys places → HaveRoom (length places) lists
 have_room nodes span pairs lower keys lists places listed distinct k d less =
     subst (λ n. All (λ (s : Stretch). s.place < n) (get_or lists k d).items) (sym distinct.count)
-    (subst (All (λ (s : Stretch). s.place < length lower)) (get_or-map (λ (own : Vec Stretch). own.items) lists k d [] less) (listed.each k (let n = listed.number in omega (arith, less, n))).within)
+    (subst (All (λ (s : Stretch). s.place < length lower)) (get_or-map (λ (own : SmallVec Stretch). own.items) lists k d [] less) (listed.each k (let n = listed.number in omega (arith, less, n))).within)
 
 pub places_room : (nodes : List Node) (level : ℕ) (rows : List Row) (lower keys : List Pair) (places : List ℕ) (inner : Sifted) → AreDistinct lower keys places → IsSifted nodes level rows keys inner → All (λ (p : ℕ). p < length inner.after.items) places
 places_room nodes level rows lower keys places inner distinct sifted =

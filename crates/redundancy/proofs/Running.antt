@@ -1,7 +1,7 @@
 -- One run of a layer, by the lists as slices.
 use Rattle.std.proofs.Common.{◌≡◌, ◌++◌, ℕ, suc, List, ◌<◌, ◌≤◌, length, sym, subst}
 use Rattle.std.specs.Prelude.{All, map, slice_index_or}
-use Rattle.std.specs.Global.{Vec}
+use Rattle.smallvec.specs.SmallVec.{SmallVec}
 use Rattle.field_boxes.specs.declared.span.Span.{Span}
 use Rattle.field_boxes.specs.Fields.{greatest_of}
 use Rattle.field_boxes.specs.Spans.{interval_of}
@@ -20,7 +20,7 @@ use Rattle.redundancy.specs.Drafts.{HaveRoom, IsTakenIn, IsDraft}
 use Rattle.redundancy.proofs.Drafting.{keys_below, run_end}
 use Rattle.redundancy.proofs.Rooms.{have_room, places_room}
 
-pub keys_pairs : (nodes : List Node) (level wide : ℕ) (span : Span) (pairs lower lower_now keys keys_now : List Pair) (lists : List (Vec Stretch)) (places : List ℕ) → IsStore nodes → level < 5 → wide ≡ suc level →
+pub keys_pairs : (nodes : List Node) (level wide : ℕ) (span : Span) (pairs lower lower_now keys keys_now : List Pair) (lists : List (SmallVec Stretch)) (places : List ℕ) → IsStore nodes → level < 5 → wide ≡ suc level →
     ArePairs nodes level pairs → span.hi ≤ greatest_of level → AreListed nodes (interval_of span) pairs (length pairs) lower lists → lower_now ≡ lower → AreDistinct lower_now keys places → keys_now ≡ keys →
     ArePairs nodes wide keys_now
 keys_pairs nodes level wide span pairs lower lower_now keys keys_now lists places store five same are inside listed ln distinct kn =
@@ -28,7 +28,7 @@ keys_pairs nodes level wide span pairs lower lower_now keys keys_now lists place
     (pairs-below nodes level (interval_of span) pairs keys (λ c v. slice_index_or places (stretch_at (stretches_at lists c) v) 0) store five are
     (keys_below nodes level (interval_of span) pairs lower keys lists places inside listed (subst (λ ls. AreDistinct ls keys places) ln distinct))))
 
-pub run_clause : (base old new : List Node) (level wide : ℕ) (rows more : List Row) (pairs lower lower_now keys keys_now : List Pair) (next : ℕ) (span : Span) (lists lists_now : List (Vec Stretch)) (places places_now : List ℕ)
+pub run_clause : (base old new : List Node) (level wide : ℕ) (rows more : List Row) (pairs lower lower_now keys keys_now : List Pair) (next : ℕ) (span : Span) (lists lists_now : List (SmallVec Stretch)) (places places_now : List ℕ)
     (inner : Sifted) (d e : Draft) → wide ≡ suc level → lower_now ≡ lower → keys_now ≡ keys → lists_now ≡ lists → places_now ≡ places → level < 5 → Grows old new → ArePairs old level pairs → span.hi ≤ greatest_of level →
     AreListed old (interval_of span) pairs (length pairs) lower lists → AreDistinct lower_now keys places → IsSifted new wide more keys_now inner → next ≤ span.lo → AreApartFrom (interval_of span) rows →
     IsDraft base old level rows pairs next d → IsTakenIn d lists_now places_now inner e → IsDraft base new level (rows ++ map (in_front (interval_of span)) more) pairs (suc span.hi) e
@@ -48,7 +48,7 @@ run_clause base old new level wide rows more pairs lower lower_now keys keys_now
       taken = subst (λ ps. IsTakenIn d lists ps inner e) pn (subst (λ ss. IsTakenIn d ss places_now inner e) sn taken);
     })
 
-pub lists_room : (nodes : List Node) (span : Span) (pairs lower lower_now keys : List Pair) (lists lists_now : List (Vec Stretch)) (places places_now : List ℕ) → lower_now ≡ lower → lists_now ≡ lists → places_now ≡ places →
+pub lists_room : (nodes : List Node) (span : Span) (pairs lower lower_now keys : List Pair) (lists lists_now : List (SmallVec Stretch)) (places places_now : List ℕ) → lower_now ≡ lower → lists_now ≡ lists → places_now ≡ places →
     AreListed nodes (interval_of span) pairs (length pairs) lower lists → AreDistinct lower_now keys places → HaveRoom (length places_now) lists_now
 lists_room nodes span pairs lower lower_now keys lists lists_now places places_now ln sn pn listed distinct =
     subst (λ ps. HaveRoom (length ps) lists_now) (sym pn) (subst (HaveRoom (length places)) (sym sn)

@@ -1,6 +1,7 @@
 -- What was kept of the first runs of a layer.
 use Rattle.std.specs.Prelude.{◌≡◌, ◌++◌, ℕ, suc, ◌<◌, ◌≤◌, true, false, List, [], ◌∷◌, All, length, map, slice_index_or}
 use Rattle.std.specs.Global.{Vec}
+use Rattle.smallvec.specs.SmallVec.{SmallVec}
 use Rattle.std.specs.List.{list_any}
 use Rattle.field_boxes.specs.Fields.{greatest_of}
 use Rattle.node_store.specs.declared.edge.NodeId.{NodeId}
@@ -21,8 +22,8 @@ abbrev pub placed_by : List ℕ → List NodeId → Stretch → Placed
 placed_by places after s = record { span = s.span; to = node_at after (slice_index_or places s.place 0) }
 
 -- the places of the stretches are below the number
-abbrev pub HaveRoom : ℕ → List (Vec Stretch) → Type 0
-HaveRoom count lists = All (λ (own : Vec Stretch). All (λ (s : Stretch). s.place < count) own.items) lists
+abbrev pub HaveRoom : ℕ → List (SmallVec Stretch) → Type 0
+HaveRoom count lists = All (λ (own : SmallVec Stretch). All (λ (s : Stretch). s.place < count) own.items) lists
 
 -- what a change says of a context
 abbrev pub placed_in : Change → ℕ → List Placed
@@ -38,12 +39,12 @@ abbrev pub leads_of : List Node → List Pair → List Change → ℕ → ℕ �
 leads_of nodes pairs changes c v = led (placed_for changes c) (edges_of nodes (pair_at pairs c).after.0) v
 
 -- the change says of each context that its stretches lead to what is answered at their places
-pub record IsChange (lists : List (Vec Stretch)) (places : List ℕ) (after : List NodeId) (change : Change) : Type 0 where
+pub record IsChange (lists : List (SmallVec Stretch)) (places : List ℕ) (after : List NodeId) (change : Change) : Type 0 where
   pub count : length change.placed.items ≡ length lists
   pub each : (c : ℕ) → c < length lists → placed_in change c ≡ map (placed_by places after) (stretches_at lists c)
 
 -- a run more was taken in: where nothing of it is kept there is no change
-pub record IsTakenIn (old : Draft) (lists : List (Vec Stretch)) (places : List ℕ) (inner : Sifted) (new : Draft) : Type 0 where
+pub record IsTakenIn (old : Draft) (lists : List (SmallVec Stretch)) (places : List ℕ) (inner : Sifted) (new : Draft) : Type 0 where
   pub kept : new.kept.items ≡ old.kept.items ++ inner.kept.items
   pub same : list_any (λ b. b) inner.kept.items ≡ false → new.changes.items ≡ old.changes.items
   pub more : list_any (λ b. b) inner.kept.items ≡ true → (change : Change) × (new.changes.items ≡ old.changes.items ++ change ∷ []) × IsChange lists places inner.after.items change

@@ -1,6 +1,6 @@
 -- Stretches of a span that lead to pairs of nodes.
 use Rattle.std.specs.Prelude.{◌≡◌, ℕ, suc, ◌<◌, true, List, [], ◌∷◌, All, length, map, nat_le, if◌then◌else◌, slice_index_or}
-use Rattle.std.specs.Global.{Vec}
+use Rattle.smallvec.specs.SmallVec.{SmallVec}
 use Rattle.field_boxes.specs.Classifier.{Interval, interval_holds}
 use Rattle.node_store.specs.declared.split.Part.{Part}
 use Rattle.node_store.specs.Diagram.{Node}
@@ -29,8 +29,8 @@ FillSpan lo hi [] = lo ≡ suc hi
 FillSpan lo hi (s ∷ ss) = (s.span.lo ≡ lo) × FillSpan (suc s.span.hi) hi ss
 
 -- the stretches of a context
-abbrev pub stretches_at : List (Vec Stretch) → ℕ → List Stretch
-stretches_at lists c = slice_index_or (map (λ (own : Vec Stretch). own.items) lists) c []
+abbrev pub stretches_at : List (SmallVec Stretch) → ℕ → List Stretch
+stretches_at lists c = slice_index_or (map (λ (own : SmallVec Stretch). own.items) lists) c []
 
 -- the stretches fill the span, and the pairs at their places are those to which the pair leads there
 pub record IsListed (nodes : List Node) (span : Interval) (pair : Pair) (lower : List Pair) (own : List Stretch) : Type 0 where
@@ -39,7 +39,7 @@ pub record IsListed (nodes : List Node) (span : Interval) (pair : Pair) (lower :
   pub leads : (v : ℕ) → interval_holds v span ≡ true → (stretch_at own v < length lower) × (pair_at lower (stretch_at own v) ≡ pair_below nodes v pair)
 
 -- so are the stretches of the first so many contexts, and the list has no other pairs
-pub record AreListed (nodes : List Node) (span : Interval) (pairs : List Pair) (count : ℕ) (lower : List Pair) (lists : List (Vec Stretch)) : Type 0 where
+pub record AreListed (nodes : List Node) (span : Interval) (pairs : List Pair) (count : ℕ) (lower : List Pair) (lists : List (SmallVec Stretch)) : Type 0 where
   pub number : length lists ≡ count
   pub each : (c : ℕ) → c < count → IsListed nodes span (pair_at pairs c) lower (stretches_at lists c)
   pub reached : (d : ℕ) → d < length lower → (c : ℕ) × (v : ℕ) × (c < count) × (interval_holds v span ≡ true) × (pair_at lower d ≡ pair_below nodes v (pair_at pairs c))

@@ -5,10 +5,12 @@ ghost use Rattle.node_store.specs.Store.{Grows};
 ghost use Rattle.field_sift.specs.Sifted.{ArePairs, IsBehind, node_at, pair_at};
 
 use crate::block::Cover;
+use crate::contexts::Contexts;
 use crate::sets::Sets;
 use field_sift::Pair;
 use node_store::NodeId;
 use razor_base::Memory;
+use smallvec::SmallVec;
 use std::alloc::Global;
 
 /// The contexts of a block that stands after entries with this cover.
@@ -17,7 +19,7 @@ pub(crate) fn behind_cover(
     sets: &mut Sets,
     cover: Cover,
     contexts: &[Pair],
-) -> Result<Vec<Pair>, Memory>
+) -> Result<Contexts, Memory>
     requires within { cover.level ≤ 5 }
     requires cover { level_of sets.old cover.set.0 ≡ cover.level }
     requires contexts { ArePairs sets.old cover.level contexts.now }
@@ -26,7 +28,7 @@ pub(crate) fn behind_cover(
     ensures each { IfOk result (λ pairs. (c : ℕ) → c < length contexts.now → IsBehind sets.new cover.level cover.set (pair_at contexts.now c) (pair_at pairs.items c)) }
     ensures grows { Grows sets.old sets.new }
 {
-    let mut pairs = Vec::with_capacity(alloc, contexts.len())?;
+    let mut pairs = SmallVec::with_capacity(alloc, contexts.len())?;
     for pair in contexts {
         let met = sets.union(cover.level, pair.met, cover.set)?;
         pairs.push(Pair {
@@ -42,13 +44,13 @@ pub(crate) fn before_answers(
     alloc: Global,
     contexts: &[Pair],
     answers: &[NodeId],
-) -> Result<Vec<Pair>, Memory>
+) -> Result<Contexts, Memory>
     requires { length answers.now ≡ length contexts.now }
     ensures count { IfOk result (λ pairs. length pairs.items ≡ length contexts.now) }
     ensures after { IfOk result (λ pairs. (c : ℕ) → c < length contexts.now → (pair_at pairs.items c).after ≡ node_at answers.now c) }
     ensures met { IfOk result (λ pairs. (c : ℕ) → c < length contexts.now → (pair_at pairs.items c).met ≡ (pair_at contexts.now c).met) }
 {
-    let mut pairs = Vec::with_capacity(alloc, contexts.len())?;
+    let mut pairs = SmallVec::with_capacity(alloc, contexts.len())?;
     for (place, pair) in contexts.iter().enumerate() {
         pairs.push(Pair {
             after: answers[place],

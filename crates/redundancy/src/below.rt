@@ -7,11 +7,13 @@ ghost use Rattle.field_sets.specs.Fill.{Fill};
 ghost use Rattle.field_sift.specs.Sifted.{ArePairs};
 ghost use Rattle.redundancy.specs.Stretches.{AreStretches, AreListed, pair_of};
 
+use crate::contexts::Contexts;
 use crate::sets::Sets;
 use field_boxes::Span;
 use field_sift::Pair;
 use node_store::Part;
 use razor_base::Memory;
+use smallvec::SmallVec;
 use std::alloc::Global;
 
 /// Values of a field that lead to one pair of nodes, and the place of the pair in a list.
@@ -21,11 +23,21 @@ pub(crate) struct Stretch {
     pub place: usize,
 }
 
+impl Default for Stretch {
+    fn default() -> Self {
+        let span = Span { lo: 0, hi: 0 };
+        Stretch { span, place: 0 }
+    }
+}
+
+/// The stretches of one context.
+pub(crate) type Stretches = SmallVec<Stretch, 2>;
+
 /// The pairs to which the contexts lead inside a span, and for each context the stretches of the span.
 #[derive(Drop)]
 pub(crate) struct Below {
-    pub pairs: Vec<Pair>,
-    pub stretches: Vec<Vec<Stretch>>,
+    pub pairs: Contexts,
+    pub stretches: SmallVec<Stretches, 1>,
 }
 
 /// The pairs to which the contexts of the level lead inside the span.
@@ -42,8 +54,8 @@ pub(crate) fn listed_below(
     ensures { IfOk result (λ b. AreListed sets.now (interval_of span) contexts.now (length contexts.now) b.pairs.items b.stretches.items) }
 {
     let _level = level;
-    let mut pairs = Vec::with_capacity(alloc, contexts.len())?;
-    let mut stretches = Vec::with_capacity(alloc, contexts.len())?;
+    let mut pairs = SmallVec::new(alloc);
+    let mut stretches = SmallVec::with_capacity(alloc, contexts.len())?;
     for pair in contexts {
         let parts = sets.parts(pair.after, pair.met, span)?;
         let own = stretches_of(alloc, &mut pairs, span, parts.as_slice())?;
@@ -55,15 +67,15 @@ pub(crate) fn listed_below(
 /// The stretches of one context by the parts of the span; the list gains a pair for each.
 fn stretches_of(
     alloc: Global,
-    pairs: &mut Vec<Pair>,
+    pairs: &mut Contexts,
     span: Span,
     parts: &[Part],
-) -> Result<Vec<Stretch>, Memory>
+) -> Result<Stretches, Memory>
     requires { Fill span.lo span.hi (map to_left parts.now) }
     ensures stretches { IfOk result (λ own. AreStretches span.lo (length pairs.old.items) parts.now own.items) }
     ensures pairs { OnOk result (pairs.new.items ≡ pairs.old.items ++ map pair_of parts.now) }
 {
-    let mut own = Vec::with_capacity(alloc, parts.len())?;
+    let mut own = SmallVec::with_capacity(alloc, parts.len())?;
     let mut lo = span.lo;
     for part in parts {
         own.push(Stretch {

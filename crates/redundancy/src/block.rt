@@ -10,6 +10,13 @@ pub struct Run {
     pub block: usize,
 }
 
+impl Default for Run {
+    fn default() -> Self {
+        let span = Span { lo: 0, hi: 0 };
+        Run { span, block: 0 }
+    }
+}
+
 /// A list of entries over the fields from a level on.
 ///
 /// Blocks have numbers, and lead to blocks of smaller numbers.

@@ -2,9 +2,11 @@
 ghost use Rattle.std.specs.Prelude.{◌≡◌, ◌⊎◌, ◌∷◌, ◌++◌, [], true, Some, slice_get, IfOk, IfSome, OnOk};
 ghost use Rattle.field_sift.specs.Sifted.{AreDistinct};
 
+use crate::contexts::Contexts;
 use field_sift::Pair;
 use indexmap::IndexSet;
 use razor_base::Memory;
+use smallvec::SmallVec;
 use std::alloc::Global;
 
 /// As many pairs are compared one by one; with more a set is asked.
@@ -13,8 +15,8 @@ const FEW: usize = 16;
 /// Each pair of a list once, and for each place of the list where its pair is.
 #[derive(Drop)]
 pub(crate) struct Distinct {
-    pub pairs: Vec<Pair>,
-    pub places: Vec<usize>,
+    pub pairs: Contexts,
+    pub places: SmallVec<usize, 2>,
 }
 
 impl Distinct {
@@ -35,8 +37,8 @@ impl Distinct {
     fn of_few(alloc: Global, list: &[Pair]) -> Result<Distinct, Memory>
         ensures { IfOk result (λ d. AreDistinct list.now d.pairs.items d.places.items) }
     {
-        let mut pairs = Vec::with_capacity(alloc, list.len())?;
-        let mut places = Vec::with_capacity(alloc, list.len())?;
+        let mut pairs = SmallVec::new(alloc);
+        let mut places = SmallVec::with_capacity(alloc, list.len())?;
         for pair in list {
             let place = place_among(&mut pairs, *pair)?;
             places.push(place)?;
@@ -49,18 +51,18 @@ impl Distinct {
         ensures { IfOk result (λ d. AreDistinct list.now d.pairs.items d.places.items) }
     {
         let mut pairs = IndexSet::new(alloc);
-        let mut places = Vec::with_capacity(alloc, list.len())?;
+        let mut places = SmallVec::with_capacity(alloc, list.len())?;
         for pair in list {
             let place = place_in(&mut pairs, *pair)?;
             places.push(place)?;
         }
-        let own = pairs.as_slice().to_vec(alloc)?;
+        let own = SmallVec::from_slice(alloc, pairs.as_slice())?;
         Ok(Distinct { pairs: own, places })
     }
 }
 
 /// The place of the pair, which the list gains where it isn't there.
-fn place_among(pairs: &mut Vec<Pair>, pair: Pair) -> Result<usize, Memory>
+fn place_among(pairs: &mut Contexts, pair: Pair) -> Result<usize, Memory>
     ensures found { IfOk result (λ place. slice_get pairs.new.items place ≡ Some pair) }
     ensures keys { OnOk result ((pairs.new.items ≡ pairs.old.items) ⊎ (pairs.new.items ≡ pairs.old.items ++ pair ∷ [])) }
 {

@@ -3,7 +3,7 @@ ghost use Rattle.std.specs.Prelude.{◌≡◌, ◌<◌, ◌++◌, ◌∷◌, [],
 ghost use Rattle.std.specs.List.{list_any};
 ghost use Rattle.redundancy.specs.Drafts.{placed_by, IsChange, IsTakenIn, HaveRoom};
 
-use crate::below::Stretch;
+use crate::below::{Stretch, Stretches};
 use field_sets::Placed;
 use field_sift::Sifted;
 use node_store::NodeId;
@@ -27,7 +27,7 @@ pub(crate) struct Draft {
 pub(crate) fn take_in(
     alloc: Global,
     draft: &mut Draft,
-    stretches: &[Vec<Stretch>],
+    stretches: &[Stretches],
     places: &[usize],
     inner: &Sifted,
 ) -> Result<(), Memory>
@@ -53,7 +53,7 @@ fn is_some_kept(kept: &[bool]) -> bool
 /// Where each context leads on inside a run: for its stretches what is answered at the places of their pairs.
 fn change_of(
     alloc: Global,
-    stretches: &[Vec<Stretch>],
+    stretches: &[Stretches],
     places: &[usize],
     after: &[NodeId],
 ) -> Result<Change, Memory>

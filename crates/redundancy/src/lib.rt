@@ -30,6 +30,7 @@ mod below;
 mod block;
 mod blocks;
 mod building;
+mod contexts;
 mod distinct;
 mod draft;
 mod finishing;

@@ -1,6 +1,7 @@
 //! What was worked out of blocks before.
 
-use field_sift::{Pair, Sifted};
+use crate::contexts::Contexts;
+use field_sift::Sifted;
 use razor_base::Memory;
 use std::alloc::Global;
 use std::collections::HashMap;
@@ -9,7 +10,7 @@ use std::collections::HashMap;
 #[derive(Debug, PartialEq, Eq, Hash, Drop)]
 pub(crate) struct Asked {
     pub number: usize,
-    pub contexts: Vec<Pair>,
+    pub contexts: Contexts,
 }
 
 /// What was kept of blocks for some contexts.
@@ -19,7 +20,7 @@ pub struct Memo {
 }
 
 impl Memo {
-    ghost use Rattle.std.specs.Prelude.{◌≡◌, ℕ, List, IfOk, IfSome, OnOk};
+    ghost use Rattle.std.specs.Prelude.{List, IfSome, OnOk};
     ghost use Rattle.node_store.specs.Diagram.{Node};
     ghost use Rattle.redundancy.specs.declared.blocks.Blocks.{Blocks};
     ghost use Rattle.redundancy.specs.Remembered.{IsMemo, IsAnswered};
@@ -33,55 +34,20 @@ impl Memo {
         }
     }
 
-    /// A copy of what was kept of the block for these contexts, if it was worked out.
-    pub(crate) fn get(
-        &self,
-        alloc: Global,
-        number: usize,
-        contexts: &[Pair],
-    ) -> Result<Option<Sifted>, Memory>
+    /// What was kept of the block for these contexts, if it was worked out.
+    pub(crate) fn get(&self, asked: &Asked) -> Option<&Sifted>
         ensures { (nodes : List Node) (blocks : Blocks) → IsMemo nodes blocks self.now →
-            IfOk result (λ known. IfSome known (λ s. IsAnswered nodes blocks number contexts.now s)) }
+            IfSome result (λ s. IsAnswered nodes blocks asked.now.number asked.now.contexts.items s.now) }
     {
-        let asked = Asked {
-            number,
-            contexts: contexts.to_vec(alloc)?,
-        };
-        match self.done.get(&asked) {
-            Some(sifted) => Ok(Some(copy_of(alloc, sifted)?)),
-            None => Ok(None),
-        }
+        self.done.get(asked)
     }
 
-    /// Keeps a copy of what was kept of the block for these contexts.
-    pub(crate) fn keep(
-        &mut self,
-        alloc: Global,
-        number: usize,
-        contexts: &[Pair],
-        sifted: &Sifted,
-    ) -> Result<(), Memory>
+    /// Keeps what was kept of the block for these contexts.
+    pub(crate) fn keep(&mut self, asked: Asked, sifted: Sifted) -> Result<(), Memory>
         ensures { (nodes : List Node) (blocks : Blocks) → IsMemo nodes blocks self.old →
-            IsAnswered nodes blocks number contexts.now sifted.now → OnOk result (IsMemo nodes blocks self.new) }
+            IsAnswered nodes blocks asked.number asked.contexts.items sifted → OnOk result (IsMemo nodes blocks self.new) }
     {
-        let asked = Asked {
-            number,
-            contexts: contexts.to_vec(alloc)?,
-        };
-        let copy = copy_of(alloc, sifted)?;
-        self.done.insert(asked, copy)?;
+        self.done.insert(asked, sifted)?;
         Ok(())
     }
-}
-
-ghost use Rattle.std.specs.Prelude.{◌≡◌, IfOk};
-
-/// The same flags and answers.
-fn copy_of(alloc: Global, sifted: &Sifted) -> Result<Sifted, Memory>
-    ensures kept { IfOk result (λ s. s.kept.items ≡ sifted.now.kept.items) }
-    ensures after { IfOk result (λ s. s.after.items ≡ sifted.now.after.items) }
-{
-    let kept = sifted.kept.as_slice().to_vec(alloc)?;
-    let after = sifted.after.as_slice().to_vec(alloc)?;
-    Ok(Sifted { kept, after })
 }

@@ -8,7 +8,7 @@ use crate::distinct::Distinct;
 use crate::draft::{Draft, take_in};
 use crate::finishing::finished;
 use crate::last::last;
-use crate::memo::Memo;
+use crate::memo::{Asked, Memo};
 use crate::sets::Sets;
 use field_sift::{Pair, Sifted};
 use razor_base::Memory;
@@ -68,32 +68,6 @@ impl Blocks {
                 Ok(sifted)
             }
         }
-    }
-
-    /// The same of a run's block: it is gone through once for the same contexts.
-    #[cycle(sift)]
-    fn sift_once(
-        &self,
-        alloc: Global,
-        sets: &mut Sets,
-        memo: &mut Memo,
-        number: usize,
-        contexts: &[Pair],
-    ) -> Result<Sifted, Memory>
-        requires blocks { IsBlocks sets.old self.now }
-        requires memo { IsMemo sets.old self.now memo.old }
-        requires number { number < length self.now.blocks.items }
-        requires contexts { ArePairs sets.old (cover_at self.now.covers.items number).level contexts.now }
-        ensures sifted { IfOk result (λ s. IsSifted sets.new (cover_at self.now.covers.items number).level (rows_of self.now.blocks.items number) contexts.now s) }
-        ensures memo { OnOk result (IsMemo sets.new self.now memo.new) }
-        ensures grows { Grows sets.old sets.new }
-    {
-        if let Some(known) = memo.get(alloc, number, contexts)? {
-            return Ok(known);
-        }
-        let sifted = self.sift(alloc, sets, memo, number, contexts)?;
-        memo.keep(alloc, number, contexts, &sifted)?;
-        Ok(sifted)
     }
 
     /// What is kept of two blocks, one after the other.
@@ -162,7 +136,7 @@ impl Blocks {
         Ok(Sifted { kept, after })
     }
 
-    /// Takes what is kept of a run into the draft of those before it.
+    /// Takes what is kept of a run into the draft of those before it: its block is gone through once for the same contexts.
     #[cycle(sift)]
     fn sift_run(
         &self,
@@ -189,13 +163,17 @@ impl Blocks {
         sets.is_store();
         let below = listed_below(alloc, sets, level, run.span, contexts)?;
         let distinct = Distinct::of(alloc, below.pairs.as_slice())?;
-        let inner = self.sift_once(alloc, sets, memo, run.block, distinct.pairs.as_slice())?;
-        take_in(
-            alloc,
-            draft,
-            below.stretches.as_slice(),
-            distinct.places.as_slice(),
-            &inner,
-        )
+        let Distinct { pairs, places } = distinct;
+        let stretches = below.stretches.as_slice();
+        let asked = Asked {
+            number: run.block,
+            contexts: pairs,
+        };
+        if let Some(known) = memo.get(&asked) {
+            return take_in(alloc, draft, stretches, places.as_slice(), known);
+        }
+        let inner = self.sift(alloc, sets, memo, run.block, asked.contexts.as_slice())?;
+        take_in(alloc, draft, stretches, places.as_slice(), &inner)?;
+        memo.keep(asked, inner)
     }
 }

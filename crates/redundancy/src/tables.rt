@@ -6,6 +6,7 @@ use crate::lists::{Item, Lists, Piece, decision_of};
 use crate::runs::first_run;
 use crate::sets::Sets;
 use razor_base::Memory;
+use smallvec::SmallVec;
 use std::alloc::Global;
 use ternary_words::Entry;
 
@@ -13,7 +14,7 @@ use ternary_words::Entry;
 #[derive(Drop)]
 pub(crate) struct Gathered {
     pub list: Option<usize>,
-    pub runs: Vec<Run>,
+    pub runs: SmallVec<Run, 4>,
 }
 
 impl Blocks {
@@ -92,7 +93,7 @@ impl Blocks {
         requires level { level < 5 }
         ensures { IfOk result (λ g. AreGathered sets.old sets.new self.old self.new lists.old lists.new level (map (row_at level) entries.now) g.list g.runs.items) }
     {
-        let mut runs = Vec::new(alloc);
+        let mut runs = SmallVec::new(alloc);
         let mut list = None;
         let mut rest = entries;
         'runs: while let Some(first) = first_run(rest, level) {

@@ -1,4 +1,4 @@
-use Rattle.std.proofs.Common.{◌≡◌, ◌∷◌, length, refl, rules, arith}
+use Rattle.std.proofs.Common.{◌≡◌, length, refl, rules, arith}
 use Rattle.node_store.specs.declared.split.Part.{Part}
 use Rattle.redundancy.proofs.Listing.{next_part, stretch_next}
 use Rattle.redundancy.proofs.below.stretches_of.Goals as goal
@@ -20,5 +20,5 @@ loop-part-preserved c =
     let place : c.len.result ≡ length c.loop-part.pairs.items = search rules in
     let p = stretch_next c.args.span.lo c.args.span.hi (length c.args.pairs.now.items) c.loop-part.part-index c.args.parts.now no_part c.args.pairs.now.items c.loop-part.pairs.items c.push-in-loop-part.new.self.items
     c.loop-part.own.items c.push.new.self.items _ c.loop-part.lo c.saturating_add-lo.result c.requires (omega (arith, less)) i.own refl i.pairs (i.lo (omega (arith, less))) refl refl place
-    c.in_ok-push.ensures.items c.in_ok-push-2.ensures.items (λ small. omega (arith, c.saturating_add-lo.ensures, small)) in
+    c.in_ok-push.ensures.ok c.in_ok-push-2.ensures.ok (λ small. omega (arith, c.saturating_add-lo.ensures, small)) in
     record { own = p.0; pairs = p.1; lo = p.2 }

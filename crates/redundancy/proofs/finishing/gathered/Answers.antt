@@ -1,4 +1,4 @@
-use Rattle.std.proofs.Common.{◌≡◌, arith, ap, ◌∙◌, get_or}
+use Rattle.std.proofs.Common.{arith, ap, ◌∙◌, get_or}
 use Rattle.std.specs.Global.{Vec}
 use Rattle.field_sets.specs.declared.placed.Placed.{Placed}
 use Rattle.redundancy.specs.declared.draft.Change.{Change}

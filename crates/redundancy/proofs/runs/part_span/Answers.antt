@@ -1,4 +1,4 @@
-use Rattle.std.proofs.Common.{◌≤◌, ◌/◌, ◌%◌, ◌^◌, arith}
+use Rattle.std.proofs.Common.{◌/◌, ◌%◌, ◌^◌, arith}
 use Rattle.std.proofs.lemmas.Nat.{and_le_r}
 use Rattle.ternary_words.proofs.Parted.{part_within}
 use Rattle.redundancy.proofs.runs.part_span.Goals as goal

@@ -31,7 +31,7 @@ gather-runs-preserved t c =
       gathered_more c.args.sets.now l.sets c.of.new.sets c.args.self.now l.self c.of.new.self c.args.lists.now l.lists c.of.new.lists c.with.new.self c.args.level (c.args.level + 1) done rows l.list c.in_ok-place.place
           l.runs.items c.push.new.self.items (record { span = first.span; block = c.in_ok-block.block }) _ (omega arith) g c.in_ok-block.ensures.built c.in_ok-block.ensures.lists
           (c.in_ok-place.ensures c.of.new.self c.in_ok-block.ensures.lists.lists
-          (before_more (length l.lists.links.keys) (length c.of.new.lists.links.keys) l.list c.in_ok-block.ensures.lists.count g.within) c.in_ok-block.ensures.built.number_in) refl refl c.in-Some.ensures.inside c.in_ok-push.ensures.items,
+          (before_more (length l.lists.links.keys) (length c.of.new.lists.links.keys) l.list c.in_ok-block.ensures.lists.count g.within) c.in_ok-block.ensures.built.number_in) refl refl c.in-Some.ensures.inside c.in_ok-push.ensures.ok,
     )
 
 pub of_fields-returns-clause-lists : goal.of_fields-returns-clause-lists
@@ -41,4 +41,4 @@ of_fields-returns-clause-lists t c =
     let slice = c.as_slice.result.now in
     let of = rows_of c.gather.new.self.blocks.items in
     list_kept c.args.sets.now c.gather.new.sets c.of_runs.new.sets c.args.self.now c.gather.new.self c.of_runs.new.self c.args.lists.now c.gather.new.lists c.keep_list.new.self c.args.level rows (rows_of_runs (map (run_by of) slice))
-    c.in_ok-gathered.gathered.list c.in_ok-number.number g.lists_grow g.within g.list_is c.in_ok-number.ensures (ap (λ (rs : List Run). rows_of_runs (map (run_by of) rs)) c.as_slice.ensures.value ∙ g.runs_are) c.keep_list.ensures
+    c.in_ok-gathered.gathered.list c.in_ok-number.number g.lists_grow g.within g.list_is c.in_ok-number.ensures (ap (λ (rs : List Run). rows_of_runs (map (run_by of) rs)) c.as_slice.ensures ∙ g.runs_are) c.keep_list.ensures

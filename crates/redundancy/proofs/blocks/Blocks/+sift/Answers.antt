@@ -1,13 +1,14 @@
-use Rattle.std.proofs.Common.{◌≡◌, ◌∷◌, ◌++◌, ◌+◌, ◌-◌, ◌<◌, ◌≤◌, [], ap, arith, refl, sym, ◌∙◌, subst, take, length}
+use Rattle.std.proofs.Common.{◌≡◌, ◌∷◌, ◌++◌, ◌<◌, ◌≤◌, [], ap, arith, refl, sym, ◌∙◌, subst, take, length}
 use Rattle.std.specs.HashMap.{get}
-use Rattle.std.specs.Prelude.{All, Some, map, slice_get, IfSome}
+use Rattle.std.specs.Prelude.{All, Some, map, IfSome}
 use Rattle.std.proofs.lemmas.Option.{slice_get-get_or}
 use Rattle.std.proofs.lemmas.Result.{on_ok_weaker}
+use Rattle.razor_base.proofs.Streams.{on_ok}
 use Rattle.node_store.specs.Diagram.{level_of}
 use Rattle.node_store.proofs.Growth.{stays, twice}
 use Rattle.field_sift.specs.Rows.{last_row}
 use Rattle.field_sift.specs.Layers.{rows_of_runs, end_of}
-use Rattle.field_sift.specs.Sifted.{ArePairs, node_at}
+use Rattle.field_sift.specs.Sifted.{ArePairs, IsSifted, node_at}
 use Rattle.field_sift.proofs.Kept.{pairs-stay}
 use Rattle.redundancy.specs.declared.block.Block.TheVariants.{Last, Layer, Two}
 use Rattle.redundancy.specs.declared.block.Cover.{Cover}
@@ -171,25 +172,8 @@ pub sift_layer-returns-clause-memo : goal.sift_layer-returns-clause-memo
 sift_layer-returns-clause-memo t c =
     memo_stays c.loop-run.sets c.finished.new.sets c.args.self.now (λ q. get same_asked c.loop-run.memo.done q) c.in_ok-after.ensures.grows c.loop-run.invariant.memo
 
-pub sift_once-sift-requires : goal.sift_once-sift-requires
-sift_once-sift-requires t c = (omega (arith, c.decreases), (c.requires.blocks, (c.requires.memo, (c.requires.number, c.requires.contexts))))
-
-pub sift_once-returns-in-Some-clause-sifted : goal.sift_once-returns-in-Some-clause-sifted
-sift_once-returns-in-Some-clause-sifted t c =
-    (subst (λ k. IfSome k (λ s. IsAnswered c.args.sets.now c.args.self.now c.args.number c.args.contexts.now s)) c.in-Some.is (c.in_ok-known.ensures c.args.sets.now c.args.self.now c.requires.memo)).sifted
-
-pub sift_once-returns-clause-memo : goal.sift_once-returns-clause-memo
-sift_once-returns-clause-memo t c =
-    let within = (c.requires.blocks.covered c.args.number c.requires.number).within in
-    c.in_ok-keep.ensures c.sift.new.sets c.args.self.now c.in_ok-sifted.ensures.memo
-    (record {
-      within = within;
-      contexts = pairs-stay c.args.sets.now c.sift.new.sets (cover_at c.args.self.now.covers.items c.args.number).level c.args.contexts.now within c.in_ok-sifted.ensures.grows c.requires.contexts;
-      sifted = c.in_ok-sifted.ensures.sifted;
-    })
-
-pub sift_run-sift_once-requires : goal.sift_run-sift_once-requires
-sift_run-sift_once-requires t c = (
+pub sift_run-sift-requires : goal.sift_run-sift-requires
+sift_run-sift-requires t c = (
   omega (arith, c.decreases),
   (
     c.requires.blocks,
@@ -199,7 +183,7 @@ sift_run-sift_once-requires t c = (
         c.requires.block,
         keys_pairs c.args.sets.now c.args.level (cover_at c.args.self.now.covers.items c.args.run.block).level c.args.run.span c.args.contexts.now c.in_ok-below.below.pairs.items c.as_slice.result.now
             c.in_ok-distinct.distinct.pairs.items c.as_slice-2.result.now c.in_ok-below.below.stretches.items c.in_ok-distinct.distinct.places.items c.is_store.ensures c.requires.level c.requires.next c.requires.contexts
-            c.requires.inside c.in_ok-below.ensures c.as_slice.ensures.value c.in_ok-distinct.ensures c.as_slice-2.ensures.value,
+            c.requires.inside c.in_ok-below.ensures c.as_slice.ensures c.in_ok-distinct.ensures c.as_slice-2.ensures,
       ),
     ),
   ),
@@ -207,23 +191,59 @@ sift_run-sift_once-requires t c = (
 
 pub sift_run-take_in-requires-clause-stretches : goal.sift_run-take_in-requires-clause-stretches
 sift_run-take_in-requires-clause-stretches t c =
-    lists_room c.args.sets.now c.args.run.span c.args.contexts.now c.in_ok-below.below.pairs.items c.as_slice.result.now c.in_ok-distinct.distinct.pairs.items c.in_ok-below.below.stretches.items c.as_slice-3.result.now
-    c.in_ok-distinct.distinct.places.items c.as_slice-4.result.now c.as_slice.ensures.value c.as_slice-3.ensures.value c.as_slice-4.ensures.value c.in_ok-below.ensures c.in_ok-distinct.ensures
+    lists_room c.args.sets.now c.args.run.span c.args.contexts.now c.in_ok-below.below.pairs.items c.as_slice.result.now c.in_ok-distinct.distinct.pairs.items c.in_ok-below.below.stretches.items c.as_slice-stretches.result.now
+    c.in_ok-distinct.distinct.places.items c.as_slice-in-Some.result.now c.as_slice.ensures c.as_slice-stretches.ensures c.as_slice-in-Some.ensures c.in_ok-below.ensures c.in_ok-distinct.ensures
 
 pub sift_run-take_in-requires-clause-places : goal.sift_run-take_in-requires-clause-places
 sift_run-take_in-requires-clause-places t c =
-    answers_room c.sift_once.new.sets (cover_at c.args.self.now.covers.items c.args.run.block).level (rows_of c.args.self.now.blocks.items c.args.run.block) c.as_slice.result.now c.in_ok-distinct.distinct.pairs.items
-    c.as_slice-2.result.now c.in_ok-distinct.distinct.places.items c.as_slice-4.result.now c.in_ok-inner.inner c.as_slice-2.ensures.value c.as_slice-4.ensures.value c.in_ok-distinct.ensures c.in_ok-inner.ensures.sifted
+    let found = subst (λ k. IfSome k (λ s. IsAnswered c.args.sets.now c.args.self.now c.args.run.block c.in_ok-distinct.distinct.pairs.items s.now)) c.in-Some.is (c.get.ensures c.args.sets.now c.args.self.now c.requires.memo) in
+    answers_room c.args.sets.now (cover_at c.args.self.now.covers.items c.args.run.block).level (rows_of c.args.self.now.blocks.items c.args.run.block) c.as_slice.result.now c.in_ok-distinct.distinct.pairs.items
+    c.in_ok-distinct.distinct.pairs.items c.in_ok-distinct.distinct.places.items c.as_slice-in-Some.result.now c.in-Some.known.now refl c.as_slice-in-Some.ensures c.in_ok-distinct.ensures found.sifted
+
+pub sift_run-returns-in-Some-clause-draft : goal.sift_run-returns-in-Some-clause-draft
+sift_run-returns-in-Some-clause-draft t c = λ base rows next above apart draft.
+    let found = subst (λ k. IfSome k (λ s. IsAnswered c.args.sets.now c.args.self.now c.args.run.block c.in_ok-distinct.distinct.pairs.items s.now)) c.in-Some.is (c.get.ensures c.args.sets.now c.args.self.now c.requires.memo) in
+    on_ok_weaker c.take_in.result
+    (λ taken.
+    run_clause base c.args.sets.now c.args.sets.now c.args.level (cover_at c.args.self.now.covers.items c.args.run.block).level rows (rows_of c.args.self.now.blocks.items c.args.run.block) c.args.contexts.now
+    c.in_ok-below.below.pairs.items c.as_slice.result.now c.in_ok-distinct.distinct.pairs.items c.in_ok-distinct.distinct.pairs.items next c.args.run.span c.in_ok-below.below.stretches.items c.as_slice-stretches.result.now
+    c.in_ok-distinct.distinct.places.items c.as_slice-in-Some.result.now c.in-Some.known.now c.args.draft.now c.take_in.new.draft c.requires.next c.as_slice.ensures refl c.as_slice-stretches.ensures
+    c.as_slice-in-Some.ensures c.requires.level (stays c.args.sets.now) c.requires.contexts c.requires.inside c.in_ok-below.ensures c.in_ok-distinct.ensures found.sifted above apart draft taken)
+    c.take_in.ensures
+
+pub sift_run-take_in-requires-2-clause-stretches : goal.sift_run-take_in-requires-2-clause-stretches
+sift_run-take_in-requires-2-clause-stretches t c =
+    lists_room c.args.sets.now c.args.run.span c.args.contexts.now c.in_ok-below.below.pairs.items c.as_slice.result.now c.in_ok-distinct.distinct.pairs.items c.in_ok-below.below.stretches.items c.as_slice-stretches.result.now
+    c.in_ok-distinct.distinct.places.items c.as_slice-3.result.now c.as_slice.ensures c.as_slice-stretches.ensures c.as_slice-3.ensures c.in_ok-below.ensures c.in_ok-distinct.ensures
+
+pub sift_run-take_in-requires-2-clause-places : goal.sift_run-take_in-requires-2-clause-places
+sift_run-take_in-requires-2-clause-places t c =
+    answers_room c.sift.new.sets (cover_at c.args.self.now.covers.items c.args.run.block).level (rows_of c.args.self.now.blocks.items c.args.run.block) c.as_slice.result.now c.in_ok-distinct.distinct.pairs.items
+    c.as_slice-2.result.now c.in_ok-distinct.distinct.places.items c.as_slice-3.result.now c.in_ok-inner.inner c.as_slice-2.ensures c.as_slice-3.ensures c.in_ok-distinct.ensures c.in_ok-inner.ensures.sifted
 
 pub sift_run-returns-clause-draft : goal.sift_run-returns-clause-draft
 sift_run-returns-clause-draft t c = λ base rows next above apart draft.
-    on_ok_weaker c.take_in.result
-    (λ taken.
-    run_clause base c.args.sets.now c.sift_once.new.sets c.args.level (cover_at c.args.self.now.covers.items c.args.run.block).level rows (rows_of c.args.self.now.blocks.items c.args.run.block) c.args.contexts.now
-    c.in_ok-below.below.pairs.items c.as_slice.result.now c.in_ok-distinct.distinct.pairs.items c.as_slice-2.result.now next c.args.run.span c.in_ok-below.below.stretches.items c.as_slice-3.result.now
-    c.in_ok-distinct.distinct.places.items c.as_slice-4.result.now c.in_ok-inner.inner c.args.draft.now c.take_in.new.draft c.requires.next c.as_slice.ensures.value c.as_slice-2.ensures.value c.as_slice-3.ensures.value
-    c.as_slice-4.ensures.value c.requires.level c.in_ok-inner.ensures.grows c.requires.contexts c.requires.inside c.in_ok-below.ensures c.in_ok-distinct.ensures c.in_ok-inner.ensures.sifted above apart draft taken)
-    c.take_in.ensures
+    on_ok c.keep.result
+    (run_clause base c.args.sets.now c.sift.new.sets c.args.level (cover_at c.args.self.now.covers.items c.args.run.block).level rows (rows_of c.args.self.now.blocks.items c.args.run.block) c.args.contexts.now
+    c.in_ok-below.below.pairs.items c.as_slice.result.now c.in_ok-distinct.distinct.pairs.items c.as_slice-2.result.now next c.args.run.span c.in_ok-below.below.stretches.items c.as_slice-stretches.result.now
+    c.in_ok-distinct.distinct.places.items c.as_slice-3.result.now c.in_ok-inner.inner c.args.draft.now c.take_in-2.new.draft c.requires.next c.as_slice.ensures c.as_slice-2.ensures c.as_slice-stretches.ensures
+    c.as_slice-3.ensures c.requires.level c.in_ok-inner.ensures.grows c.requires.contexts c.requires.inside c.in_ok-below.ensures c.in_ok-distinct.ensures c.in_ok-inner.ensures.sifted above apart draft c.in_ok-take_in.ensures)
+
+pub sift_run-returns-clause-memo : goal.sift_run-returns-clause-memo
+sift_run-returns-clause-memo t c =
+    let covers = c.args.self.now.covers.items in
+    let rows = rows_of c.args.self.now.blocks.items c.args.run.block in
+    let level = (cover_at covers c.args.run.block).level in
+    let within = (c.requires.blocks.covered c.args.run.block c.requires.block).within in
+    let asked = keys_pairs c.args.sets.now c.args.level level c.args.run.span c.args.contexts.now c.in_ok-below.below.pairs.items c.as_slice.result.now
+    c.in_ok-distinct.distinct.pairs.items c.in_ok-distinct.distinct.pairs.items c.in_ok-below.below.stretches.items c.in_ok-distinct.distinct.places.items c.is_store.ensures c.requires.level c.requires.next c.requires.contexts
+    c.requires.inside c.in_ok-below.ensures c.as_slice.ensures c.in_ok-distinct.ensures refl in
+    c.keep.ensures c.sift.new.sets c.args.self.now c.in_ok-inner.ensures.memo
+    (record {
+      within = within;
+      contexts = pairs-stay c.args.sets.now c.sift.new.sets level c.in_ok-distinct.distinct.pairs.items within c.in_ok-inner.ensures.grows asked;
+      sifted = subst (λ ps. IsSifted c.sift.new.sets level rows ps c.in_ok-inner.inner) c.as_slice-2.ensures c.in_ok-inner.ensures.sifted;
+    })
 
 pub sift_two-behind_cover-requires-clause-within : goal.sift_two-behind_cover-requires-clause-within
 sift_two-behind_cover-requires-clause-within t c = subst (λ (r : Cover). r.level ≤ 5) (sym c.cover.ensures) (c.requires.blocks.covered c.args.first c.requires.first).within
@@ -246,7 +266,7 @@ sift_two-sift-requires t c =
           memo_stays c.args.sets.now nodes c.args.self.now (λ q. get same_asked c.args.memo.now.done q) g c.requires.memo,
           (
             c.requires.second,
-            subst (ArePairs nodes (cover_at c.args.self.now.covers.items c.args.second).level) (sym c.as_slice.ensures.value)
+            subst (ArePairs nodes (cover_at c.args.self.now.covers.items c.args.second).level) (sym c.as_slice.ensures)
                 (subst (λ l. ArePairs nodes l c.in_ok-behind.behind.items) (ap (λ (r : Cover). r.level) c.cover.ensures ∙ sym c.requires.level) c.in_ok-behind.ensures.level),
           ),
         ),
@@ -255,7 +275,7 @@ sift_two-sift-requires t c =
 
 pub sift_two-before_answers-requires : goal.sift_two-before_answers-requires
 sift_two-before_answers-requires t c =
-    ap (λ ids. length ids) c.as_slice-2.ensures.value ∙ c.in_ok-later.ensures.sifted.count ∙ ap (λ ps. length ps) c.as_slice.ensures.value ∙ c.in_ok-behind.ensures.count
+    ap (λ ids. length ids) c.as_slice-2.ensures.value ∙ c.in_ok-later.ensures.sifted.count ∙ ap (λ ps. length ps) c.as_slice.ensures ∙ c.in_ok-behind.ensures.count
 
 pub sift_two-sift-requires-2 : goal.sift_two-sift-requires-2
 sift_two-sift-requires-2 t c =
@@ -272,8 +292,8 @@ sift_two-sift-requires-2 t c =
             c.requires.first,
             before_pairs c.args.sets.now nodes (cover_at covers c.args.first).level (cover_at covers c.args.second).level c.args.contexts.now c.in_ok-before.before.items c.as_slice-3.result.now c.as_slice-2.result.now
                 c.in_ok-later.later five g c.requires.contexts c.requires.level c.in_ok-later.ensures.sifted.numbers
-                (c.in_ok-later.ensures.sifted.count ∙ ap (λ ps. length ps) c.as_slice.ensures.value ∙ c.in_ok-behind.ensures.count) c.as_slice-2.ensures.value c.in_ok-before.ensures.count c.in_ok-before.ensures.after
-                c.in_ok-before.ensures.met c.as_slice-3.ensures.value,
+                (c.in_ok-later.ensures.sifted.count ∙ ap (λ ps. length ps) c.as_slice.ensures ∙ c.in_ok-behind.ensures.count) c.as_slice-2.ensures.value c.in_ok-before.ensures.count c.in_ok-before.ensures.after
+                c.in_ok-before.ensures.met c.as_slice-3.ensures,
           ),
         ),
       ),
@@ -287,7 +307,7 @@ sift_two-returns-clause-sifted t c =
     two_end c.args.sets.now c.behind_cover.new.sets c.sift.new.sets nodes (rows_of blocks c.args.first) (rows_of blocks c.args.second) c.args.contexts.now
     c.in_ok-behind.behind.items c.in_ok-before.before.items c.as_slice.result.now c.as_slice-3.result.now (cover_at covers c.args.first) c.cover.result (cover_at covers c.args.second).level
     c.in_ok-later.later c.in_ok-earlier.earlier _ c.in_ok-behind.ensures.grows c.in_ok-later.ensures.grows c.in_ok-earlier.ensures.grows c.requires.contexts (c.requires.blocks.covered c.args.first c.requires.first)
-    c.cover.ensures c.requires.level c.as_slice.ensures.value c.as_slice-3.ensures.value c.in_ok-behind.ensures.count c.in_ok-before.ensures.count c.in_ok-behind.ensures.level c.in_ok-behind.ensures.each
+    c.cover.ensures c.requires.level c.as_slice.ensures c.as_slice-3.ensures c.in_ok-behind.ensures.count c.in_ok-before.ensures.count c.in_ok-behind.ensures.level c.in_ok-behind.ensures.each
     (λ k less. c.in_ok-before.ensures.after k less ∙ ap (λ ids. node_at ids k) c.as_slice-2.ensures.value) c.in_ok-before.ensures.met
     c.in_ok-later.ensures.sifted c.in_ok-earlier.ensures.sifted (c.in_ok-extend_from_slice.ensures.items ∙ ap (λ ks. c.in_ok-earlier.earlier.kept.items ++ ks) c.as_slice-4.ensures.value) refl
 
@@ -299,12 +319,6 @@ sift_layer-returns-in_err-after-clause-grows t c = twice c.args.sets.now c.loop-
 
 pub sift_layer-returns-clause-grows : goal.sift_layer-returns-clause-grows
 sift_layer-returns-clause-grows t c = twice c.args.sets.now c.loop-run.sets c.finished.new.sets c.loop-run.invariant.grows c.in_ok-after.ensures.grows
-
-pub sift_once-returns-in_err-known-clause-grows : goal.sift_once-returns-in_err-known-clause-grows
-sift_once-returns-in_err-known-clause-grows t c = stays c.args.sets.now
-
-pub sift_once-returns-in-Some-clause-grows : goal.sift_once-returns-in-Some-clause-grows
-sift_once-returns-in-Some-clause-grows t c = stays c.args.sets.now
 
 pub sift_run-returns-in_err-below-clause-grows : goal.sift_run-returns-in_err-below-clause-grows
 sift_run-returns-in_err-below-clause-grows t c = stays c.args.sets.now

@@ -8,19 +8,16 @@ use Rattle.redundancy.specs.Remembered.{IsMemo}
 use Rattle.redundancy.proofs.blocks.Blocks.+sift.Given as goal
 
 abbrev pub decreases-sift : goal.decreases-sift
-decreases-sift l = 5 * l.number + 2
-
-abbrev pub decreases-sift_once : goal.decreases-sift_once
-decreases-sift_once l = 5 * l.number + 3
+decreases-sift l = 4 * l.number + 2
 
 abbrev pub decreases-sift_two : goal.decreases-sift_two
-decreases-sift_two l = 5 * max l.first l.second + 4
+decreases-sift_two l = 4 * max l.first l.second + 3
 
 abbrev pub decreases-sift_layer : goal.decreases-sift_layer
-decreases-sift_layer l = 5 * l.number + 1
+decreases-sift_layer l = 4 * l.number + 1
 
 abbrev pub decreases-sift_run : goal.decreases-sift_run
-decreases-sift_run l = 5 * l.run.block + 4
+decreases-sift_run l = 4 * l.run.block + 3
 
 abbrev pub invariant-sift_layer-loop-run : goal.invariant-sift_layer-loop-run
 invariant-sift_layer-loop-run l = record {

@@ -1,4 +1,4 @@
-use Rattle.std.proofs.Common.{[], ◌∷◌, ◌++◌, List, ap, sym, subst, ◌∙◌, ◌+◌, length, map, take}
+use Rattle.std.proofs.Common.{[], ◌∷◌, List, ap, sym, subst, ◌∙◌, ◌+◌, length, map, take}
 use Rattle.std.proofs.lemmas.List.{length-append, take_all}
 use Rattle.field_sift.specs.Built.{row_at}
 use Rattle.field_sift.specs.Rows.{Row, last_row}
