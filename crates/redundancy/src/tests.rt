@@ -113,6 +113,22 @@ fn plain_pass(alloc: Global, entries: &[Entry]) -> Result<Vec<Entry>, Fail> {
     Ok(kept)
 }
 
+/// Whether some such key is answered otherwise with the entry at the place left out.
+fn is_missed(alloc: Global, entries: &[Entry], place: usize) -> Result<bool, Fail>
+    requires { place < length entries.now }
+{
+    let (front, behind) = entries.split_at(place);
+    let mut others = Vec::new(alloc);
+    others.extend_from_slice(front)?;
+    others.extend_from_slice(&behind[1..])?;
+    for number in 0..64u32 {
+        if answer(&others, key(number)) != answer(entries, key(number)) {
+            return Ok(true);
+        }
+    }
+    Ok(false)
+}
+
 /// Numbers of a linear congruential generator (Knuth, MMIX).
 #[derive(Drop)]
 struct Draw(u64);
@@ -151,6 +167,9 @@ fn random_tables_as_by_the_definition(rt: HostRuntime) -> Result<(), Fail> {
         for number in 0..64u32 {
             let key = key(number);
             assert_eq!(rt; answer(&want, key), answer(&entries, key));
+        }
+        for place in 0..want.len() {
+            assert!(rt; is_missed(alloc, &want, place)?);
         }
         expect(&rt, alloc, &entries, &want)?;
     }
