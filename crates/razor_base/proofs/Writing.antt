@@ -25,6 +25,7 @@ puts-none {w = w} {a = a} {waited = waited} = record {
   err = tt;
   lost = tt;
   failed = tt;
+  calm = refl;
   counts = omega arith;
 }
 
@@ -36,6 +37,7 @@ puts-then {w = w} {f = f} {a = a} {b = b} {c = c} {waited = waited} {waits = wai
   err = tt;
   lost = tt;
   failed = tt;
+  calm = q.calm ∙ p.calm;
   counts = omega arith;
 }
 puts-then {w = w} {f = f} {a = a} {b = b} {c = c} {waited = waited} {waits = waits} {left = left} {text = text} {more = more} {r = Err e} p q = record {
@@ -43,6 +45,7 @@ puts-then {w = w} {f = f} {a = a} {b = b} {c = c} {waited = waited} {waits = wai
   err = rw (← append_assoc waited text more) (appends_front-then (w a) (w b) (w c) (waited ++ text) more waits p.ok q.err);
   lost = q.lost;
   failed = rose-later (f a) (f b) (f c) p.counts q.failed;
+  calm = tt;
   counts = omega arith;
 }
 
@@ -54,6 +57,7 @@ puts-more {w = w} {a = a} {b = b} {waited = waited} {text = text} more p = recor
   err = rw (← append_assoc waited text more) (appends_front-longer (w a) (w b) (waited ++ text) more p.err);
   lost = p.lost;
   failed = p.failed;
+  calm = tt;
   counts = p.counts;
 }
 
@@ -61,7 +65,7 @@ puts-more {w = w} {a = a} {b = b} {waited = waited} {text = text} more p = recor
 pub puts-stop : {S T U E F : Type 0} {w : S → Option (List ℕ)} {f : S → ℕ} {a b : S} {waited waits text : List ℕ} {e : E} {r : Result U F} →
     IsErr r → Puts {T = T} {E = E} w f a b waited waits text (Err e) → Puts w f a b waited waits text r
 puts-stop {r = Ok y} h p = absurd cc
-puts-stop {r = Err y} h p = record { ok = tt; err = p.err; lost = p.lost; failed = p.failed; counts = p.counts }
+puts-stop {r = Err y} h p = record { ok = tt; err = p.err; lost = p.lost; failed = p.failed; calm = tt; counts = p.counts }
 
 -- the text that was put is this one
 pub puts-is : {S T E : Type 0} {w : S → Option (List ℕ)} {f : S → ℕ} {a b : S} {waited waits text whole : List ℕ} {r : Result T E} →
@@ -75,12 +79,14 @@ puts-written {w = w} {f = f} {a = a} {b = b} {c = c} {waited = waited} {waits = 
   ok = leaves_out-appends (w a) (w b) (w c) text waits (subst (λ t. LeavesOut (w a) (w b) (t ++ text) waits) e p.ok) q.ok;
   err = tt;
   failed = tt;
+  calm = q.calm ∙ p.calm;
   counts = omega arith;
 }
 puts-written {w = w} {f = f} {a = a} {b = b} {c = c} {waited = waited} {waits = waits} {text = text} {r = Err y} e p q = record {
   ok = tt;
   err = appends_front-rest (w a) (w b) (w c) text waits (subst (λ t. LeavesOut (w a) (w b) (t ++ text) waits) e p.ok) q.err;
   failed = rose-later (f a) (f b) (f c) p.counts q.failed;
+  calm = tt;
   counts = omega arith;
 }
 
@@ -92,6 +98,7 @@ puts-unwritten {w = w} {a = a} {b = b} {text = text} {r = Err y} h e p = record 
   ok = tt;
   err = subst (λ t. AppendsFront (w a) (w b) (t ++ text)) e p.err;
   failed = p.failed;
+  calm = tt;
   counts = p.counts;
 }
 
@@ -102,12 +109,14 @@ writes-then {w = w} {f = f} {a = a} {b = b} {c = c} {text = text} {more = more} 
   ok = appends-then (w a) (w b) (w c) text more p.ok q.ok;
   err = tt;
   failed = tt;
+  calm = q.calm ∙ p.calm;
   counts = omega arith;
 }
 writes-then {w = w} {f = f} {a = a} {b = b} {c = c} {text = text} {more = more} {r = Err e} p q = record {
   ok = tt;
   err = appends_front-after (w a) (w b) (w c) text more p.ok q.err;
   failed = rose-later (f a) (f b) (f c) p.counts q.failed;
+  calm = tt;
   counts = omega arith;
 }
 
@@ -118,6 +127,7 @@ writes-more {w = w} {a = a} {b = b} {text = text} more p = record {
   ok = tt;
   err = appends_front-longer (w a) (w b) text more p.err;
   failed = p.failed;
+  calm = tt;
   counts = p.counts;
 }
 
@@ -125,7 +135,7 @@ writes-more {w = w} {a = a} {b = b} {text = text} more p = record {
 pub writes-stop : {S T U E F : Type 0} {w : S → Option (List ℕ)} {f : S → ℕ} {a b : S} {text : List ℕ} {e : E} {r : Result U F} →
     IsErr r → Writes {T = T} {E = E} w f a b text (Err e) → Writes w f a b text r
 writes-stop {r = Ok y} h p = absurd cc
-writes-stop {r = Err y} h p = record { ok = tt; err = p.err; failed = p.failed; counts = p.counts }
+writes-stop {r = Err y} h p = record { ok = tt; err = p.err; failed = p.failed; calm = tt; counts = p.counts }
 
 -- the text that was written is this one
 pub writes-is : {S T E : Type 0} {w : S → Option (List ℕ)} {f : S → ℕ} {a b : S} {text whole : List ℕ} {r : Result T E} →
@@ -140,6 +150,7 @@ writes-put {w = w} {a = a} {b = b} {waited = waited} {waits = waits} {text = tex
   err = tt;
   lost = tt;
   failed = tt;
+  calm = p.calm;
   counts = p.counts;
 }
 writes-put {w = w} {a = a} {b = b} {waited = waited} {waits = waits} {text = text} {r = Err y} e p = record {
@@ -147,6 +158,7 @@ writes-put {w = w} {a = a} {b = b} {waited = waited} {waits = waits} {text = tex
   err = p.err;
   lost = e;
   failed = p.failed;
+  calm = tt;
   counts = p.counts;
 }
 

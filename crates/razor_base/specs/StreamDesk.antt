@@ -1,7 +1,11 @@
 -- What is known of a desk over streams that are opened by their names.
-use Rattle.std.specs.Prelude.{ℕ, List, Option, option_map, option_and_then, string_bytes}
+use Rattle.std.specs.Prelude.{◌≡◌, ℕ, ◌+◌, List, Option, Some, IfSome, option_map, option_and_then, string_bytes}
 use Rattle.razor_base.specs.declared.stream_desk.StreamDesk.{StreamDesk}
 use Rattle.razor_base.specs.declared.stream_desk.Opened.{Opened}
+
+-- one stream more was to be opened, where that is told
+abbrev pub IsOpening : Option ℕ → Option ℕ → Type 0
+IsOpening before after = IfSome before (λ count. after ≡ Some (count + 1))
 
 -- the name of what is open, if anything is
 abbrev pub name_of : {S : Type 0} → Option (Opened S) → Option (List ℕ)

@@ -46,10 +46,10 @@ impl CalmDesk {
 }
 
 impl Desk for CalmDesk {
-    ghost use Rattle.std.specs.Prelude.{◌≡◌, ◌≢◌, ◌≤◌, ℕ, List, length, min, Some, Ok, IfOk, OnErr};
+    ghost use Rattle.std.specs.Prelude.{◌≡◌, ◌≢◌, ◌≤◌, ℕ, List, length, min, None, Some, Ok, IfOk, OnErr};
     ghost use Rattle.std.specs.Io.KnownBytes.{ReadConsumes, Keeps};
     ghost use Rattle.razor_base.specs.Faults.{Rose};
-    ghost use Rattle.razor_base.specs.CalmDesk.{left_to_read};
+    ghost use Rattle.razor_base.specs.CalmDesk.{left_to_read, put_under};
 
     ghost remaining = { λ desk name. Some (left_to_read desk name) };
 
@@ -66,6 +66,10 @@ impl Desk for CalmDesk {
 
         // It gives as much as there is room for.
         ensures answer { result ≡ Ok (min (length piece.old) (length (left_to_read self.old name.now))) }
+
+        // No name comes or goes, and the other inputs stay.
+        ensures missing { put_under self.old name.now ≡ None → put_under self.new name.now ≡ None }
+        ensures same { (other : List ℕ) → other ≢ name.now → put_under self.new other ≡ put_under self.old other }
     {
         match self.inputs.get_mut(name) {
             Some(input) => Ok(input.read(piece, usize::MAX)),

@@ -39,7 +39,7 @@ impl CountSink {
 }
 
 impl Sink for CountSink {
-    ghost use Rattle.std.specs.Prelude.{◌≡◌, ◌≤◌, ◌<◌, ◌+◌, ◌-◌, ◌^◌, length, min, None, Ok, IfOk, OnErr};
+    ghost use Rattle.std.specs.Prelude.{◌≡◌, ◌≤◌, ◌<◌, ◌+◌, ◌-◌, ◌^◌, ℕ, length, min, None, Ok, IfOk, OnOk, OnErr};
     ghost use Rattle.std.specs.Io.KnownBytes.{WriteAppends};
     ghost use Rattle.razor_base.specs.Faults.{Rose};
 
@@ -53,6 +53,7 @@ impl Sink for CountSink {
         ensures some { IfOk result (λ n. 0 < length piece.now → 0 < n) }
         ensures empty { length piece.now ≡ 0 → result ≡ Ok 0 }
         ensures failed { OnErr result (Rose 0 0) }
+        ensures calm { OnOk result (◌≡◌ {A = ℕ} 0 0) }
         ensures counts { 0 ≤ 0 }
 
         // All is taken and counted.

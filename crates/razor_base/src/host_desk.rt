@@ -29,11 +29,11 @@ impl<R: Files + Input + Drop> HostDesk<R> {
 }
 
 impl<R: Files + Input + Drop> Desk for HostDesk<R> {
-    ghost use Rattle.std.specs.Prelude.{◌≡◌, ◌≢◌, ◌≤◌, ◌==◌, ℕ, List, length, Ok, None, IfOk, OnErr, is_ok, if◌then◌else◌};
+    ghost use Rattle.std.specs.Prelude.{◌≡◌, ◌≢◌, ◌≤◌, ◌==◌, ◌<◌, ℕ, List, length, Ok, None, Some, IfOk, OnOk, OnErr, is_ok, if◌then◌else◌};
     ghost use Rattle.std.specs.Io.KnownBytes.{ReadConsumes, Keeps};
     ghost use Rattle.razor_base.specs.Faults.{Rose};
     ghost use Rattle.razor_base.specs.FaultPlan.{counted};
-    ghost use Rattle.razor_base.specs.HostDesk.{file_faults};
+    ghost use Rattle.razor_base.specs.HostDesk.{file_faults, host_name};
 
     ghost remaining = { λ _ _. None };
 
@@ -50,6 +50,10 @@ impl<R: Files + Input + Drop> Desk for HostDesk<R> {
         // The count rises by one with a failure, and with nothing else.
         ensures rises { file_faults self.new
             ≡ (if is_ok result then file_faults self.old else counted (file_faults self.old)) }
+
+        // What is open has the name that was read, and stays open while that name is read.
+        ensures opened { OnOk result (0 < length piece.old → host_name self.new ≡ Some name.now) }
+        ensures stays { host_name self.old ≡ Some name.now → host_name self.new ≡ Some name.now }
     {
         self.desk.read(name, piece)
     }

@@ -1,5 +1,5 @@
 use crate::failure::Failed;
-use crate::host_stream::HostDrain;
+use crate::host_stream::{HostDrain, Printer};
 use crate::sink::Sink;
 use crate::stream_sink::StreamSink;
 use std::io::Stderr;
@@ -9,7 +9,7 @@ use std::io::Stderr;
 /// What a write takes has reached the system when it answers. The bytes are not told.
 #[derive(Drop)]
 pub struct HostSink<P> {
-    sink: StreamSink<HostDrain<P>>,
+    sink: StreamSink<HostDrain<Printer<P>>>,
 }
 
 impl<P: Print> HostSink<P> {
@@ -21,7 +21,7 @@ impl<P: Print> HostSink<P> {
         ensures { stream_faults result ≡ 0 }
     {
         HostSink {
-            sink: StreamSink::new(HostDrain::new(rt)),
+            sink: StreamSink::new(HostDrain::new(Printer::new(rt))),
         }
     }
 }
@@ -39,7 +39,7 @@ impl HostSink<Stderr> {
 }
 
 impl<P: Print> Sink for HostSink<P> {
-    ghost use Rattle.std.specs.Prelude.{◌≡◌, ◌≤◌, ◌<◌, length, Ok, None, IfOk, OnErr, is_ok, if◌then◌else◌};
+    ghost use Rattle.std.specs.Prelude.{◌≡◌, ◌≤◌, ◌<◌, length, Ok, None, IfOk, OnOk, OnErr, is_ok, if◌then◌else◌};
     ghost use Rattle.std.specs.Io.KnownBytes.{WriteAppends};
     ghost use Rattle.razor_base.specs.Faults.{Rose};
     ghost use Rattle.razor_base.specs.FaultPlan.{counted};
@@ -55,6 +55,7 @@ impl<P: Print> Sink for HostSink<P> {
         ensures some { IfOk result (λ n. 0 < length piece.now → 0 < n) }
         ensures empty { length piece.now ≡ 0 → result ≡ Ok 0 }
         ensures failed { OnErr result (Rose (stream_faults self.old) (stream_faults self.new)) }
+        ensures calm { OnOk result (stream_faults self.new ≡ stream_faults self.old) }
         ensures counts { stream_faults self.old ≤ stream_faults self.new }
 
         // The count rises by one with a failure, and with nothing else.

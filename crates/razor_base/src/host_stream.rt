@@ -1,3 +1,4 @@
+//! The streams of the system: its files, its standard input, and what the runtime prints to.
 ghost use Rattle.std.specs.Prelude.{◌≡◌, ◌↔◌};
 ghost use Rattle.std.specs.IoError.{error_kind};
 ghost use Rattle.razor_base.specs.declared.stream.Cut.TheVariants.{Interrupted};
@@ -5,7 +6,7 @@ ghost use Rattle.razor_base.specs.declared.stream.Cut.TheVariants.{Interrupted};
 use crate::failure::Failed;
 use crate::opener::Opener;
 use crate::stream::{Cut, Drain, Source};
-use std::io::{ErrorKind, Read};
+use std::io::{ErrorKind, Read, Write};
 use std::rt::Files;
 use std::{fs, io};
 
@@ -22,10 +23,16 @@ pub(crate) enum HostSource<F, I> {
     Input(I),
 }
 
-/// What the runtime prints to.
+/// A writer, such as what the runtime prints to.
 #[derive(Drop)]
-pub(crate) struct HostDrain<P> {
-    stream: P,
+pub(crate) struct HostDrain<W> {
+    writer: W,
+}
+
+/// What the runtime prints to, as a writer.
+#[derive(Drop)]
+pub(crate) struct Printer<P> {
+    to: P,
 }
 
 impl<R> HostFiles<R> {
@@ -34,14 +41,30 @@ impl<R> HostFiles<R> {
     }
 }
 
-impl<P> HostDrain<P> {
-    pub(crate) fn new(stream: P) -> Self {
-        HostDrain { stream }
+impl<W> HostDrain<W> {
+    pub(crate) fn new(writer: W) -> Self {
+        HostDrain { writer }
+    }
+}
+
+impl<P> Printer<P> {
+    pub(crate) fn new(to: P) -> Self {
+        Printer { to }
+    }
+}
+
+impl<P: Print> Write for Printer<P> {
+    fn write(&mut self, piece: &[u8]) -> io::Result<usize> {
+        self.to.write_some(piece)
+    }
+
+    fn flush(&mut self) -> io::Result<()> {
+        Ok(())
     }
 }
 
 impl<R: Files + Input> Opener for HostFiles<R> {
-    ghost use Rattle.std.specs.Prelude.{None, IfOk, ◌≡◌, ◌↔◌, codes};
+    ghost use Rattle.std.specs.Prelude.{ℕ, List, None, IfOk, ◌≡◌, ◌↔◌, codes};
     ghost use Rattle.std.specs.Io.KnownBytes.{Keeps};
     ghost use Rattle.razor_base.specs.HostStream.{IsInput};
 
@@ -49,8 +72,9 @@ impl<R: Files + Input> Opener for HostFiles<R> {
 
     ghost contents = { λ _ _. None };
 
-    fn open(&self, name: &str) -> Result<HostSource<R::File, R::Reader>, Failed>
-        ensures start { IfOk result (λ stream. Keeps None None) }
+    ghost opened = { λ _. None };
+
+    fn open(&mut self, name: &str) -> Result<HostSource<R::File, R::Reader>, Failed>
         ensures input { IfOk result (λ stream. IsInput stream ↔ (name.now ≡ codes "-")) }
     {
         if name == "-" {
@@ -65,8 +89,9 @@ impl<R: Files + Input> Opener for HostFiles<R> {
 
 impl<F: Read, I: Read> Source for HostSource<F, I> {
     ghost use Rattle.std.specs.Prelude.{None};
+    ghost use Rattle.razor_base.specs.HostStream.{source_left};
 
-    ghost left = { λ _. None };
+    ghost left = { source_left F.remaining I.remaining };
 
     ghost calls = { λ _. None };
 
@@ -79,15 +104,16 @@ impl<F: Read, I: Read> Source for HostSource<F, I> {
     }
 }
 
-impl<P: Print> Drain for HostDrain<P> {
+impl<W: Write> Drain for HostDrain<W> {
     ghost use Rattle.std.specs.Prelude.{None};
+    ghost use Rattle.razor_base.specs.HostStream.{writer_of};
 
-    ghost taken = { λ _. None };
+    ghost taken = { λ drain. W.contents (writer_of drain) };
 
     ghost calls = { λ _. None };
 
     fn write(&mut self, piece: &[u8]) -> Result<usize, Cut> {
-        self.stream.write_some(piece).map_err(cut)
+        self.writer.write(piece).map_err(cut)
     }
 }
 

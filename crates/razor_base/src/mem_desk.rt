@@ -84,7 +84,7 @@ impl MemDesk {
 }
 
 impl Desk for MemDesk {
-    ghost use Rattle.std.specs.Prelude.{◌≡◌, ◌≢◌, ◌≤◌, ◌==◌, ℕ, List, length, Ok, IfOk, OnErr, is_ok, if◌then◌else◌};
+    ghost use Rattle.std.specs.Prelude.{◌≡◌, ◌≢◌, ◌≤◌, ◌==◌, ℕ, List, length, None, Ok, IfOk, OnErr, is_ok, if◌then◌else◌};
     ghost use Rattle.std.specs.Io.KnownBytes.{ReadConsumes, Keeps};
     ghost use Rattle.razor_base.specs.Faults.{Rose};
     ghost use Rattle.razor_base.specs.FaultPlan.{counted};
@@ -102,8 +102,14 @@ impl Desk for MemDesk {
         ensures failed { OnErr result (Rose (read_faults self.old) (read_faults self.new)) }
         ensures counts { (other : List ℕ) → read_faults self.old ≤ read_faults self.new }
 
-        // Exactly what it answers, and how the counts go on.
+        // Exactly what it answers.
         ensures answer { result ≡ read_answer self.old name.now (length piece.old) }
+
+        // No name comes or goes, and the other inputs stay.
+        ensures missing { left_under self.old name.now ≡ None → left_under self.new name.now ≡ None }
+        ensures same { (other : List ℕ) → other ≢ name.now → left_under self.new other ≡ left_under self.old other }
+
+        // How the counts go on.
         ensures made { reads_made self.new
             ≡ (if length piece.old == 0 then reads_made self.old else counted (reads_made self.old)) }
         ensures faults { read_faults self.new

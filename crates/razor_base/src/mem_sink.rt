@@ -55,11 +55,11 @@ impl MemSink {
 }
 
 impl Sink for MemSink {
-    ghost use Rattle.std.specs.Prelude.{◌≡◌, ◌≤◌, ◌<◌, ◌==◌, ℕ, length, Some, Ok, IfOk, OnErr, is_ok, if◌then◌else◌};
+    ghost use Rattle.std.specs.Prelude.{◌≡◌, ◌≤◌, ◌<◌, ◌+◌, ◌==◌, ℕ, length, Some, Ok, IfOk, OnOk, OnErr, is_ok, if◌then◌else◌};
     ghost use Rattle.std.specs.Io.KnownBytes.{WriteAppends};
     ghost use Rattle.razor_base.specs.Faults.{Rose};
     ghost use Rattle.razor_base.specs.FaultPlan.{counted};
-    ghost use Rattle.razor_base.specs.MemSink.{held, chosen_writes, writes_made, write_faults, write_answer};
+    ghost use Rattle.razor_base.specs.MemSink.{held, room_left, chosen_writes, writes_made, write_faults, write_answer};
 
     ghost written = { λ sink. Some (held sink) };
 
@@ -71,10 +71,12 @@ impl Sink for MemSink {
         ensures some { IfOk result (λ n. 0 < length piece.now → 0 < n) }
         ensures empty { length piece.now ≡ 0 → result ≡ Ok 0 }
         ensures failed { OnErr result (Rose (write_faults self.old) (write_faults self.new)) }
+        ensures calm { OnOk result (write_faults self.new ≡ write_faults self.old) }
         ensures counts { write_faults self.old ≤ write_faults self.new }
 
         // Exactly what it answers, and how the counts go on.
         ensures answer { result ≡ write_answer self.old piece.now }
+        ensures room { length (held self.new) + room_left self.new ≡ length (held self.old) + room_left self.old }
         ensures made { writes_made self.new
             ≡ (if length piece.now == 0 then writes_made self.old else counted (writes_made self.old)) }
         ensures faults { write_faults self.new

@@ -1,6 +1,7 @@
-ghost use Rattle.std.specs.Prelude.{◌≡◌, ◌≢◌, Some, IfOk, IsOkAnd, string_bytes};
+//! A desk over streams that are opened by their names.
+ghost use Rattle.std.specs.Prelude.{◌≡◌, ◌≢◌, ℕ, List, Some, IfOk, IsOkAnd, string_bytes};
 ghost use Rattle.std.specs.Io.KnownBytes.{Keeps};
-ghost use Rattle.razor_base.specs.StreamDesk.{name_of};
+ghost use Rattle.razor_base.specs.StreamDesk.{IsOpening, name_of};
 
 use crate::desk::Desk;
 use crate::failure::Failed;
@@ -29,9 +30,9 @@ pub(crate) struct Opened<S> {
 }
 
 impl<O: Opener<Stream = S>, S: Source + Drop> StreamDesk<O, S> {
-    ghost use Rattle.std.specs.Prelude.{◌≡◌, ◌≤◌, ◌≢◌, length, None, Some, IfOk, OnOk};
+    ghost use Rattle.std.specs.Prelude.{◌≡◌, ◌≤◌, ◌≢◌, ℕ, List, length, None, Some, IfOk, OnOk};
     ghost use Rattle.std.specs.Io.KnownBytes.{ReadConsumes};
-    ghost use Rattle.razor_base.specs.StreamDesk.{open_name, left_open, open_faults, opener_of};
+    ghost use Rattle.razor_base.specs.StreamDesk.{IsOpening, open_name, left_open, open_faults, opener_of};
 
     /// Nothing is open yet.
     pub(crate) fn new(opener: O, alloc: Global) -> Self
@@ -51,7 +52,11 @@ impl<O: Opener<Stream = S>, S: Source + Drop> StreamDesk<O, S> {
     fn read_named(&mut self, name: &str, piece: &mut [u8]) -> Result<usize, Failed>
         ensures within { IfOk result (λ n. n ≤ length piece.new) }
         ensures faults { open_faults self.new ≡ open_faults self.old }
-        ensures opener { opener_of self.new ≡ opener_of self.old }
+
+        // Nothing is opened where the name is open, and else one stream is.
+        ensures keeps { open_name self.old ≡ Some name.now → opener_of self.new ≡ opener_of self.old }
+        ensures counted { open_name self.old ≢ Some name.now → IsOpening (O.opened (opener_of self.old)) (O.opened (opener_of self.new)) }
+        ensures contents { (other : List ℕ) → O.contents (opener_of self.new) other ≡ O.contents (opener_of self.old) other }
 
         // The name is open afterwards; one that was open stays so, also after a failure.
         ensures opened { OnOk result (open_name self.new ≡ Some name.now) }
@@ -64,7 +69,7 @@ impl<O: Opener<Stream = S>, S: Source + Drop> StreamDesk<O, S> {
             OnOk result (ReadConsumes (O.contents (opener_of self.old) name.now) (left_open S.left self.new) result piece.new) }
     {
         let kept = self.opened.take();
-        let mut opened = reopen(&self.opener, self.alloc, kept, name)?;
+        let mut opened = reopen(&mut self.opener, self.alloc, kept, name)?;
         let outcome = read_some(&mut opened.stream, piece);
         self.opened = Some(opened);
         outcome
@@ -73,15 +78,18 @@ impl<O: Opener<Stream = S>, S: Source + Drop> StreamDesk<O, S> {
 
 /// What is open already, if it has the name; else it is closed, and the name is opened.
 fn reopen<O: Opener<Stream = S>, S: Source + Drop>(
-    opener: &O,
+    opener: &mut O,
     alloc: Global,
     kept: Option<Opened<S>>,
     name: &str,
 ) -> Result<Opened<S>, Failed>
     ensures name { IfOk result (λ opened. string_bytes opened.name ≡ name.now) }
     ensures kept { name_of kept ≡ Some name.now → IsOkAnd result (λ opened. Some opened ≡ kept) }
+    ensures untouched { name_of kept ≡ Some name.now → opener.new ≡ opener.old }
     ensures anew { name_of kept ≢ Some name.now →
-        IfOk result (λ opened. Keeps (O.contents opener.now name.now) (S.left opened.stream)) }
+        IfOk result (λ opened. Keeps (O.contents opener.old name.now) (S.left opened.stream)) }
+    ensures counted { name_of kept ≢ Some name.now → IsOpening (O.opened opener.old) (O.opened opener.new) }
+    ensures contents { (other : List ℕ) → O.contents opener.new other ≡ O.contents opener.old other }
 {
     match kept {
         Some(opened) if opened.name.as_str() == name => Ok(opened),
@@ -91,12 +99,14 @@ fn reopen<O: Opener<Stream = S>, S: Source + Drop>(
 
 /// Opens the stream of the name at its start.
 fn open<O: Opener<Stream = S>, S: Source + Drop>(
-    opener: &O,
+    opener: &mut O,
     alloc: Global,
     name: &str,
 ) -> Result<Opened<S>, Failed>
     ensures name { IfOk result (λ opened. string_bytes opened.name ≡ name.now) }
-    ensures start { IfOk result (λ opened. Keeps (O.contents opener.now name.now) (S.left opened.stream)) }
+    ensures start { IfOk result (λ opened. Keeps (O.contents opener.old name.now) (S.left opened.stream)) }
+    ensures counted { IsOpening (O.opened opener.old) (O.opened opener.new) }
+    ensures contents { (other : List ℕ) → O.contents opener.new other ≡ O.contents opener.old other }
 {
     let stream = opener.open(name)?;
     let Ok(name) = String::from_str(alloc, name) else {
@@ -110,7 +120,7 @@ impl<O: Opener<Stream = S>, S: Source + Drop> Desk for StreamDesk<O, S> {
     ghost use Rattle.std.specs.Io.KnownBytes.{ReadConsumes, Keeps};
     ghost use Rattle.razor_base.specs.Faults.{Rose};
     ghost use Rattle.razor_base.specs.FaultPlan.{counted};
-    ghost use Rattle.razor_base.specs.StreamDesk.{open_name, left_open, open_faults, opener_of};
+    ghost use Rattle.razor_base.specs.StreamDesk.{IsOpening, open_name, left_open, open_faults, opener_of};
 
     ghost remaining = { λ _ _. None };
 
@@ -127,6 +137,11 @@ impl<O: Opener<Stream = S>, S: Source + Drop> Desk for StreamDesk<O, S> {
         // The count rises by one with a failure, and with nothing else.
         ensures rises { open_faults self.new
             ≡ (if is_ok result then open_faults self.old else counted (open_faults self.old)) }
+
+        // Nothing is opened where the name is open, and else one stream is.
+        ensures keeps { open_name self.old ≡ Some name.now → opener_of self.new ≡ opener_of self.old }
+        ensures counted { open_name self.old ≢ Some name.now → 0 < length piece.old → IsOpening (O.opened (opener_of self.old)) (O.opened (opener_of self.new)) }
+        ensures contents { (other : List ℕ) → O.contents (opener_of self.new) other ≡ O.contents (opener_of self.old) other }
 
         // A name that is read is open from then on, also after a failure.
         ensures opened { OnOk result (0 < length piece.old → open_name self.new ≡ Some name.now) }

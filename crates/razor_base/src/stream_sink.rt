@@ -22,11 +22,11 @@ impl<D: Drain> StreamSink<D> {
 }
 
 impl<D: Drain> Sink for StreamSink<D> {
-    ghost use Rattle.std.specs.Prelude.{◌≡◌, ◌≤◌, ◌<◌, ◌==◌, ◌⊎◌, length, Ok, IfOk, OnErr, is_ok, if◌then◌else◌};
+    ghost use Rattle.std.specs.Prelude.{◌≡◌, ◌≤◌, ◌<◌, ◌==◌, ◌⊎◌, length, Ok, IfOk, OnOk, OnErr, is_ok, if◌then◌else◌};
     ghost use Rattle.std.specs.Io.KnownBytes.{WriteAppends};
     ghost use Rattle.razor_base.specs.Faults.{Rose};
     ghost use Rattle.razor_base.specs.FaultPlan.{counted};
-    ghost use Rattle.razor_base.specs.StreamSink.{drain_of, write_faults};
+    ghost use Rattle.razor_base.specs.StreamSink.{drain_of, write_faults, IsOffered};
 
     ghost written = { λ sink. D.taken (drain_of sink) };
 
@@ -38,7 +38,12 @@ impl<D: Drain> Sink for StreamSink<D> {
         ensures some { IfOk result (λ n. 0 < length piece.now → 0 < n) }
         ensures empty { length piece.now ≡ 0 → result ≡ Ok 0 }
         ensures failed { OnErr result (Rose (write_faults self.old) (write_faults self.new)) }
+        ensures calm { OnOk result (write_faults self.new ≡ write_faults self.old) }
         ensures counts { write_faults self.old ≤ write_faults self.new }
+
+        // The stream is called for one piece, and for an empty one not at all.
+        ensures offered { 0 < length piece.now → IsOffered 65 (D.calls (drain_of self.old)) (D.calls (drain_of self.new)) result }
+        ensures idle { length piece.now ≡ 0 → drain_of self.new ≡ drain_of self.old }
 
         // The count rises by one with a failure, and with nothing else.
         ensures rises { write_faults self.new

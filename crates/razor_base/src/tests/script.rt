@@ -1,5 +1,5 @@
 //! Streams in memory whose calls are cut short, interrupted or failed.
-ghost use Rattle.std.specs.Prelude.{◌+◌, ◌≤◌, vec_len};
+ghost use Rattle.std.specs.Prelude.{◌≤◌, vec_len};
 
 use crate::failure::Failed;
 use crate::opener::Opener;
@@ -21,44 +21,24 @@ pub(crate) enum Turn {
 pub(crate) struct Script {
     turns: Vec<Turn>,
     next: usize,
-    failed: usize,
-    interrupted: usize,
-    ghost counted: { failed + interrupted ≤ next },
     ghost within: { next ≤ vec_len turns },
 }
 
 impl Script {
-    ghost use Rattle.std.specs.Prelude.{Some};
-    ghost use Rattle.razor_base.specs.Streams.{IsCall};
-
     pub(crate) fn new(turns: Vec<Turn>) -> Self {
-        Script {
-            turns,
-            next: 0,
-            failed: 0,
-            interrupted: 0,
-        }
+        Script { turns, next: 0 }
     }
 
     /// Takes the next turn: as many bytes as may move, or why none do.
-    fn turn(&mut self) -> Result<usize, Cut>
-        ensures { IsCall (Some (record { failed = self.old.failed; interrupted = self.old.interrupted }))
-            (Some (record { failed = self.new.failed; interrupted = self.new.interrupted })) result }
-    {
+    fn turn(&mut self) -> Result<usize, Cut> {
         let Some(&turn) = self.turns.get(self.next) else {
             return Ok(usize::MAX);
         };
         self.next += 1;
         match turn {
             Turn::Moves(most) => Ok(most),
-            Turn::Interrupts => {
-                self.interrupted += 1;
-                Err(Cut::Interrupted)
-            }
-            Turn::Fails => {
-                self.failed += 1;
-                Err(Cut::Refused)
-            }
+            Turn::Interrupts => Err(Cut::Interrupted),
+            Turn::Fails => Err(Cut::Refused),
         }
     }
 }
@@ -71,11 +51,11 @@ pub(crate) struct MemSource {
 }
 
 impl Source for MemSource {
-    ghost use Rattle.std.specs.Prelude.{Some};
+    ghost use Rattle.std.specs.Prelude.{None, Some};
 
     ghost left = { λ source. Some source.bytes };
 
-    ghost calls = { λ source. Some (record { failed = source.script.failed; interrupted = source.script.interrupted }) };
+    ghost calls = { λ _. None };
 
     fn read(&mut self, piece: &mut [u8]) -> Result<usize, Cut> {
         let most = self.script.turn()?;
@@ -100,11 +80,11 @@ impl MemDrain {
 }
 
 impl Drain for MemDrain {
-    ghost use Rattle.std.specs.Prelude.{Some};
+    ghost use Rattle.std.specs.Prelude.{None, Some};
 
     ghost taken = { λ drain. Some drain.bytes.items };
 
-    ghost calls = { λ drain. Some (record { failed = drain.script.failed; interrupted = drain.script.interrupted }) };
+    ghost calls = { λ _. None };
 
     fn write(&mut self, piece: &[u8]) -> Result<usize, Cut> {
         let most = self.script.turn()?;
@@ -124,13 +104,15 @@ pub(crate) struct Names {
 }
 
 impl Opener for Names {
-    ghost use Rattle.std.specs.Prelude.{Some};
+    ghost use Rattle.std.specs.Prelude.{None, Some};
 
     type Stream = MemSource;
 
     ghost contents = { λ _ name. Some name };
 
-    fn open(&self, name: &str) -> Result<MemSource, Failed> {
+    ghost opened = { λ _. None };
+
+    fn open(&mut self, name: &str) -> Result<MemSource, Failed> {
         let Ok(bytes) = Vec::from_slice(self.alloc, name.as_bytes()) else {
             return Err(Failed);
         };

@@ -3,5 +3,8 @@ use Rattle.std.proofs.lemmas.Map.Text.{text_keys}
 use Rattle.razor_base.proofs.Input.{Keeps-same}
 use Rattle.razor_base.proofs.mem_desk.MemDeskDesk.read.Goals as goal
 
+pub returns-in-Some-clause-same : goal.returns-in-Some-clause-same
+returns-in-Some-clause-same c = λ other apart. grind (arith, text_keys)
+
 pub returns-in-Some-clause-others : goal.returns-in-Some-clause-others
 returns-in-Some-clause-others c = λ other apart. Keeps-same _ _ (grind (arith, text_keys))
