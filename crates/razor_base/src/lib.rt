@@ -48,6 +48,3 @@ pub use pending::Pending;
 pub use read::{ReadError, read_all};
 pub use sink::Sink;
 pub use write::{write_all, write_number};
-
-#[cfg(test)]
-mod tests;
