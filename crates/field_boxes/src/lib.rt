@@ -29,6 +29,3 @@ pub use ports::Ports;
 pub use prefix::Prefix;
 pub use rule::Rule;
 pub use span::Span;
-
-#[cfg(test)]
-mod tests;
