@@ -33,5 +33,3 @@ pub use reason::Reason;
 pub use token::is_blank;
 pub use write::write_list;
 
-#[cfg(test)]
-mod tests;
