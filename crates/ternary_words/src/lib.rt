@@ -13,8 +13,6 @@ mod lookup;
 mod masks;
 mod parts;
 mod table;
-#[cfg(test)]
-mod tests;
 mod word;
 mod write;
 
