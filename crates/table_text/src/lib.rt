@@ -23,8 +23,6 @@ mod line;
 mod names;
 mod number;
 mod reading;
-#[cfg(test)]
-mod tests;
 mod trits;
 
 pub use error::{TableError, TableReason};
