@@ -32,6 +32,3 @@ mod share;
 
 pub use counting::{count_all, cover_count};
 pub use covering::{cover, cover_all, cover_all_into};
-
-#[cfg(test)]
-mod tests;
