@@ -14,6 +14,3 @@ mod sets;
 
 pub use counting::entry_count;
 pub use expanding::{ExpandError, expand};
-
-#[cfg(test)]
-mod tests;
