@@ -17,8 +17,6 @@ mod lists;
 mod load;
 mod rule;
 mod sets;
-#[cfg(test)]
-mod tests;
 
 pub use draws::next;
 pub use lists::{generate, generate_load};
