@@ -42,6 +42,3 @@ pub use option::OptionName;
 pub use plain::PlainWords;
 pub use usage::usage_parts;
 pub use words::Words;
-
-#[cfg(test)]
-mod tests;
