@@ -14,6 +14,7 @@ mod selfrun;
 mod tracing;
 
 use crate::setting::{Setting, calm};
+use compiling::ORDINARY;
 use razor_base::{MemDesk, MemSink};
 use razor_core::{Words, razor};
 use std::alloc::Global;
@@ -181,13 +182,13 @@ fn refuses_the_first_bad_line(rt: HostRuntime) -> Result<(), Fail> {
 fn knows_its_words(rt: HostRuntime) -> Result<(), Fail> {
     let none: [&[&str]; 11] = [
         &[],
-        &["expand"],
+        &["compile"],
         &["compiles", "in"],
-        &["expand", "--limit", "0", "in"],
-        &["expand", "--limit", "5", "--limit", "5", "in"],
-        &["expand", "--slot", "100", "in"],
-        &["expand", "--lim", "5", "in"],
-        &["expand", "-x", "in"],
+        &["compile", "--limit", "0", "in"],
+        &["compile", "--limit", "5", "--limit", "5", "in"],
+        &["compile", "--slot", "100", "in"],
+        &["compile", "--lim", "5", "in"],
+        &["compile", "-x", "in"],
         &["expand", "in", "in"],
         &["equiv", "a", "a"],
         &["--help"],
@@ -198,18 +199,18 @@ fn knows_its_words(rt: HostRuntime) -> Result<(), Fail> {
         check(&rt, words, calm(WEB), 2, b"", usage)?;
     }
     let limits: [&[&str]; 3] = [
-        &["expand", "--limit=5", "in"],
-        &["expand", "in", "--limit", "5"],
-        &["expand", "--limit", "005", "--", "in"],
+        &["compile", "--limit=5", "in"],
+        &["compile", "in", "--limit", "5"],
+        &["compile", "--limit", "005", "--", "in"],
     ];
     for words in limits {
         check(
             &rt,
             words,
-            calm(RANGES),
+            calm(ORDINARY),
             4,
             b"",
-            b"900 entries needed, limit 5\n",
+            b"6 entries needed, limit 5\n",
         )?;
     }
     let narrow = ["expand", "--slot", "104", "in"];
