@@ -23,6 +23,19 @@ fn real_files_are_read(rt: HostRuntime) -> Result<(), Fail> {
 }
 
 #[test]
+fn a_name_keeps_a_blank_at_its_end(rt: HostRuntime) -> Result<(), Fail> {
+    fs::write(&rt, "/tmp/razor_named", "without")?;
+    fs::write(&rt, "/tmp/razor_named ", "with")?;
+    let mut desk = HostDesk::new(&rt, rt.alloc());
+    let mut piece = [0; 8];
+    assert!(rt; desk.read("/tmp/razor_named ", &mut piece) == Ok(4));
+    assert!(rt; desk.read("/tmp/razor_named", &mut piece) == Ok(7));
+    fs::remove_file(&rt, "/tmp/razor_named")?;
+    fs::remove_file(&rt, "/tmp/razor_named ")?;
+    Ok(())
+}
+
+#[test]
 fn what_cannot_be_read_fails(rt: HostRuntime) -> Result<(), Fail> {
     let mut desk = HostDesk::new(&rt, rt.alloc());
     let mut piece = [0; 4];
