@@ -26,8 +26,6 @@ pub mod laws;
 mod naming;
 mod standing;
 mod stop;
-#[cfg(test)]
-mod tests;
 mod walk;
 
 pub use certificate::write_certificate;

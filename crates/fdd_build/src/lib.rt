@@ -31,8 +31,6 @@ mod memo;
 mod nothing;
 mod overlay;
 mod pair;
-#[cfg(test)]
-mod tests;
 mod walk;
 
 pub use change::{over, under, under_rule};

@@ -33,8 +33,6 @@ mod joining;
 mod pair;
 mod parting;
 mod question;
-#[cfg(test)]
-mod tests;
 
 pub use agreement::agrees_where;
 pub use difference::least_difference;

@@ -27,8 +27,6 @@ mod parting;
 mod placed;
 mod reaching;
 mod sets;
-#[cfg(test)]
-mod tests;
 
 pub use laying::laid;
 pub use parting::parts_within;

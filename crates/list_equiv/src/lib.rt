@@ -19,8 +19,6 @@
 mod decision;
 mod names;
 mod numbering;
-#[cfg(test)]
-mod tests;
 mod verdict;
 
 pub use verdict::{Verdict, equal};

@@ -29,8 +29,6 @@ mod merge;
 mod node;
 mod split;
 mod store;
-#[cfg(test)]
-mod tests;
 
 pub use edge::{Edge, NodeId};
 pub use split::{Part, Parts};

@@ -39,6 +39,3 @@ pub use checker::Checker;
 pub use row::{NotPrefix, Row, Why, Wrong};
 pub use stream::{Stop, check_stream};
 pub use write::{put_row, write_row};
-
-#[cfg(test)]
-mod tests;

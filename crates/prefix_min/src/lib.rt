@@ -25,6 +25,3 @@ mod walk;
 pub use cheapest::{Cheapest, minimise};
 pub use piece::Piece;
 pub use row::PrefixRow;
-
-#[cfg(test)]
-mod tests;

@@ -32,8 +32,6 @@ mod read;
 mod rules;
 mod tables;
 mod tally;
-#[cfg(test)]
-mod tests;
 mod work;
 
 use work::Work;

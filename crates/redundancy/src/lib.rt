@@ -44,8 +44,6 @@ mod runs;
 mod sets;
 mod sifting;
 mod tables;
-#[cfg(test)]
-mod tests;
 
 pub use prefixes::are_prefixes;
 pub use removing::remove;

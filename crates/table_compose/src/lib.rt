@@ -30,8 +30,6 @@ mod least_cost;
 mod node_plan;
 mod reached;
 mod row;
-#[cfg(test)]
-mod tests;
 
 pub use composition::{ComposeError, compose};
 pub use least_cost::cost;

@@ -1,34 +1,11 @@
-//! Worked examples on protocols, the values of the last field.
-ghost use Rattle.std.specs.Prelude.{◌≡◌, ◌<◌, ◌≤◌, ◌∷◌, [], length};
-ghost use Rattle.node_store.specs.Diagram.{level_of};
-
-use crate::laws::{parts_in_turn, spans_in_turn};
-use crate::{Placed, Sets, laid, parts_within};
+//! Protocol nodes that lead elsewhere at some spans, their parts within a span, and unions of protocols.
+use super::nodes::{expect_level, parted};
 use field_boxes::Span;
-use node_store::{Edge, NodeId, Part, Store, laws};
+use field_sets::{Placed, Sets, laid, parts_within};
+use node_store::{Edge, NodeId, Part, Store};
 use std::alloc::Global;
 use std::process::Abort;
 use std::test::Fail;
-
-/// The number is that of a node of the level.
-fn expect_level(rt: &impl Abort, store: &Store, id: NodeId, level: u8)
-    ensures number { id.0 < length store.now }
-    ensures level { level_of store.now id.0 ≡ level }
-{
-    assert!(rt; id.0 < store.count());
-    assert_eq!(rt; store.level(id), level);
-}
-
-/// A protocol node that leads to one node up to a value, and to another past it.
-fn cut(rt: &impl Abort, store: &mut Store, hi: u32, to: [NodeId; 2]) -> Result<NodeId, Fail>
-    requires { hi < 255 }
-{
-    let [low, high] = to;
-    expect_level(rt, store, low, 5);
-    expect_level(rt, store, high, 5);
-    laws::edges_in_turn();
-    Ok(store.make(4, &[Edge { hi, to: low }, Edge { hi: 255, to: high }])?)
-}
 
 /// The edges of the node.
 fn expect_edges(
@@ -68,7 +45,7 @@ fn spans_lead_where_they_are_placed(rt: HostRuntime) -> Result<(), Fail> {
     let a = store.leaf(0)?;
     let b = store.leaf(1)?;
     let c = store.leaf(2)?;
-    let nine = cut(&rt, &mut store, 9, [a, b])?;
+    let nine = parted(&rt, &mut store, 4, 9, [a, b])?;
     let inner = Placed {
         span: Span { lo: 3, hi: 5 },
         to: c,
@@ -136,8 +113,8 @@ fn parts_lie_within_the_span(rt: HostRuntime) -> Result<(), Fail> {
     let mut store = Store::new(rt.alloc());
     let a = store.leaf(0)?;
     let b = store.leaf(1)?;
-    let six = cut(&rt, &mut store, 6, [a, b])?;
-    let nine = cut(&rt, &mut store, 9, [b, a])?;
+    let six = parted(&rt, &mut store, 4, 6, [a, b])?;
+    let nine = parted(&rt, &mut store, 4, 9, [b, a])?;
     let all = Span { lo: 0, hi: 255 };
     let inner = Span { lo: 6, hi: 9 };
     let last = Span { lo: 10, hi: 200 };
@@ -190,10 +167,4 @@ fn unions_of_protocols(rt: HostRuntime) -> Result<(), Fail> {
     assert_eq!(rt; union(&rt, &mut sets, full, six)?, full);
     assert_eq!(rt; union(&rt, &mut sets, six, six)?, six);
     Ok(())
-}
-
-#[test]
-fn laws_are_called() {
-    parts_in_turn();
-    spans_in_turn();
 }

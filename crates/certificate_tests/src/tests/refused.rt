@@ -1,10 +1,9 @@
 //! Lists and tables that have no certificate, and a sink that is full.
 ghost use Rattle.std.specs.Prelude.{◌≤◌};
 
-use super::{
-    ACCEPTS_6, MISS_6, NET_6, NET_6_TO_7, NOTHING, REST, Spelled, WHOLE, list_of, table_of,
-};
-use crate::{CertError, write_certificate};
+use super::pairs::{ACCEPTS_6, NET_6, REST, Spelled, WHOLE, list_of, table_of};
+use super::written::{MISS_6, NET_6_TO_7, NOTHING};
+use box_partition::{CertError, write_certificate};
 use field_boxes::Header;
 use razor_base::MemSink;
 use std::process::Abort;

@@ -1,6 +1,6 @@
 //! Worked comparisons of small lists.
-use crate::{Verdict, equal};
 use filter_reader::{RuleList, read_list};
+use list_equiv::{Verdict, equal};
 use std::alloc::Global;
 use std::process::Abort;
 use std::test::Fail;

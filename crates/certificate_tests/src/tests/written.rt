@@ -1,67 +1,12 @@
-//! Worked certificates.
-mod changed;
-mod refused;
-
-ghost use Rattle.std.specs.Prelude.{IsTrue};
-ghost use Rattle.ternary_words.specs.Limits.{AreNumbered};
-
-use crate::write_certificate;
-use field_boxes::Decisions;
-use filter_reader::{RuleList, read_list};
+//! Certificates as they are written.
+use super::pairs::{ACCEPTS_6, NET_6, REST, Spelled, TWO_PORTS, WHOLE, list_of, table_of};
+use box_partition::write_certificate;
+use filter_reader::RuleList;
 use partition_check::{Checker, Stop, check_stream};
 use razor_base::{MemDesk, MemSink};
 use std::process::Abort;
 use std::test::Fail;
-use ternary_words::{Entry, Table, Word};
-
-/// An entry's destination port and protocol, each with its mask, and its decision: 1 for `accept`, 2 for
-/// `deny` and 0 for `miss`.
-type Spelled = ([u32; 2], [u32; 2], u32);
-
-fn are_numbered(entries: &[Entry], count: u32) -> bool
-    ensures { IsTrue result → AreNumbered count entries.now }
-{
-    entries.iter().all(|entry| entry.decision <= count)
-}
-
-fn entry<R: Abort>(rt: &R, spelled: &Spelled) -> Entry {
-    let ([port, protocol], [port_mask, protocol_mask], decision) = *spelled;
-    assert!(rt; port < 65_536 && protocol < 256 && port_mask < 65_536 && protocol_mask < 256);
-    assert!(rt; port & port_mask == port && protocol & protocol_mask == protocol);
-    Entry {
-        word: Word::of_fields(
-            &[0, 0, 0, port, protocol],
-            &[0, 0, 0, port_mask, protocol_mask],
-        ),
-        decision,
-    }
-}
-
-/// A table of these entries, with the names `accept` and `deny`.
-fn table_of<R: Abort + AllocGlobal>(rt: &R, spelled: &[Spelled]) -> Result<Table, Fail> {
-    let mut names = Decisions::new(rt.alloc());
-    let _accept = names.intern("accept")?;
-    let _deny = names.intern("deny")?;
-    let mut entries = Vec::new(rt.alloc());
-    for one in spelled {
-        entries.push(entry(rt, one))?;
-    }
-    let count = names.count();
-    assert!(rt; entries.len() <= 100 && are_numbered(&entries, count));
-    Ok(Table {
-        slot: 144,
-        composed: 1,
-        entries,
-        names,
-    })
-}
-
-fn list_of<R: Abort + AllocGlobal>(rt: &R, text: &[u8]) -> RuleList {
-    match read_list(rt.alloc(), text) {
-        Ok(list) => list,
-        Err(_) => panic!(rt),
-    }
-}
+use ternary_words::Table;
 
 /// The certificate of the list and the entries is this text, of so many rows, and the checker says so.
 fn certified<R: Abort + AllocGlobal>(
@@ -99,33 +44,19 @@ fn verdict<R: Abort + AllocGlobal>(
     ))
 }
 
-const NOTHING: &[u8] = b"";
-
-const ACCEPTS_6: &[u8] = b"@0.0.0.0/0 0.0.0.0/0 0 : 65535 0 : 65535 0x06/0xFF accept";
-
-const TWO_PORTS: &[u8] = b"@0.0.0.0/0 0.0.0.0/0 0 : 65535 80 : 80,443 : 443 0x06/0xFF accept";
+pub(super) const NOTHING: &[u8] = b"";
 
 /// Two rules with one decision, and a rule for all else.
 const ACCEPTS_6_AND_7: &[u8] =
     b"@0.0.0.0/0 0.0.0.0/0 0 : 65535 0 : 65535 0x06/0xFF accept\n@0.0.0.0/0 0.0.0.0/0 0 : 65535 0 : 65535 0x07/0xFF accept\n@0.0.0.0/0 0.0.0.0/0 0 : 65535 0 : 65535 0x00/0x00 deny";
 
-const NET_6: Spelled = ([0, 6], [0, 255], 1);
+pub(super) const NET_6_TO_7: Spelled = ([0, 6], [0, 254], 1);
 
-const NET_6_TO_7: Spelled = ([0, 6], [0, 254], 1);
-
-const MISS_6: Spelled = ([0, 6], [0, 255], 0);
-
-const REST: Spelled = ([0, 0], [0, 0], 2);
+pub(super) const MISS_6: Spelled = ([0, 6], [0, 255], 0);
 
 const PORT_80: Spelled = ([80, 6], [65_535, 255], 1);
 
 const PORT_443: Spelled = ([443, 6], [65_535, 255], 1);
-
-const WHOLE: &[u8] = b"\
-0-4294967295 0-4294967295 0-65535 0-65535 0-5 - -\n\
-0-4294967295 0-4294967295 0-65535 0-65535 6-6 1 1\n\
-0-4294967295 0-4294967295 0-65535 0-65535 7-255 - -\n\
-rows 3\n";
 
 /// The entry that says `miss` is claimed, and hides the entry after it.
 const MISSING: &[u8] = b"\

@@ -1,74 +1,18 @@
-//! Worked certificates, each checked line by line.
-mod streams;
-
-ghost use Rattle.std.specs.Prelude.{◌≤◌, IsTrue, length};
-ghost use Rattle.ternary_words.specs.Limits.{AreNumbered};
-
-use crate::{Checker, NotPrefix, Row, Why, Wrong, write_row};
-use field_boxes::{Decisions, Span};
-use filter_reader::{RuleList, read_list};
+//! Worked certificates, each checked line by line, and rows as they are written.
+use super::pairs::{ACCEPTS_6, NET_6, REST, Spelled, TWO_PORTS, list_of, table_of};
+use field_boxes::Span;
+use filter_reader::RuleList;
+use partition_check::{Checker, NotPrefix, Row, Why, Wrong, write_row};
 use razor_base::{Failed, MemSink};
-use std::alloc::Global;
 use std::process::Abort;
 use std::test::Fail;
-use ternary_words::{Entry, Table, Word};
-
-const ACCEPTS_6: &[u8] = b"@0.0.0.0/0 0.0.0.0/0 0 : 65535 0 : 65535 0x06/0xFF accept";
+use ternary_words::Table;
 
 const ACCEPTS_6_DENIES_REST: &[u8] =
     b"@0.0.0.0/0 0.0.0.0/0 0 : 65535 0 : 65535 0x06/0xFF accept\n@0.0.0.0/0 0.0.0.0/0 0 : 65535 0 : 65535 0x00/0x00 deny";
 
-/// Two ports and one protocol.
-const TWO_PORTS: &[u8] = b"@0.0.0.0/0 0.0.0.0/0 0 : 65535 80 : 80,443 : 443 0x06/0xFF accept";
-
 const ACCEPTS_1_AND_3: &[u8] =
     b"@0.0.0.0/0 0.0.0.0/0 0 : 65535 0 : 65535 0x01/0xFF accept\n@0.0.0.0/0 0.0.0.0/0 0 : 65535 0 : 65535 0x03/0xFF accept\n@0.0.0.0/0 0.0.0.0/0 0 : 65535 0 : 65535 0x00/0x00 deny";
-
-/// An entry's destination port and protocol, each with its mask, and its decision: 1 for `accept` and 2
-/// for `deny`.
-type Spelled = ([u32; 2], [u32; 2], u32);
-
-const NET_6: Spelled = ([0, 6], [0, 255], 1);
-
-const REST: Spelled = ([0, 0], [0, 0], 2);
-
-fn are_numbered(entries: &[Entry], count: u32) -> bool
-    ensures { IsTrue result → AreNumbered count entries.now }
-{
-    entries.iter().all(|entry| entry.decision <= count)
-}
-
-fn entry<R: Abort>(rt: &R, spelled: &Spelled) -> Entry {
-    let ([port, protocol], [port_mask, protocol_mask], decision) = *spelled;
-    assert!(rt; port < 65_536 && protocol < 256 && port_mask < 65_536 && protocol_mask < 256);
-    assert!(rt; port & port_mask == port && protocol & protocol_mask == protocol);
-    Entry {
-        word: Word::of_fields(
-            &[0, 0, 0, port, protocol],
-            &[0, 0, 0, port_mask, protocol_mask],
-        ),
-        decision,
-    }
-}
-
-/// A table of these entries, with the names `accept` and `deny`.
-fn table<R: Abort + AllocGlobal>(rt: &R, spelled: &[Spelled]) -> Result<Table, Fail> {
-    let mut names = Decisions::new(rt.alloc());
-    let _accept = names.intern("accept")?;
-    let _deny = names.intern("deny")?;
-    let mut entries = Vec::new(rt.alloc());
-    for one in spelled {
-        entries.push(entry(rt, one))?;
-    }
-    let count = names.count();
-    assert!(rt; entries.len() <= 100 && are_numbered(&entries, count));
-    Ok(Table {
-        slot: 144,
-        composed: 1,
-        entries,
-        names,
-    })
-}
 
 /// What the checker says of the lines, and then of a last line with this number.
 fn verdict<R: Abort>(
@@ -94,10 +38,8 @@ fn check<R: Abort + AllocGlobal>(
     rows: u64,
     want: Result<u64, Wrong>,
 ) -> Result<(), Fail> {
-    let Ok(list) = read_list(rt.alloc(), list) else {
-        panic!(rt);
-    };
-    let table = table(rt, entries)?;
+    let list = list_of(rt, list);
+    let table = table_of(rt, entries)?;
     assert!(rt; verdict(rt, &list, &table, lines, rows) == want);
     Ok(())
 }
@@ -239,10 +181,8 @@ fn refused<R: Abort + AllocGlobal>(
     spelled: &[Spelled],
     want: Option<NotPrefix>,
 ) -> Result<(), Fail> {
-    let Ok(list) = read_list(rt.alloc(), ACCEPTS_6) else {
-        panic!(rt);
-    };
-    let table = table(rt, spelled)?;
+    let list = list_of(rt, ACCEPTS_6);
+    let table = table_of(rt, spelled)?;
     assert!(rt; Checker::new(&list, &table).err() == want);
     Ok(())
 }

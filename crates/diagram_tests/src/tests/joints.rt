@@ -1,34 +1,9 @@
 //! The worked joint split of two protocol nodes.
-use crate::joint;
-use crate::tests::expect_level;
-use node_store::{Edge, NodeId, Store, laws};
+use super::nodes::{expect_level, protocols};
+use fdd_ops::joint;
+use node_store::{NodeId, Store};
 use std::process::Abort;
 use std::test::Fail;
-
-/// A protocol node whose edges end at these values, the last of them at 255.
-fn protocols(
-    rt: &impl Abort,
-    store: &mut Store,
-    ends: [u32; 2],
-    to: [NodeId; 3],
-) -> Result<NodeId, Fail> {
-    let [first, second] = ends;
-    let [low, middle, high] = to;
-    assert!(rt; first < second && second < 255);
-    expect_level(rt, store, low, 5);
-    expect_level(rt, store, middle, 5);
-    expect_level(rt, store, high, 5);
-    let edges = [
-        Edge { hi: first, to: low },
-        Edge {
-            hi: second,
-            to: middle,
-        },
-        Edge { hi: 255, to: high },
-    ];
-    laws::edges_in_turn();
-    Ok(store.make(4, &edges)?)
-}
 
 /// The two protocol nodes have this joint split.
 fn expect_joint<R: Abort + AllocGlobal>(

@@ -1,11 +1,9 @@
-//! Worked examples, and random lists against their first match.
-mod random;
-
+//! Diagrams of rules, and changed in one box.
 ghost use Rattle.std.specs.Prelude.{◌≡◌, ◌≤◌};
 ghost use Rattle.field_boxes.specs.Spans.{AreInside};
 ghost use Rattle.node_store.specs.Diagram.{level_of};
 
-use crate::{build, over, under, under_rule};
+use fdd_build::{build, over, under, under_rule};
 use field_boxes::{Header, Ports, Rule, Span};
 use node_store::{NodeId, Store};
 use std::process::Abort;

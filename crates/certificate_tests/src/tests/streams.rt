@@ -1,19 +1,11 @@
 //! Worked certificates, read in pieces of 1, 7 and 4,096 bytes.
 ghost use Rattle.std.specs.Prelude.{◌<◌};
 
-use super::{ACCEPTS_6, NET_6, table};
-use crate::{Checker, Stop, Why, Wrong, check_stream};
-use filter_reader::read_list;
+use super::pairs::{ACCEPTS_6, NET_6, WHOLE, list_of, table_of};
+use partition_check::{Checker, Stop, Why, Wrong, check_stream};
 use razor_base::MemDesk;
 use std::process::Abort;
 use std::test::Fail;
-
-/// The certificate of one rule, 159 bytes.
-const WHOLE: &[u8] = b"\
-0-4294967295 0-4294967295 0-65535 0-65535 0-5 - -\n\
-0-4294967295 0-4294967295 0-65535 0-65535 6-6 1 1\n\
-0-4294967295 0-4294967295 0-65535 0-65535 7-255 - -\n\
-rows 3\n";
 
 /// What the checker says of the bytes, read at most so many at once, where the read of this number fails.
 fn check_bytes<R: Abort + AllocGlobal>(
@@ -25,10 +17,8 @@ fn check_bytes<R: Abort + AllocGlobal>(
 ) -> Result<(), Fail>
     requires { 0 < most }
 {
-    let Ok(list) = read_list(rt.alloc(), ACCEPTS_6) else {
-        panic!(rt);
-    };
-    let table = table(rt, &[NET_6])?;
+    let list = list_of(rt, ACCEPTS_6);
+    let table = table_of(rt, &[NET_6])?;
     let mut desk = MemDesk::new(rt.alloc());
     let _new = desk.add("certificate", bytes)?;
     desk.piece_limit(most);
@@ -46,37 +36,6 @@ fn check_bytes<R: Abort + AllocGlobal>(
 
 fn stopped(row: u64, why: Why) -> Result<u64, Stop> {
     Err(Stop::Wrong(Wrong { row, why }))
-}
-
-/// What is said of the first bytes of the certificate, so many.
-fn cut_off(length: usize) -> Result<u64, Stop> {
-    match length {
-        0 => stopped(1, Why::EndsEarly),
-        1..=49 => stopped(1, Why::Form),
-        50 => stopped(2, Why::EndsEarly),
-        51..=99 => stopped(2, Why::Form),
-        100 => stopped(3, Why::EndsEarly),
-        101..=151 => stopped(3, Why::Form),
-        152 => stopped(4, Why::EndsEarly),
-        153..=158 => stopped(4, Why::Form),
-        _ => Ok(3),
-    }
-}
-
-fn check_cuts<R: Abort + AllocGlobal>(rt: &R, most: usize) -> Result<(), Fail>
-    requires { 0 < most }
-{
-    for length in 0..=WHOLE.len() {
-        check_bytes(rt, &WHOLE[..length], most, 0, cut_off(length))?;
-    }
-    Ok(())
-}
-
-#[test]
-fn certificates_that_are_cut_off(rt: HostRuntime) -> Result<(), Fail> {
-    check_cuts(&rt, 1)?;
-    check_cuts(&rt, 7)?;
-    check_cuts(&rt, 4_096)
 }
 
 #[test]

@@ -1,0 +1,5 @@
+mod lines;
+mod pairs;
+mod refused;
+mod streams;
+mod written;

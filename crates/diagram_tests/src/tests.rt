@@ -1,0 +1,11 @@
+mod agreements;
+mod building;
+mod comparing;
+mod composing;
+mod differences;
+mod joints;
+mod nodes;
+mod prefix_lists;
+mod removing;
+mod sets;
+mod stores;
