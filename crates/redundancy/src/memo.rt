@@ -34,7 +34,7 @@ impl Memo {
         }
     }
 
-    /// What was kept of the block for these contexts, if it was worked out.
+    /// What came of the block for these contexts, if it was gone through.
     pub(crate) fn get(&self, asked: &Asked) -> Option<&Sifted>
         ensures { (nodes : List Node) (blocks : Blocks) → IsMemo nodes blocks self.now →
             IfSome result (λ s. IsAnswered nodes blocks asked.now.number asked.now.contexts.items s.now) }
@@ -42,7 +42,7 @@ impl Memo {
         self.done.get(asked)
     }
 
-    /// Keeps what was kept of the block for these contexts.
+    /// Keeps what came of the block for these contexts.
     pub(crate) fn keep(&mut self, asked: Asked, sifted: Sifted) -> Result<(), Memory>
         ensures { (nodes : List Node) (blocks : Blocks) → IsMemo nodes blocks self.old →
             IsAnswered nodes blocks asked.number asked.contexts.items sifted → OnOk result (IsMemo nodes blocks self.new) }

@@ -1,5 +1,5 @@
 //! Tables whose words are prefixes in each field.
-ghost use Rattle.std.specs.Prelude.{◌≡◌, true};
+ghost use Rattle.std.specs.Prelude.{◌↔◌, IsTrue};
 ghost use Rattle.ternary_words.specs.Prefixes.{IsPrefixInEach};
 ghost use Rattle.ternary_words.specs.Views.{word_of};
 ghost use Rattle.field_sift.specs.Built.{ArePrefixes};
@@ -8,7 +8,7 @@ use ternary_words::Entry;
 
 /// Whether the word of each entry is a prefix in each field.
 pub fn are_prefixes(entries: &[Entry]) -> bool
-    ensures { result ≡ true → ArePrefixes entries.now }
+    ensures { IsTrue result ↔ ArePrefixes entries.now }
 {
     for entry in entries {
         if !is_prefix(entry) {
@@ -20,7 +20,7 @@ pub fn are_prefixes(entries: &[Entry]) -> bool
 
 /// Whether the entry's word is.
 fn is_prefix(entry: &Entry) -> bool
-    ensures { result ≡ true → IsPrefixInEach (word_of entry.now.word) }
+    ensures { IsTrue result ↔ IsPrefixInEach (word_of entry.now.word) }
 {
     entry.word.spans().is_some()
 }
