@@ -3,3 +3,4 @@ pub mod Cover
 pub mod Shortest
 pub mod Halves
 pub mod Share
+pub mod Fronts

@@ -1,8 +1,10 @@
-ghost use Rattle.std.specs.Prelude.{◌≡◌, ◌≤◌, ◌++◌, IfOk, OnOk, ◌<◌, ◌-◌, ◌^◌};
+//! The shortest covers of spans by prefixes.
+ghost use Rattle.std.specs.Prelude.{◌≡◌, ◌≤◌, ◌++◌, IfOk, OnErr, OnOk, ◌<◌, ◌-◌, ◌^◌};
 ghost use Rattle.field_boxes.specs.Prefix.{FitsWidth};
 ghost use Rattle.field_boxes.specs.Spans.{intervals_of};
 ghost use Rattle.field_boxes.specs.Unions.{RiseApart};
 ghost use Rattle.range_prefix.specs.Cover.{IsShortestCover};
+ghost use Rattle.range_prefix.specs.Fronts.{AddsFront, IsFront};
 ghost use Rattle.range_prefix.specs.Shortest.{shortest_below, shortest_cover};
 ghost use Rattle.range_prefix.specs.Spans.{AreApart, union_of, values_of};
 
@@ -42,12 +44,13 @@ pub fn cover_all(alloc: Global, spans: &[Span], width: u8) -> Result<Vec<Prefix>
 
 /// The same in place of what the vector holds, so that its room serves again.
 ///
-/// Where memory was refused, what the vector holds then is not told.
+/// Where memory was refused, the vector holds the first prefixes of the cover, maybe none.
 pub fn cover_all_into(spans: &[Span], width: u8, prefixes: &mut Vec<Prefix>) -> Result<(), Memory>
     requires wide { width ≤ 32 }
     requires apart { RiseApart 0 (2 ^ width - 1) (intervals_of spans.now) }
     ensures shortest { OnOk result (IsShortestCover width (union_of spans.now) prefixes.new.items) }
     ensures value { OnOk result (prefixes.new.items ≡ shortest_cover width (union_of spans.now)) }
+    ensures front { OnErr result (IsFront prefixes.new.items (shortest_cover width (union_of spans.now))) }
 {
     let block = enclosing(spans, width);
     prefixes.clear();
@@ -63,7 +66,8 @@ fn cover_below(
 ) -> Result<(), Memory>
     requires fits { FitsWidth width prefix }
     requires apart { AreApart 0 spans.now }
-    ensures { OnOk result (prefixes.new.items ≡ prefixes.old.items ++ shortest_below width (union_of spans.now) prefix) }
+    ensures added { OnOk result (prefixes.new.items ≡ prefixes.old.items ++ shortest_below width (union_of spans.now) prefix) }
+    ensures front { OnErr result (AddsFront prefixes.old.items prefixes.new.items (shortest_below width (union_of spans.now) prefix)) }
 {
     match Share::of(spans, width, prefix) {
         Share::Nothing => {}

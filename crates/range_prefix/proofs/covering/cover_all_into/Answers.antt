@@ -11,7 +11,7 @@ pub returns-clause-value : goal.returns-clause-value
 returns-clause-value c =
     on_ok_weaker c.cover_below.result
     (λ h. h ∙ ap (λ xs. xs ++ shortest_below c.args.width (union_of c.args.spans.now) c.enclosing-block.result) c.clear.ensures.items ∙ c.enclosing-block.ensures.cover)
-    c.cover_below.ensures
+    c.cover_below.ensures.added
 
 pub returns-clause-shortest : goal.returns-clause-shortest
 returns-clause-shortest c =
