@@ -1,4 +1,8 @@
-"""Time and peak memory of a command, the best of three runs. Used by the scripts beside this file."""
+"""Time and peak memory of a command, the best of three runs. Used by the scripts beside this file.
+
+They time the programs that the variables RAZOR and RAZOR_BENCH of the environment name, or else those that `tools/build`
+proves and builds.
+"""
 import pathlib
 import re
 import shutil
@@ -9,6 +13,9 @@ import time
 
 ROOT = pathlib.Path(__file__).resolve().parent.parent
 RUNS = 3
+
+sys.path.append(str(ROOT / "tools"))
+from building.programs import program
 
 
 def fail(words):
@@ -21,16 +28,6 @@ def time_tool():
     if path is None:
         fail("GNU time is missing: apt-get install time")
     return path
-
-
-def built(crate, *words):
-    """The program of a crate, proved, built and tried on the words, as the files of the crate stand."""
-    folder = ROOT / "crates" / crate
-    command = ["rt", "run", "--", *words]
-    log = subprocess.run(command, cwd=folder, stdin=subprocess.DEVNULL, capture_output=True, text=True)
-    if log.returncode != 0:
-        fail(f"{crate} is not built: {log.stdout}{log.stderr}")
-    return folder / "out" / crate
 
 
 def once(command, given=None, status=0):
