@@ -16,7 +16,7 @@ use Rattle.bank_update.specs.declared.drive.DriveError.{DriveError}
 use Rattle.bank_update.specs.declared.drive.DriveError.TheVariants as errors
 use Rattle.bank_update.specs.declared.script.Command.{Command}
 use Rattle.bank_update.specs.Commands.{event_of, events_of}
-use Rattle.bank_update.specs.Driven.{HasRun, HasRunFront, IsCutOff, Outcome, RanFront}
+use Rattle.bank_update.specs.Driven.{HasRun, HasRunFront, IsCutOff, Outcome, RanFront, UnlessWriteFault}
 use Rattle.bank_update.specs.Turns.{TakesTurn}
 use Rattle.bank_update.specs.Runs.{IsRun, RoseBy, Turn, fault_count, faults_of, line_of, lines_of, next, state_after}
 
@@ -121,6 +121,21 @@ out-of-memory {Ran = Ran} {Appended = Appended} {events = events} (Err e) is h =
 pub write-failed : {Ran : List Event → List (List ℕ) → Type 0} {Appended : List ℕ → Type 0} {events : List Event} (r : Result ℕ DriveError) → IsErrAnd r (λ e. e ≡ errors.WriteFault) → IsCutOff Ran Appended events → Outcome Ran Appended events r
 write-failed (Ok n) is h = absurd is
 write-failed {Ran = Ran} {Appended = Appended} {events = events} (Err e) is h = subst (λ x. Outcome Ran Appended events (Err x)) (sym is) h
+
+-- no write failed where the line of a turn was written
+pub calm-turn : {S T E : Type 0} {w : S → Option (List ℕ)} {f : S → ℕ} {a b : S} {tables : List Table} {old new : State} {n p : ℕ} {event : Event} {x : T} (r : Result T E) → r ≡ Ok x →
+    TakesTurn w f a b tables old new n p event r → f b ≡ f a
+calm-turn {w = w} {f = f} {a = a} {b = b} {tables = tables} {old = old} {event = event} r ok t =
+    let writes = subst (Writes w f a b (line_of tables old event t.breaks)) ok t.line in writes.calm
+
+-- nor where memory was refused
+pub calm-out-of-memory : {P : Type 0} (r : Result ℕ DriveError) → IsErrAnd r (λ e. e ≡ errors.Memory) → P → UnlessWriteFault r P
+calm-out-of-memory (Ok n) is p = absurd is
+calm-out-of-memory {P = P} (Err e) is p = subst (λ x. UnlessWriteFault (Err x) P) (sym is) p
+
+pub calm-write-failed : (P : Type 0) (r : Result ℕ DriveError) → IsErrAnd r (λ e. e ≡ errors.WriteFault) → UnlessWriteFault r P
+calm-write-failed P (Ok n) is = absurd is
+calm-write-failed P (Err e) is = subst (λ x. UnlessWriteFault (Err x) P) (sym is) tt
 
 -- the command at a place of a script
 event_at : (script : List Event) (items xs : List Command) (i : ℕ) (item : Command) → events_of items ≡ script → xs ≡ items → i < length xs → item ≡ get_or xs i item → (i < length script) × (get_or script i (event_of item) ≡ event_of item)

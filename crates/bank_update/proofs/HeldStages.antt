@@ -47,10 +47,26 @@ back_case : (t : Bool) (s : State) (swap : Swap) → swap.done == 0 ≡ t →
 back_case true s swap is = ap (bank_after (layout s swap)) (sym (eqb-true swap.done 0 is))
 back_case false s swap is = refl
 
+-- after the last write
+pub ends-whole : (s : State) (swap : Swap) → IsBeside (is_below (layout s swap)) (layout s swap) →
+    bank_after (layout s swap) (total s swap) ≡ alone s.slots swap.block.start (map stored swap.block.entries)
+ends-whole s swap h = ap (bank_after (layout s swap)) (sym (write-count s swap)) ∙ last (is_below (layout s swap)) (layout s swap) h
+
+-- undoing a write
+pub undoes : (s : State) (swap : Swap) (d : ℕ) → IsBeside (is_below (layout s swap)) (layout s swap) → d < total s swap →
+    set (bank_after (layout s swap) (suc d)) (target (layout s swap) d) (erased (layout s swap) d) ≡ bank_after (layout s swap) d
+undoes s swap d h small = let count = write-count s swap in undone (is_below (layout s swap)) (layout s swap) d h (omega (arith, count, small))
+
+-- going back
+pub reached-back : (s : State) (block : Block) (done : ℕ) →
+    let swap : Swap = record { block = block; done = done; back = true } in
+    held (reached s swap) ≡ bank_after (layout s swap) done
+reached-back s block done = back_case (done == 0) s (record { block = block; done = done; back = true }) refl
+
 pub reached-held : (s : State) (block : Block) (done : ℕ) (back : Bool) →
     let swap : Swap = record { block = block; done = done; back = back } in
     IsBeside (is_below (layout s swap)) (layout s swap) → held (reached s swap) ≡ bank_after (layout s swap) done
-reached-held s block done true h = back_case (done == 0) s (record { block = block; done = done; back = true }) refl
+reached-held s block done true h = reached-back s block done
 reached-held s block done false h =
     let swap : Swap = record { block = block; done = done; back = false } in forward_case (done == total s swap) s swap refl h
 

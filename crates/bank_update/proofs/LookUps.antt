@@ -9,9 +9,10 @@ use Rattle.ternary_words.specs.Limits.{AreNumbered}
 use Rattle.ternary_words.specs.Views.{entry_of}
 use Rattle.ternary_words.specs.declared.entry.Entry.{Entry}
 use Rattle.tcam_sim.specs.Slots.{Stored, decision_in, look_up, slot_matches, stored}
-use Rattle.bank_update.specs.Banks.{least_match, named_answer}
+use Rattle.bank_update.specs.Banks.{least_match}
 use Rattle.bank_update.specs.Machine.{Block, answer, matches}
 use Rattle.bank_update.proofs.Found.{look-stands, slot_step}
+use Rattle.bank_update.proofs.Names.{named_answer}
 
 place_from : (values : List ℕ) (bank : List (Option Stored)) (from : ℕ) → option_map (λ r. r.0) (least_match (matches values) bank from) ≡ position_from (slot_matches values) from bank
 place_from values [] from = refl

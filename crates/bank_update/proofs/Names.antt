@@ -1,9 +1,17 @@
 -- Look-ups by the names of the table whose block has the slot.
-use Rattle.std.proofs.Common.{◌≡◌, ◌≢◌, ◌∷◌, ℕ, suc, ◌+◌, ◌≤◌, ◌<◌, Bool, true, false, ◌&&◌, cond, nat_le, nat_lt, List, [], Option, Some, length, refl, ap, sym, ◌∙◌, arith, le-leb, lt-ltb, le-ltb, leb-true, true≢false}
+use Rattle.std.proofs.Common.{◌≡◌, ◌∷◌, ℕ, suc, ◌+◌, ◌≤◌, ◌<◌, Bool, true, false, ◌&&◌, cond, nat_le, nat_lt, List, [], Option, Some, length, refl, ap, ◌∙◌, arith, le-leb, lt-ltb, le-ltb, leb-true}
 use Rattle.std.specs.Prelude.{find, option_and_then}
-use Rattle.bank_update.specs.Banks.{first_from, named_answer}
-use Rattle.bank_update.specs.Writes.{Layout, IsBeside, write_count, turned, in_block, name_in, answer_at}
-use Rattle.bank_update.proofs.Turns.{old-or-new, turned-stays}
+use Rattle.bank_update.specs.Banks.{first_from, least_match}
+use Rattle.bank_update.specs.Writes.{Layout, IsBeside, bank_after, write_count, turned, in_block}
+use Rattle.bank_update.proofs.Turns.{old-or-new}
+
+-- the name of what a table answers
+abbrev pub named_answer : {E N : Type 0} → (E → Option N) → (E → Bool) → List E → Option N
+named_answer name m entries = option_and_then name (find m entries)
+
+-- the name of a found entry in the table whose block has its slot: the settled one's, or else the pending one's
+abbrev pub name_in : {E N : Type 0} → Layout E → (E → Option N) → (E → Option N) → ℕ × E → Option N
+name_in s p q r = cond (in_block s.a (length s.old) r.0) (p r.1) (q r.1)
 
 name_step : {E N : Type 0} (g : ℕ × E → Option N) (p : E → Option N) (t : Bool) (k : ℕ) (e : E) (o : Option (ℕ × E)) (r : Option E) → g (k, e) ≡ p e →
     option_and_then g o ≡ option_and_then p r → option_and_then g (cond t (Some (k, e)) o) ≡ option_and_then p (cond t (Some e) r)
@@ -45,19 +53,8 @@ named_case f true x y v w h k = h
 named_case f false x y v w h k = k
 
 pub answered : {E N : Type 0} (below : Bool) (s : Layout E) (p q : E → Option N) (m : E → Bool) (d : ℕ) → IsBeside below s → d ≤ write_count s →
-    answer_at s p q m d ≡ cond (turned below m s d) (named_answer q m s.new) (named_answer p m s.old)
+    option_and_then (name_in s p q) (least_match m (bank_after s d) 0) ≡ cond (turned below m s d) (named_answer q m s.new) (named_answer p m s.old)
 answered below s p q m d h small =
     ap (option_and_then (name_in s p q)) (old-or-new below s m d h small)
     ∙ named_case (option_and_then (name_in s p q)) (turned below m s d) (first_from m s.new s.b) (first_from m s.old s.a) (named_answer q m s.new) (named_answer p m s.old)
     (new_named below s p q m h) (old_named s p q m)
-
-keeps_case : {Y : Type 0} (t u : Bool) (v w x y : Y) → x ≡ cond t v w → y ≡ cond u v w → (t ≡ true → u ≡ true) → v ≢ w → x ≡ v → y ≡ v
-keeps_case true true v w x y a b f apart h = b
-keeps_case true false v w x y a b f apart h = b ∙ absurd (true≢false (sym (f refl)))
-keeps_case false u v w x y a b f apart h = absurd (apart (sym h ∙ a))
-
-pub answer-stays : {E N : Type 0} (below : Bool) (s : Layout E) (p q : E → Option N) (m : E → Bool) (d e : ℕ) → IsBeside below s → d ≤ e → e ≤ write_count s →
-    named_answer q m s.new ≢ named_answer p m s.old → answer_at s p q m d ≡ named_answer q m s.new → answer_at s p q m e ≡ named_answer q m s.new
-answer-stays below s p q m d e h le small =
-    keeps_case (turned below m s d) (turned below m s e) (named_answer q m s.new) (named_answer p m s.old) (answer_at s p q m d) (answer_at s p q m e)
-    (answered below s p q m d h (omega (arith, le, small))) (answered below s p q m e h small) (turned-stays below s m d e le)

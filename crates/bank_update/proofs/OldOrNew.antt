@@ -4,14 +4,14 @@ use Rattle.std.specs.Prelude.{option_and_then, IfSome}
 use Rattle.std.proofs.lemmas.List.{length-map}
 use Rattle.field_boxes.specs.Names.{name_at}
 use Rattle.tcam_sim.specs.Slots.{Stored, look_up, stored}
-use Rattle.bank_update.specs.Banks.{first_from, least_match, named_answer}
-use Rattle.bank_update.specs.Writes.{bank_after, in_block, name_in, turned}
-use Rattle.bank_update.specs.Machine.{Block, Swap, State, answer, has_turned, held, held_with, is_below, layout, looked, matches, names_with, old_or_new}
+use Rattle.bank_update.specs.Banks.{first_from, least_match}
+use Rattle.bank_update.specs.Writes.{IsBeside, bank_after, in_block, turned}
+use Rattle.bank_update.specs.Machine.{Block, Swap, State, answer, has_turned, held, held_with, is_below, layout, looked, matches, names_with, old_or_new, total}
 use Rattle.bank_update.specs.Sound.{IsNamed, IsSound, IsUnderway}
 use Rattle.bank_update.proofs.Found.{first-within, look-alone}
 use Rattle.bank_update.proofs.HeldStages.{write-count}
 use Rattle.bank_update.proofs.LookUps.{answers-as, decided, looked-up, name_of, numbered-entry}
-use Rattle.bank_update.proofs.Names.{answered, apart, first_named, inside}
+use Rattle.bank_update.proofs.Names.{answered, apart, first_named, inside, name_in, named_answer}
 use Rattle.bank_update.proofs.Turns.{old-or-new}
 
 -- the name of what was found, in the table of its slot
@@ -46,10 +46,10 @@ named_as s swap r =
     name_cond (in_block s.settled.start (length s.settled.entries) r.0) s.settled.names swap.block.names r.1.decision
     ∙ ap (λ n. cond (in_block s.settled.start n r.0) (name_of s.settled.names r.1) (name_of swap.block.names r.1)) (sym (length-map s.settled.entries stored))
 
--- during a swap
-pub pending_answer : (s : State) (swap : Swap) (values : List ℕ) → IsUnderway s swap →
+-- at a stage of a swap
+pub stage_answer : (s : State) (swap : Swap) (values : List ℕ) → IsBeside (is_below (layout s swap)) (layout s swap) → swap.done ≤ total s swap →
     option_and_then (naming s (Some swap)) (look_up (held_with s (Some swap)) values) ≡ old_or_new s (Some swap) values
-pending_answer s swap values u =
+stage_answer s swap values beside small =
     let m = matches values in
     let l = layout s swap in
     let bank = bank_after l swap.done in
@@ -57,9 +57,14 @@ pending_answer s swap values u =
     ap (option_and_then (naming s (Some swap))) (looked-up bank values)
     ∙ then_map decided (naming s (Some swap)) (least_match m bank 0)
     ∙ then_same (λ r. naming s (Some swap) (decided r)) (name_in l (name_of s.settled.names) (name_of swap.block.names)) (least_match m bank 0) (named_as s swap)
-    ∙ answered (is_below l) l (name_of s.settled.names) (name_of swap.block.names) m swap.done u.beside (omega (arith, u.left, count))
+    ∙ answered (is_below l) l (name_of s.settled.names) (name_of swap.block.names) m swap.done beside (omega (arith, small, count))
     ∙ ap (cond (has_turned s swap values) (named_answer (name_of swap.block.names) m l.new)) (answers-as s.settled values)
     ∙ ap (λ v. cond (has_turned s swap values) v (answer s.settled values)) (answers-as swap.block values)
+
+-- while it is pending
+pub pending_answer : (s : State) (swap : Swap) (values : List ℕ) → IsUnderway s swap →
+    option_and_then (naming s (Some swap)) (look_up (held_with s (Some swap)) values) ≡ old_or_new s (Some swap) values
+pending_answer s swap values u = stage_answer s swap values u.beside (omega (arith, u.left))
 
 answer_case : (s : State) (pending : Option Swap) (values : List ℕ) → IfSome pending (IsUnderway s) →
     option_and_then (naming s pending) (look_up (held_with s pending) values) ≡ old_or_new s pending values

@@ -1,5 +1,5 @@
 -- Banks, and what a look-up in one gives.
-use Rattle.std.specs.Prelude.{ℕ, suc, ◌-◌, Bool, false, cond, List, [], ◌∷◌, ◌++◌, map, length, replicate, find, Option, Some, None, option_and_then}
+use Rattle.std.specs.Prelude.{ℕ, suc, ◌-◌, Bool, false, cond, List, [], ◌∷◌, ◌++◌, map, length, replicate, Option, Some, None}
 
 -- the least slot whose entry passes, with the entry; the slots are counted from a number on
 abbrev pub least_match : {E : Type 0} → (E → Bool) → List (Option E) → ℕ → Option (ℕ × E)
@@ -11,10 +11,6 @@ least_match m (Some e ∷ bank) from = cond (m e) (Some (from, e)) (least_match 
 abbrev pub first_from : {E : Type 0} → (E → Bool) → List E → ℕ → Option (ℕ × E)
 first_from m [] from = None
 first_from m (e ∷ entries) from = cond (m e) (Some (from, e)) (first_from m entries (suc from))
-
--- the name of what a table answers
-abbrev pub named_answer : {E N : Type 0} → (E → Option N) → (E → Bool) → List E → Option N
-named_answer name m entries = option_and_then name (find m entries)
 
 -- the bank of so many slots that has the entries alone, from a slot on
 abbrev pub alone : {E : Type 0} → ℕ → ℕ → List E → List (Option E)

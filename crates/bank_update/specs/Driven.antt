@@ -39,3 +39,9 @@ abbrev pub Outcome : (Ran : List Event → List (List ℕ) → Type 0) → (Appe
 Outcome Ran Appended events (Ok count) = (count ≡ length events) × HasRun Ran Appended events
 Outcome Ran Appended events (Err Memory) = HasRunFront Ran Appended events
 Outcome Ran Appended events (Err WriteFault) = IsCutOff Ran Appended events
+
+-- a fact unless a write failed
+abbrev pub UnlessWriteFault : Result ℕ DriveError → Type 0 → Type 0
+UnlessWriteFault (Ok count) P = P
+UnlessWriteFault (Err Memory) P = P
+UnlessWriteFault (Err WriteFault) P = Unit {0}

@@ -1,7 +1,7 @@
 -- The writes by which a pending table replaces a settled one in a bank.
-use Rattle.std.specs.Prelude.{◌≡◌, ℕ, zero, suc, ◌+◌, ◌-◌, ◌≤◌, Bool, true, false, not, cond, ◌&&◌, ◌||◌, nat_le, nat_lt, List, length, take, set, Option, None, option_and_then, slice_get}
+use Rattle.std.specs.Prelude.{◌≡◌, ℕ, zero, suc, ◌+◌, ◌-◌, ◌≤◌, Bool, true, false, not, cond, ◌&&◌, ◌||◌, nat_le, nat_lt, List, length, take, set, Option, None, slice_get}
 use Rattle.std.specs.List.{list_any}
-use Rattle.bank_update.specs.Banks.{least_match, alone}
+use Rattle.bank_update.specs.Banks.{alone}
 
 -- how many slots the bank has; the settled table's entries stand from slot a on, the pending table's are to stand from slot b on
 pub record Layout (E : Type 0) : Type 0 where
@@ -55,11 +55,3 @@ turned false m s d = list_any m (new_put s d) || (nat_le (length s.new) d && not
 -- whether the slot is one of so many from a slot on
 abbrev pub in_block : ℕ → ℕ → ℕ → Bool
 in_block from count slot = nat_le from slot && nat_lt slot (from + count)
-
--- the name of a found entry in the table whose block has its slot: the settled one's, or else the pending one's
-abbrev pub name_in : {E N : Type 0} → Layout E → (E → Option N) → (E → Option N) → ℕ × E → Option N
-name_in s p q r = cond (in_block s.a (length s.old) r.0) (p r.1) (q r.1)
-
--- what a look-up after so many writes answers
-abbrev pub answer_at : {E N : Type 0} → Layout E → (E → Option N) → (E → Option N) → (E → Bool) → ℕ → Option N
-answer_at s p q m d = option_and_then (name_in s p q) (least_match m (bank_after s d) 0)

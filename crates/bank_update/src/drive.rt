@@ -1,8 +1,9 @@
+//! Running a script: each command takes its turn, and its line is written.
 ghost use Rattle.std.specs.Prelude.{◌≡◌, ◌≤◌, [], length, All, IfOk, IsErrOf, OnErr};
 ghost use Rattle.std.specs.Io.KnownBytes.{Appends};
 ghost use Rattle.razor_base.specs.Faults.{Rose};
 ghost use Rattle.bank_update.specs.Commands.{event_of};
-ghost use Rattle.bank_update.specs.Driven.{Outcome};
+ghost use Rattle.bank_update.specs.Driven.{Outcome, UnlessWriteFault};
 ghost use Rattle.bank_update.specs.Runs.{IsRun};
 ghost use Rattle.bank_update.specs.Script.{Begin, IsWithin};
 ghost use Rattle.bank_update.specs.Turns.{TakesTurn, without_table};
@@ -122,6 +123,9 @@ pub fn drive_on<K: Sink, V: Device>(
     // A fault comes only where its count rose, and the count doesn't fall.
     ensures write_fault { IsErrOf result errors.WriteFault → Rose (K.faults out.old) (K.faults out.new) }
     ensures written { K.faults out.old ≤ K.faults out.new }
+
+    // However else it ends, want of memory too, no write failed.
+    ensures calm { UnlessWriteFault result (K.faults out.new ≡ K.faults out.old) }
 {
     let mut pending = Pending::new();
     for command in &script.commands {

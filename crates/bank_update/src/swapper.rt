@@ -1,3 +1,4 @@
+//! A device whose table is replaced write by write.
 use crate::placed::Write;
 use crate::progress::Progress;
 use crate::refusal::{BeginRefusal, Idle, StepRefusal};
@@ -31,10 +32,12 @@ impl<V: Device> Model for Swapper<V> {
 }
 
 impl<V: Device> Swapper<V> {
-    ghost use Rattle.std.specs.Prelude.{◌≡◌, ◌≤◌, ◌↔◌, ℕ, List, None, Err, Ok, length, replicate, ok_or, IfOk, IfErr, OnOk, OnErr};
+    ghost use Rattle.std.specs.Prelude.{◌≡◌, ◌≢◌, ◌≤◌, ◌↔◌, ℕ, List, None, Err, Ok, length, replicate, ok_or, IfOk, IfErr, OnOk, OnErr};
+    ghost use Rattle.razor_base.specs.FaultPlan.{counted};
     ghost use Rattle.razor_base.specs.Faults.{Rose};
     ghost use Rattle.field_boxes.specs.Names.{text_of};
     ghost use Rattle.bank_update.specs.Machine.{abort_answer, aborted, begin_answer, begun, held, looked, old_or_new, stage, step_answer, stepped, unsettled};
+    ghost use Rattle.bank_update.specs.Sound.{IsSound};
     ghost use Rattle.bank_update.specs.Swapping.{KeepsNew};
     ghost use Rattle.bank_update.specs.declared.refusal.StepRefusal.TheVariants as step_refusals;
 
@@ -61,8 +64,10 @@ impl<V: Device> Swapper<V> {
 
     /// The stage of the swap that is pending; none exactly where none is.
     pub fn stage(&self) -> Option<Stage>
-        ensures { result ≡ stage self.now.state }
+        ensures stage { result ≡ stage self.now.state }
+        ensures sound { IsSound self.now.state }
     {
+        self.progress.soundness();
         self.progress.stage()
     }
 
@@ -90,6 +95,10 @@ impl<V: Device> Swapper<V> {
         ensures stepped { OnOk result (self.new.state ≡ stepped self.old.state) }
         ensures idle { result ≡ Err step_refusals.Idle ↔ self.old.state.pending ≡ None }
         ensures unchanged { OnErr result (self.new.state ≡ self.old.state) }
+
+        // One write is tried and no other, whether it fails or not; none where no swap is pending.
+        ensures one_try { self.old.state.pending ≢ None → V.tries self.new.device ≡ counted (V.tries self.old.device) }
+        ensures no_try { self.old.state.pending ≡ None → self.new ≡ self.old }
 
         // No answer goes from new back to old while the swap goes forward.
         ensures keeps { (values : List ℕ) → OnOk result (KeepsNew self.old.state self.new.state values) }

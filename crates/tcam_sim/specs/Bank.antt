@@ -22,3 +22,7 @@ slot_at bank k = slot_with (slice_index bank.vacant.items k) (number_at bank.mas
 -- all slots
 abbrev pub slots_of : Bank → List (Option Stored)
 slots_of bank = map (slot_at bank) (range_with_len 0 (length bank.decisions.items))
+
+-- how many calls of `set` were made
+abbrev pub sets_of : Bank → ℕ
+sets_of bank = bank.sets

@@ -5,3 +5,4 @@ pub mod Bank
 pub mod Search
 pub mod Vectors
 pub mod FaultyBank
+pub mod Tries

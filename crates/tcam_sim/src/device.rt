@@ -1,4 +1,5 @@
 ghost use Rattle.std.specs.Prelude.{◌≡◌, ◌≤◌, ◌<◌, ℕ, List, Option, length, option_map, slice_set, OnOk, OnErr};
+ghost use Rattle.razor_base.specs.FaultPlan.{counted};
 ghost use Rattle.razor_base.specs.Faults.{Rose};
 ghost use Rattle.tcam_sim.specs.Slots.{Stored, look_up, stored};
 
@@ -14,6 +15,9 @@ pub trait Device {
     /// How often a call has failed; the count stays at 2^64 - 1 once it is there.
     ghost faults: { Self → ℕ };
 
+    /// How many calls of `set` were made, whether they failed or not; the count stays at 2^64 - 1 once it is there.
+    ghost tries: { Self → ℕ };
+
     /// How many slots there are.
     fn slots(&self) -> u32
         ensures { result ≡ length (held self.now) };
@@ -26,7 +30,10 @@ pub trait Device {
 
         // A failure is counted, and the count doesn't fall.
         ensures failed { OnErr result (Rose (faults self.old) (faults self.new)) }
-        ensures counts { faults self.old ≤ faults self.new };
+        ensures counts { faults self.old ≤ faults self.new }
+
+        // It is one try, also where it fails.
+        ensures tried { tries self.new ≡ counted (tries self.old) };
 
     /// The least slot whose word matches the header, and its decision; none exactly where no word does.
     fn look(&self, header: &Header) -> Option<(u32, u32)>

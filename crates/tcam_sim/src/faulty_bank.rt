@@ -66,6 +66,8 @@ impl Device for FaultyBank {
 
     ghost faults = { set_faults };
 
+    ghost tries = { sets_made };
+
     fn slots(&self) -> u32
         ensures { result ≡ length (faulty_slots self.now) }
     {
@@ -81,7 +83,7 @@ impl Device for FaultyBank {
 
         // Exactly what it answers, and how the counts go on.
         ensures answer { result ≡ (if set_fails self.old then Err (record {}) else Ok tt) }
-        ensures made { sets_made self.new ≡ counted (sets_made self.old) }
+        ensures tried { sets_made self.new ≡ counted (sets_made self.old) }
         ensures faults { set_faults self.new ≡ (if set_fails self.old then counted (set_faults self.old) else set_faults self.old) }
         ensures chosen { chosen_sets self.new ≡ chosen_sets self.old }
     {

@@ -11,8 +11,6 @@ mod key;
 mod lanes;
 mod loading;
 mod search;
-#[cfg(test)]
-mod tests;
 
 pub use bank::Bank;
 pub use device::Device;

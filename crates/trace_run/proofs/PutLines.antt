@@ -1,5 +1,5 @@
 -- What is put of the answers to lines, at each end of a call.
-use Rattle.std.proofs.Common.{◌≡◌, ℕ, [], ◌++◌, List, Option, Result, Ok, Err, ap, sym, subst, append-nil, arith}
+use Rattle.std.proofs.Common.{◌≡◌, ℕ, [], ◌++◌, List, Option, Result, Ok, Err, refl, ap, sym, subst, append-nil, arith}
 use Rattle.std.specs.Prelude.{IsErrAnd}
 use Rattle.razor_base.specs.Output.{Puts}
 use Rattle.razor_base.proofs.Output.{leaves_out-none}
@@ -21,28 +21,28 @@ puts_lines-as {w = w} {f = f} {a = a} {b = b} {waited = waited} {waits = waits} 
 pub puts_lines-failed : {S T U E : Type 0} {w : S → Option (List ℕ)} {f : S → ℕ} {a b : S} {waited waits text : List ℕ} {e : E} {r : Result U TraceError} →
     Puts {T = T} {E = E} w f a b waited waits text (Err e) → r ≡ Err errors.WriteFault → PutsLines w f a b waited waits text r
 puts_lines-failed {U = U} {w = w} {f = f} {a = a} {b = b} {waited = waited} {waits = waits} {text = text} p e =
-    subst (λ (x : Result U TraceError). PutsLines w f a b waited waits text x) (sym e) (record { put = p.err; failed = p.failed; counts = p.counts })
+    subst (λ (x : Result U TraceError). PutsLines w f a b waited waits text x) (sym e) (record { put = p.err; failed = p.failed; calm = tt; counts = p.counts })
 
 -- memory was refused before anything was put
 pub puts_lines-refused : {S U : Type 0} {w : S → Option (List ℕ)} {f : S → ℕ} {a : S} {waited text : List ℕ} {r : Result U TraceError} →
     r ≡ Err errors.Memory → PutsLines w f a a waited waited text r
 puts_lines-refused {U = U} {w = w} {f = f} {a = a} {waited = waited} {text = text} e =
-    subst (λ (x : Result U TraceError). PutsLines w f a a waited waited text x) (sym e) (record { put = (waited ++ text, leaves_out-none (w a) (waited ++ text)); failed = tt; counts = omega arith })
+    subst (λ (x : Result U TraceError). PutsLines w f a a waited waited text x) (sym e) (record { put = (waited ++ text, leaves_out-none (w a) (waited ++ text)); failed = tt; calm = refl; counts = omega arith })
 
 -- memory was refused after all was put
 pub puts_lines-then_refused : {S T U : Type 0} {w : S → Option (List ℕ)} {f : S → ℕ} {a b : S} {waited waits text : List ℕ} {y : T} {r : Result U TraceError} →
     PutsLines {T = T} w f a b waited waits text (Ok y) → r ≡ Err errors.Memory → PutsLines w f a b waited waits text r
 puts_lines-then_refused {U = U} {w = w} {f = f} {a = a} {b = b} {waited = waited} {waits = waits} {text = text} p e =
-    subst (λ (x : Result U TraceError). PutsLines w f a b waited waits text x) (sym e) (record { put = (waits, p.put); failed = tt; counts = p.counts })
+    subst (λ (x : Result U TraceError). PutsLines w f a b waited waits text x) (sym e) (record { put = (waits, p.put); failed = tt; calm = p.calm; counts = p.counts })
 
 -- nothing was to be put
 pub puts_lines-nothing : {S U : Type 0} {w : S → Option (List ℕ)} {f : S → ℕ} {a : S} {waited : List ℕ} (y : U) → PutsLines w f a a waited waited [] (Ok y)
-puts_lines-nothing {w = w} {a = a} {waited = waited} y = record { put = rw (append-nil waited) (leaves_out-none (w a) waited); failed = tt; counts = omega arith }
+puts_lines-nothing {w = w} {a = a} {waited = waited} y = record { put = rw (append-nil waited) (leaves_out-none (w a) waited); failed = tt; calm = refl; counts = omega arith }
 
 -- another answer to the same call
 pub puts_lines-again : {S T U : Type 0} {w : S → Option (List ℕ)} {f : S → ℕ} {a b : S} {waited waits text : List ℕ} {x : T} (y : U) →
     PutsLines w f a b waited waits text (Ok x) → PutsLines w f a b waited waits text (Ok y)
-puts_lines-again y p = record { put = p.put; failed = tt; counts = p.counts }
+puts_lines-again y p = record { put = p.put; failed = tt; calm = p.calm; counts = p.counts }
 
 -- an error that was handed on
 pub handed_on : {T E : Type 0} (e : E) (r : Result T E) → IsErrAnd r (λ x. x ≡ e) → r ≡ Err e

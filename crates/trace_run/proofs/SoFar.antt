@@ -31,7 +31,7 @@ taken-is t e = record { done = t.done; put = t.put; count = t.count; comes = t.c
 -- another answer to the same call
 pub puts-again : {S T U E F : Type 0} {w : S → Option (List ℕ)} {f : S → ℕ} {a b : S} {waited waits text : List ℕ} {x : T} (y : U) →
     Puts {T = T} {E = E} w f a b waited waits text (Ok x) → Puts {T = U} {E = F} w f a b waited waits text (Ok y)
-puts-again y p = record { ok = p.ok; err = tt; lost = tt; failed = tt; counts = p.counts }
+puts-again y p = record { ok = p.ok; err = tt; lost = tt; failed = tt; calm = p.calm; counts = p.counts }
 
 -- one line more, which isn't bad
 pub taken-next : {S T E : Type 0} {w : S → Option (List ℕ)} {f : S → ℕ} {a b c : S} {waited waits left : List ℕ} {names : List (List ℕ)} {slots : List (Option Stored)} {headers : ℕ} {whole rest : Trace} {x : T}

@@ -27,7 +27,7 @@ pub record ReadSoFar {S : Type 0} (w : S → Option (List ℕ)) (f : S → ℕ) 
   pub lines : progress.lines ≡ length (text_lines front)
   pub headers : progress.headers ≡ length (trace_of front).headers
   pub put : LeavesOut (w a) (w b) (waited ++ answers_text names slots (trace_of front).headers) waits
-  pub counts : f a ≤ f b
+  pub calm : f b ≡ f a
 
 consumes-none : (known : Option (List ℕ)) → Consumes known known []
 consumes-none None = tt
@@ -55,7 +55,7 @@ so_far-none {w = w} {a = a} {waited = waited} names slots limit before progress 
   lines = lines;
   headers = headers;
   put = rw (append-nil waited) (leaves_out-none (w a) waited);
-  counts = omega arith;
+  calm = refl;
 }
 
 -- the answers to what was taken and to what comes next
@@ -92,5 +92,5 @@ so_far-next {w = w} {f = f} {a = a} {b = b} {c = c} {waited = waited} {waits = w
       headers = omega (arith, moved.headers, s.headers, headers);
       put = subst (λ t. LeavesOut (w a) (w c) t left) (texts names slots waited (trace_of s.front).headers (trace_of (s.front ++ ended)) (next_trace progress piece) come)
           (leaves_out-then (w a) (w b) (w c) (waited ++ answers_text names slots (trace_of s.front).headers) (answers_text names slots (next_trace progress piece).headers) waits left s.put puts.put);
-      counts = omega (arith, s.counts, puts.counts);
+      calm = puts.calm ∙ s.calm;
     }

@@ -58,8 +58,18 @@ OnWriteFault (Err errors.TooLong) P = Unit {0}
 OnWriteFault (Err errors.WriteFault) P = P
 OnWriteFault (Err errors.Memory) P = Unit {0}
 
+-- a fact unless a write failed
+abbrev pub UnlessWriteFault : {T : Type 0} → Result T TraceError → Type 0 → Type 0
+UnlessWriteFault (Ok value) P = P
+UnlessWriteFault (Err (errors.BadLine line reason)) P = P
+UnlessWriteFault (Err errors.ReadFault) P = P
+UnlessWriteFault (Err errors.TooLong) P = P
+UnlessWriteFault (Err errors.WriteFault) P = Unit {0}
+UnlessWriteFault (Err errors.Memory) P = P
+
 -- a call puts the text behind the bytes that waited, unless it is lost with a front of them written
 pub record PutsLines {S T : Type 0} (written : S → Option (List ℕ)) (faults : S → ℕ) (before after : S) (waited waits text : List ℕ) (answer : Result T TraceError) : Type 0 where
   pub put : OnGoing answer (LeavesOut (written before) (written after) (waited ++ text) waits) (AppendsFront (written before) (written after) (waited ++ text))
   pub failed : OnWriteFault answer (Rose (faults before) (faults after))
+  pub calm : UnlessWriteFault answer (faults after ≡ faults before)
   pub counts : faults before ≤ faults after

@@ -23,8 +23,6 @@ mod progress;
 mod reason;
 mod running;
 mod taking;
-#[cfg(test)]
-mod tests;
 
 pub use answering::answer;
 pub use column::next_column;

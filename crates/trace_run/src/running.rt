@@ -1,10 +1,11 @@
+//! Running a trace over a memory: its answers are written while it is read.
 ghost use Rattle.std.specs.Prelude.{◌≡◌, ◌≢◌, ◌≤◌, ℕ, List, IsErrOf};
 ghost use Rattle.std.specs.Io.KnownBytes.{Appends, Keeps};
 ghost use Rattle.razor_base.specs.Faults.{Rose};
 ghost use Rattle.razor_base.specs.Output.{AppendsFront};
 ghost use Rattle.trace_run.specs.Answers.{HaveNames, answers_text};
 ghost use Rattle.trace_run.specs.Outcome.{Begun, Outcome, Written};
-ghost use Rattle.trace_run.specs.Progress.{OnWriteFault, is_lost};
+ghost use Rattle.trace_run.specs.Progress.{OnWriteFault, UnlessWriteFault, is_lost};
 ghost use Rattle.trace_run.specs.declared.error.TraceError.TheVariants.{ReadFault};
 
 use crate::error::TraceError;
@@ -34,6 +35,7 @@ fn put_answers<V: Device, D: Desk, K: Sink>(
     ensures outcome { Outcome (Written K.written out.old out.new pending.old pending.new) (Begun K.written out.old out.new pending.old)
         (answers_text names.now (V.held device.now)) 67108864 (D.remaining desk.old name.now) (D.remaining desk.new name.now) result }
     ensures write_fault { OnWriteFault result (Rose (K.faults out.old) (K.faults out.new)) }
+    ensures calm { UnlessWriteFault result (K.faults out.new ≡ K.faults out.old) }
     ensures written { K.faults out.old ≤ K.faults out.new }
     ensures read_fault { IsErrOf result ReadFault → Rose (D.faults desk.old name.now) (D.faults desk.new name.now) }
     ensures others { (other : List ℕ) → other ≢ name.now → Keeps (D.remaining desk.old other) (D.remaining desk.new other) }
@@ -93,6 +95,9 @@ pub fn run<V: Device, D: Desk, K: Sink>(
     // A fault comes only where its count rose, and no count falls.
     ensures read_fault { IsErrOf result ReadFault → Rose (D.faults desk.old name.now) (D.faults desk.new name.now) }
     ensures write_fault { OnWriteFault result (Rose (K.faults out.old) (K.faults out.new)) }
+
+    // However else it ends, want of memory too, no write failed.
+    ensures calm { UnlessWriteFault result (K.faults out.new ≡ K.faults out.old) }
     ensures counts { (other : List ℕ) → D.faults desk.old other ≤ D.faults desk.new other }
     ensures written { K.faults out.old ≤ K.faults out.new }
 

@@ -1,6 +1,6 @@
-use Rattle.std.proofs.Common.{length, ap, arith}
+use Rattle.std.proofs.Common.{length, ap, ◌∙◌, arith}
 use Rattle.bank_update.specs.Swapping.{Swapping}
-use Rattle.bank_update.proofs.Driving.{event-within, goes-on, is-cut-off, next-event, out-of-memory, stopped-before, write-failed}
+use Rattle.bank_update.proofs.Driving.{calm-out-of-memory, calm-turn, calm-write-failed, event-within, goes-on, is-cut-off, next-event, out-of-memory, stopped-before, write-failed}
 use Rattle.bank_update.proofs.drive.drive_on.Goals as goal
 
 pub take_turn-requires-clause-within : goal.take_turn-requires-clause-within
@@ -22,6 +22,13 @@ returns-in_err-branch-clause-outcome g c =
     write-failed c.from_residual-in_err-branch.result c.from_residual-in_err-branch.ensures.1
     (is-cut-off g.K.Sink.written (g.K.Sink.written c.args.out.now) c.loop-command.out c.take_turn.new.out c.args.script.now c.loop-command.command-index c.in_ok-take_turn.field-0 c.in_err-branch.was c.loop-command.invariant.ran c.in_ok-take_turn.ensures.turn next)
 
+pub returns-in_err-take_turn-clause-calm : goal.returns-in_err-take_turn-clause-calm
+returns-in_err-take_turn-clause-calm g c =
+    calm-out-of-memory c.from_residual.result c.from_residual.ensures.1 (ap g.K.Sink.faults c.in_err-take_turn.ensures.refused.1 ∙ c.loop-command.invariant.calm)
+
+pub returns-in_err-branch-clause-calm : goal.returns-in_err-branch-clause-calm
+returns-in_err-branch-clause-calm g c = calm-write-failed _ c.from_residual-in_err-branch.result c.from_residual-in_err-branch.ensures.1
+
 pub loop-command-preserved : goal.loop-command-preserved
 loop-command-preserved g c =
     let next = next-event c.args.script.now c.script.inside.commands.items c.deref-command-items.result.now c.loop-command.command-index c.command-item.result c.script.view_is c.deref-command-items.ensures.value
@@ -31,5 +38,5 @@ loop-command-preserved g c =
       ran = goes-on g.K.Sink.written (g.K.Sink.written c.args.out.now) c.loop-command.out c.take_turn.new.out _ _ c.in_ok-take_turn.field-0 c.in_ok-branch.was c.loop-command.invariant.ran turn next;
       nothing = c.in_ok-take_turn.ensures.none;
       counts = omega (arith, c.loop-command.invariant.counts, turn.counts);
-      written = omega (arith, c.loop-command.invariant.written, turn.line.counts);
+      calm = calm-turn c.in_ok-take_turn.field-0 c.in_ok-branch.was turn ∙ c.loop-command.invariant.calm;
     }

@@ -10,5 +10,5 @@ invariant-loop-command g l = record {
       (Appends (g.K.Sink.written l.initial.out) (g.K.Sink.written l.out)) (take l.command-index l.script);
   nothing : l.pending ≡ [];
   counts : g.V.Device.faults l.initial.swapper.device ≤ g.V.Device.faults l.swapper.device;
-  written : g.K.Sink.faults l.initial.out ≤ g.K.Sink.faults l.out;
+  calm : g.K.Sink.faults l.out ≡ g.K.Sink.faults l.initial.out;
 }

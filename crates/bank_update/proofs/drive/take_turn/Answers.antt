@@ -23,4 +23,4 @@ returns-in-Look-clause-turn g c =
 
 pub returns-in-Stage-clause-turn : goal.returns-in-Stage-clause-turn
 returns-in-Stage-clause-turn g c =
-    turn-is (ap event_of c.in-Stage.is) (takes-quietly (stage_or_idle c.stage.result) refl refl refl (ap stage_or_idle c.stage.ensures) c.write_stage-in-Stage.ensures.whole)
+    turn-is (ap event_of c.in-Stage.is) (takes-quietly (stage_or_idle c.stage.result) refl refl refl (ap stage_or_idle c.stage.ensures.stage) c.write_stage-in-Stage.ensures.whole)

@@ -20,7 +20,7 @@ returns-clause-summary c =
       compiled = compiled;
       composed = refl;
       entries = omega (arith, c.len.ensures, length-map table.entries.items (entry_of table.names), table.entries.ok.0);
-      counts = counted c.loaded_entries_answer.ensures c.args.seed c.args.rules load table (slots_of c.in_ok-bank.bank) c.counts.result c.in_ok-load.ensures compiled c.in_ok-bank.ensures (rw (sym c.deref-2.ensures.value) c.counts.ensures);
+      counts = counted c.loaded_entries_answer.ensures c.args.seed c.args.rules load table (slots_of c.in_ok-bank.bank) c.counts.result c.in_ok-load.ensures compiled c.in_ok-bank.ensures.held (rw (sym c.deref-2.ensures.value) c.counts.ensures);
     }
 
 pub returns-clause-room : goal.returns-clause-room

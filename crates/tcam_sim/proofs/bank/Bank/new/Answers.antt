@@ -3,8 +3,8 @@ use Rattle.std.proofs.lemmas.List.{length-replicate}
 use Rattle.tcam_sim.proofs.Columns.{made-replicate, slot_with_vacant}
 use Rattle.tcam_sim.proofs.bank.Bank.new.Goals as goal
 
-pub returns : goal.returns
-returns c =
+pub returns-clause-empty : goal.returns-clause-empty
+returns-clause-empty c =
     let decisions = c.in_ok-vec.ensures.items_if_clones_equal (λ y e. e) in
     let vacant = c.in_ok-vec-2.ensures.items_if_clones_equal (λ y e. e) in
     made-replicate _ _ c.args.slots _ (ap length decisions ∙ length-replicate c.args.slots 0)

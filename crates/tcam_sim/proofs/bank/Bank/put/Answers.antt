@@ -3,8 +3,8 @@ use Rattle.std.proofs.lemmas.List.{length-set, get_or-set_same, get_or-set_other
 use Rattle.tcam_sim.proofs.Columns.{made-set, number_at_written, number_at_kept, slot_with-same}
 use Rattle.tcam_sim.proofs.bank.Bank.put.Goals as goal
 
-pub returns : goal.returns
-returns c =
+pub returns-clause-slots : goal.returns-clause-slots
+returns-clause-slots c =
     let old = c.args.self.now in
     let k = c.args.slot in
     let n = length old.decisions.items in
