@@ -324,13 +324,13 @@ module _ (c : Checking) (limit : ℕ) (start now : Option (List ℕ)) (room : �
       at_start (Some all) None m d = absurd m
       at_start (Some all) (Some left) m d = unended_in all left w (m ∙ ap (λ t. t ++ left) (append-nil h.seen)) d bad
 
-  pub faulted : (after : Option (List ℕ)) → known.Keeps now after → IfSome start (λ all. ReadsUpTo c all after)
+  pub faulted : (after : Option (List ℕ)) → known.Keeps now after → IfSome start (λ all. ReadsUpTo c limit all after)
   faulted after same = at_start start after (Consumes-kept start now after h.seen h.moved same)
     where
-      at_start : (start after : Option (List ℕ)) → Consumes start after h.seen → IfSome start (λ all. ReadsUpTo c all after)
+      at_start : (start after : Option (List ℕ)) → Consumes start after h.seen → IfSome start (λ all. ReadsUpTo c limit all after)
       at_start None after m = tt
       at_start (Some all) None m = absurd m
-      at_start (Some all) (Some left) m = record { front = h.seen; rest = left; parts = m; left_is = refl; right = (r, h.takes) }
+      at_start (Some all) (Some left) m = let fits = h.room_is in record { front = h.seen; rest = left; parts = m; left_is = refl; within = omega (arith, fits); right = (r, h.takes) }
 
 -- so few rows were taken
 pub rows-read : (c : Checking) (limit : ℕ) (start now : Option (List ℕ)) (room : ℕ) (kept : List ℕ) (r : Reading) → IsRead c limit start now room kept r → c.accepted ≡ 0 →

@@ -20,10 +20,11 @@ pub record ReadsTooMuch (c : Checking) (limit : ℕ) (all : List ℕ) : Type 0 w
   pub longer : limit < length all
   pub right : HasNoWrongLine c (take limit all)
 
--- no line is wrong that was read before a fault
-pub record ReadsUpTo (c : Checking) (all : List ℕ) (left : Option (List ℕ)) : Type 0 where
+-- these bytes were read before a fault: no more than the limit, and no line that ends in them is wrong
+pub record ReadsUpTo (c : Checking) (limit : ℕ) (all : List ℕ) (left : Option (List ℕ)) : Type 0 where
   pub front : List ℕ
   pub rest : List ℕ
   pub parts : all ≡ front ++ rest
   pub left_is : left ≡ Some rest
+  pub within : length front ≤ limit
   pub right : HasNoWrongLine c front

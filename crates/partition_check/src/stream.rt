@@ -104,7 +104,7 @@ pub fn check_stream<D: Desk>(
     ensures too_long { IsErrOf result Stop.TooLong → IfSome (D.remaining desk.old name.now)
         (λ all. ReadsTooMuch checker.entry 268435456 all) }
     ensures fault { IsErrOf result Stop.ReadFault → Rose (D.faults desk.old name.now) (D.faults desk.new name.now)
-        × IfSome (D.remaining desk.old name.now) (λ all. ReadsUpTo checker.entry all (D.remaining desk.new name.now)) }
+        × IfSome (D.remaining desk.old name.now) (λ all. ReadsUpTo checker.entry 268435456 all (D.remaining desk.new name.now)) }
 
     // The other inputs keep what they had, and no count falls.
     ensures others { (other : List ℕ) → other ≢ name.now → Keeps (D.remaining desk.old other) (D.remaining desk.new other) }
