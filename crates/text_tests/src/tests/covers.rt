@@ -1,8 +1,8 @@
-//! The shortest covers of spans by prefixes.
+//! The shortest covers of spans and of unions by prefixes.
 ghost use Rattle.std.specs.Prelude.{◌≤◌, ◌<◌, ◌^◌};
 
 use field_boxes::{Prefix, Span};
-use range_prefix::{cover, cover_count};
+use range_prefix::{cover, cover_all, cover_count};
 use std::test::Fail;
 
 #[test]
@@ -16,6 +16,24 @@ fn covers_are_shortest_and_rise(rt: HostRuntime) -> Result<(), Fail> {
         Prefix { value: 8, len: 2 },
         Prefix { value: 12, len: 3 },
         Prefix { value: 14, len: 4 },
+    ];
+    assert_eq!(rt; prefixes.as_slice(), expected.as_slice());
+    Ok(())
+}
+
+/// Ports 80 to 90 and 443.
+#[test]
+fn covers_of_unions_rise_over_the_spans(rt: HostRuntime) -> Result<(), Fail> {
+    let spans = [Span { lo: 80, hi: 90 }, Span { lo: 443, hi: 443 }];
+    let prefixes = cover_all(rt.alloc(), &spans, 16)?;
+    let expected = [
+        Prefix { value: 80, len: 13 },
+        Prefix { value: 88, len: 15 },
+        Prefix { value: 90, len: 16 },
+        Prefix {
+            value: 443,
+            len: 16,
+        },
     ];
     assert_eq!(rt; prefixes.as_slice(), expected.as_slice());
     Ok(())
