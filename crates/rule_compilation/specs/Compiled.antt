@@ -1,24 +1,28 @@
 -- The compiled table of a rule list, and why there is none.
-use Rattle.std.specs.Prelude.{◌≡◌, ◌≢◌, ℕ, ◌<◌, ◌≤◌, List, length}
+use Rattle.std.specs.Prelude.{◌≡◌, ◌≢◌, ℕ, ◌<◌, ◌≤◌, List, All, length}
 use Rattle.field_boxes.specs.Classifier.{Rule, source}
 use Rattle.field_boxes.specs.Fields.{IsHeader, stated}
 use Rattle.std.specs.List.{remove}
+use Rattle.ternary_words.specs.Prefixes.{IsPrefixInEach}
 use Rattle.ternary_words.specs.Table.{Entry, Table, answer}
 use Rattle.table_compose.specs.LeastCost.{IsLeastCost}
 use Rattle.table_compose.specs.declared.composition.ComposeError.{ComposeError}
 use Rattle.table_compose.specs.declared.composition.ComposeError.TheVariants.{TooMany, Memory}
+use Rattle.rule_compilation.specs.Pass.{IsKept}
 
 -- each entry alone, left out, changes the answer of some header
 abbrev pub IsTight : List Entry → Type 0
 IsTight entries = (place : ℕ) → place < length entries → (header : List ℕ) × IsHeader header × (answer (remove entries place) header ≢ answer entries header)
 
--- the table decides every header as the rules do, says their field-by-field least cost, has at most so many entries,
--- and of these none can go
+-- the table decides every header as the rules do by words that are prefixes in each field, and says their field-by-field
+-- least cost; its entries are what a pass keeps of a composed table of so many entries, and of these none can go
 pub record IsCompiled (rules : List (Rule (List ℕ))) (width : ℕ) (table : Table) : Type 0 where
   pub slot : table.slot ≡ width
   pub composed : IsLeastCost stated rules table.composed
   pub few : length table.entries ≤ table.composed
   pub answers : (header : List ℕ) → IsHeader header → answer table.entries header ≡ source stated header rules
+  pub prefixes : All (λ e. IsPrefixInEach e.word) table.entries
+  pub pass : IsKept rules table.composed table.entries
   pub tight : IsTight table.entries
 
 -- the least cost is more than the limit, or memory was refused

@@ -1,5 +1,5 @@
 //! The table of a rule list.
-ghost use Rattle.std.specs.Prelude.{◌≤◌, ℕ, All, IfOk, MatchResult, length};
+ghost use Rattle.std.specs.Prelude.{◌≡◌, ◌≤◌, ℕ, All, IfOk, MatchResult, length};
 ghost use Rattle.field_boxes.specs.Fields.{stated};
 ghost use Rattle.field_boxes.specs.NamedRules.{IsNumberedBy, named_rules};
 ghost use Rattle.ternary_words.specs.Limits.{IsSlotWidth};
@@ -38,6 +38,7 @@ pub fn compile(
     ensures table { MatchResult result
         (λ table. IsCompiled (named_rules names.now rules.now) slot (table_of table))
         (λ e. IsRefused (named_rules names.now rules.now) limit e) }
+    ensures names { IfOk result (λ table. table.names ≡ names.now) }
     ensures room { IfOk result (λ table. (needed : ℕ) → IsLeastCost stated (named_rules names.now rules.now) needed → needed ≤ limit) }
 {
     one_least_cost();
@@ -73,5 +74,6 @@ fn composed_entries(
     decisions_have_names();
     let mut store = Store::new(alloc);
     let root = build(alloc, &mut store, rules)?;
+    store.same_answers();
     compose(alloc, &store, root, limit)
 }

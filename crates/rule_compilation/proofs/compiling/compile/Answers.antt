@@ -4,9 +4,12 @@ use Rattle.field_boxes.specs.Fields.{stated}
 use Rattle.field_boxes.specs.NamedRules.{named_rules}
 use Rattle.ternary_words.specs.Limits.{AreNumbered}
 use Rattle.ternary_words.specs.Table.{answer}
-use Rattle.ternary_words.specs.Views.{entry_of}
+use Rattle.ternary_words.specs.Prefixes.{IsPrefixInEach}
+use Rattle.ternary_words.specs.Views.{entry_of, word_of}
 use Rattle.table_compose.specs.LeastCost.{IsLeastCost}
 use Rattle.rule_compilation.specs.Compiled.{IsTight}
+use Rattle.rule_compilation.specs.Pass.{AreComposedOf}
+use Rattle.rule_compilation.proofs.Prefixed.{named_prefixes}
 use Rattle.rule_compilation.proofs.Removed.{all_of_part, answers_stay, part_few, tight_named}
 use Rattle.rule_compilation.proofs.compiling.compile.Goals as goal
 
@@ -42,5 +45,7 @@ returns-clause-table c =
       composed = subst (IsLeastCost stated rules) composed made.many;
       few = subst (λ (ns : List (List ℕ)). length (map (entry_of ns) kept) ≤ c.len-composed.result) (sym same) few;
       answers = λ header is. ap (λ (ns : List (List ℕ)). answer (map (entry_of ns) kept) header) same ∙ answers_stay names kept all header (c.in_ok-entries-2.ensures.alike header is) ∙ made.answers header is;
+      prefixes = named_prefixes c.in_ok-names.names kept (all_of_part (λ e. IsPrefixInEach (word_of e.word)) kept all part c.in_ok-entries.ensures.prefixes);
+      pass = record { names = c.in_ok-names.names; table = all; kept = kept; composed = subst (λ (ns : List (List ℕ)). AreComposedOf ns rules all) (sym same) made.composed; many = composed; pass = c.in_ok-entries-2.ensures.pass; named = refl };
       tight = subst (λ (ns : List (List ℕ)). IsTight (map (entry_of ns) kept)) (sym same) (tight_named names kept c.are_names.ensures.distinct numbered c.in_ok-entries-2.ensures.tight);
     }
