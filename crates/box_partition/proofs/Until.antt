@@ -25,23 +25,28 @@ until-none {w = w} {a = a} {waited = waited} = record {
   ok = rw (append-nil waited) (leaves_out-none (w a) waited);
   err = tt;
   failed = tt;
+  refused = tt;
+  calm = refl;
   counts = omega arith;
 }
 
 -- what was put without a failure
 pub until-put : {S T U E : Type 0} {w : S → Option (List ℕ)} {f : S → ℕ} {a b : S} {waited waits text : List ℕ} {x : T} {y : U} →
     Puts {T = T} {E = E} w f a b waited waits text (Ok x) → PutsUntil {T = U} w f a b waited waits text (Ok y)
-until-put p = record { ok = p.ok; err = tt; failed = tt; counts = p.counts }
+until-put p = record { ok = p.ok; err = tt; failed = tt; refused = tt; calm = p.calm; counts = p.counts }
 
 pub until-ok : {S T U : Type 0} {w : S → Option (List ℕ)} {f : S → ℕ} {a b : S} {waited waits text : List ℕ} {x : T} {y : U} →
     PutsUntil {T = T} w f a b waited waits text (Ok x) → PutsUntil {T = U} w f a b waited waits text (Ok y)
-until-ok p = record { ok = p.ok; err = tt; failed = tt; counts = p.counts }
+until-ok p = record { ok = p.ok; err = tt; failed = tt; refused = tt; calm = p.calm; counts = p.counts }
+
+fault-or_memory : (stop : Stop) → stop ≡ Fault → stop ≡ Memory → ⊥
+fault-or_memory stop fault memory = let same : Memory ≡ Fault = sym memory ∙ fault in absurd cc
 
 -- a write failed
 pub until-failed : {S T U E : Type 0} {w : S → Option (List ℕ)} {f : S → ℕ} {a b : S} {waited waits text : List ℕ} {e : E} {r : Result U Stop} →
-    IsErr r → Puts {T = T} {E = E} w f a b waited waits text (Err e) → PutsUntil w f a b waited waits text r
-until-failed {r = Ok y} h p = absurd cc
-until-failed {r = Err y} h p = record { ok = tt; err = p.err; failed = λ is. p.failed; counts = p.counts }
+    IsErrAnd r (λ stop. stop ≡ Fault) → Puts {T = T} {E = E} w f a b waited waits text (Err e) → PutsUntil w f a b waited waits text r
+until-failed {r = Ok y} h p = absurd h
+until-failed {r = Err y} h p = record { ok = tt; err = p.err; failed = λ is. p.failed; refused = λ is. absurd (fault-or_memory y h is); calm = tt; counts = p.counts }
 
 -- memory was refused, before anything was put
 pub until-refused : {S U : Type 0} {w : S → Option (List ℕ)} {f : S → ℕ} {a : S} {waited waits text : List ℕ} {r : Result U Stop} →
@@ -50,7 +55,9 @@ until-refused {r = Ok y} h = absurd h
 until-refused {w = w} {a = a} {waited = waited} {text = text} {r = Err y} h = record {
   ok = tt;
   err = appends_front-none (w a) (waited ++ text);
-  failed = λ is. let same : Memory ≡ Fault = sym h ∙ is in absurd cc;
+  failed = λ is. absurd (fault-or_memory y is h);
+  refused = λ is. refl;
+  calm = tt;
   counts = omega arith;
 }
 
@@ -58,7 +65,7 @@ until-refused {w = w} {a = a} {waited = waited} {text = text} {r = Err y} h = re
 pub until-stop : {S T U : Type 0} {w : S → Option (List ℕ)} {f : S → ℕ} {a b : S} {waited waits text : List ℕ} {e : Stop} {r : Result U Stop} →
     IsErrAnd r (λ stop. stop ≡ e) → PutsUntil {T = T} w f a b waited waits text (Err e) → PutsUntil w f a b waited waits text r
 until-stop {r = Ok y} h p = absurd h
-until-stop {r = Err y} h p = record { ok = tt; err = p.err; failed = λ is. p.failed (sym h ∙ is); counts = p.counts }
+until-stop {r = Err y} h p = record { ok = tt; err = p.err; failed = λ is. p.failed (sym h ∙ is); refused = λ is. p.refused (sym h ∙ is); calm = tt; counts = p.counts }
 
 -- one call puts a text, the next puts more
 pub until-then : {S T U : Type 0} {w : S → Option (List ℕ)} {f : S → ℕ} {a b c : S} {waited waits left text more : List ℕ} {x : T} {r : Result U Stop} →
@@ -67,12 +74,16 @@ until-then {w = w} {f = f} {a = a} {b = b} {c = c} {waited = waited} {waits = wa
   ok = rw (← append_assoc waited text more) (leaves_out-then (w a) (w b) (w c) (waited ++ text) more waits left p.ok q.ok);
   err = tt;
   failed = tt;
+  refused = tt;
+  calm = q.calm ∙ p.calm;
   counts = omega (arith, p.counts, q.counts);
 }
 until-then {w = w} {f = f} {a = a} {b = b} {c = c} {waited = waited} {waits = waits} {left = left} {text = text} {more = more} {r = Err e} p q = record {
   ok = tt;
   err = rw (← append_assoc waited text more) (appends_front-then (w a) (w b) (w c) (waited ++ text) more waits p.ok q.err);
   failed = λ is. rose-later (f a) (f b) (f c) p.counts (q.failed is);
+  refused = λ is. q.refused is ∙ p.calm;
+  calm = tt;
   counts = omega (arith, p.counts, q.counts);
 }
 
@@ -83,6 +94,8 @@ until-more {w = w} {a = a} {b = b} {waited = waited} {text = text} more p = reco
   ok = tt;
   err = rw (← append_assoc waited text more) (appends_front-longer (w a) (w b) (waited ++ text) more p.err);
   failed = p.failed;
+  refused = p.refused;
+  calm = tt;
   counts = p.counts;
 }
 
@@ -127,7 +140,7 @@ err_of P (Err y) h = refl
 pub until-lost : {S T : Type 0} {w : S → Option (List ℕ)} {f : S → ℕ} {a b : S} {waited waits other text : List ℕ} {r : Result T Stop} →
     IsErr r → PutsUntil w f a b waited waits text r → PutsUntil w f a b waited other text r
 until-lost {r = Ok y} h p = absurd cc
-until-lost {r = Err y} h p = record { ok = tt; err = p.err; failed = p.failed; counts = p.counts }
+until-lost {r = Err y} h p = record { ok = tt; err = p.err; failed = p.failed; refused = p.refused; calm = tt; counts = p.counts }
 
 -- A whole text: two parts that are put behind nothing, and a flush.
 
@@ -137,19 +150,21 @@ whole-first_cut {w = w} {f = f} {a = a} {b = b} {waited = waited} {waits = waits
     until-lost (err_of (λ stop. stop ≡ e) r h) (subst (λ ws. PutsUntil w f a b ws waits whole r) none (until-is (until-stop h (until-more more p)) is))
 
 pub whole-second_cut : {S T U E V : Type 0} {w : S → Option (List ℕ)} {f : S → ℕ} {a b c : S} {waited waits left text more : List ℕ} {x : T} {e : E} {r : Result U Stop} (whole : List ℕ) →
-    IsErr r → waited ≡ [] → PutsUntil {T = T} w f a b waited waits text (Ok x) → Puts {T = V} {E = E} w f b c waits left more (Err e) → text ++ more ≡ whole → PutsUntil w f a c [] [] whole r
+    IsErrAnd r (λ stop. stop ≡ Fault) → waited ≡ [] → PutsUntil {T = T} w f a b waited waits text (Ok x) → Puts {T = V} {E = E} w f b c waits left more (Err e) → text ++ more ≡ whole → PutsUntil w f a c [] [] whole r
 whole-second_cut {w = w} {f = f} {a = a} {c = c} {waited = waited} {left = left} {r = r} whole h none p q is =
-    until-lost h (subst (λ ws. PutsUntil w f a c ws left whole r) none (until-is (until-then p (until-failed h q)) is))
+    until-lost (err_of (λ stop. stop ≡ Fault) r h) (subst (λ ws. PutsUntil w f a c ws left whole r) none (until-is (until-then p (until-failed h q)) is))
 
 pub whole-third_cut : {S T U V W E F : Type 0} {w : S → Option (List ℕ)} {f : S → ℕ} {a b c d : S} {waited waits left text more : List ℕ} {x : T} {y : V} {e : F} {r : Result U Stop} (whole : List ℕ) →
-    IsErr r → waited ≡ [] → PutsUntil {T = T} w f a b waited waits text (Ok x) → Puts {T = V} {E = E} w f b c waits left more (Ok y) → Writes {T = W} {E = F} w f c d left (Err e) →
+    IsErrAnd r (λ stop. stop ≡ Fault) → waited ≡ [] → PutsUntil {T = T} w f a b waited waits text (Ok x) → Puts {T = V} {E = E} w f b c waits left more (Ok y) → Writes {T = W} {E = F} w f c d left (Err e) →
     text ++ more ≡ whole → PutsUntil w f a d [] [] whole r
-whole-third_cut {r = Ok z} whole h none p q k is = absurd cc
+whole-third_cut {r = Ok z} whole h none p q k is = absurd h
 whole-third_cut {w = w} {f = f} {a = a} {b = b} {c = c} {d = d} {waited = waited} {waits = waits} {left = left} {text = text} {more = more} {x = x} {y = y} {r = Err z} whole h none p q k is =
     let both = until-is (until-then p (until-put {y = x} q)) is in record {
       ok = tt;
       err = appends_front-rest (w a) (w c) (w d) whole left (subst (λ ws. LeavesOut (w a) (w c) (ws ++ whole) left) none both.ok) k.err;
       failed = λ said. rose-later (f a) (f c) (f d) both.counts k.failed;
+      refused = λ said. absurd (fault-or_memory z h said);
+      calm = tt;
       counts = omega (arith, both.counts, k.counts);
     }
 
@@ -161,5 +176,7 @@ whole-written {w = w} {f = f} {a = a} {b = b} {c = c} {d = d} {waited = waited} 
       ok = leaves_out-all (w a) (w d) whole (leaves_out-appends (w a) (w c) (w d) whole left (subst (λ ws. LeavesOut (w a) (w c) (ws ++ whole) left) none both.ok) k.ok);
       err = tt;
       failed = tt;
+      refused = tt;
+      calm = k.calm ∙ both.calm;
       counts = omega (arith, both.counts, k.counts);
     }

@@ -3,11 +3,14 @@ use Rattle.std.specs.Prelude.{◌≡◌, ◌≤◌, ℕ, List, ◌++◌, Option,
 use Rattle.razor_base.specs.Faults.{Rose}
 use Rattle.razor_base.specs.Output.{LeavesOut, AppendsFront}
 use Rattle.box_partition.specs.declared.stop.Stop.{Stop}
-use Rattle.box_partition.specs.declared.stop.Stop.TheVariants.{Fault}
+use Rattle.box_partition.specs.declared.stop.Stop.TheVariants.{Fault, Memory}
 
--- the text is put behind the bytes that waited; where the call stops, a front was appended, and a failed write was counted
+-- the text is put behind the bytes that waited; where the call stops, a front was appended, and failed writes alone were
+-- counted
 pub record PutsUntil {S T : Type 0} (written : S → Option (List ℕ)) (faults : S → ℕ) (before after : S) (waited waits text : List ℕ) (answer : Result T Stop) : Type 0 where
   pub ok : OnOk answer (LeavesOut (written before) (written after) (waited ++ text) waits)
   pub err : OnErr answer (AppendsFront (written before) (written after) (waited ++ text))
   pub failed : IfErr answer (λ stop. stop ≡ Fault → Rose (faults before) (faults after))
+  pub refused : IfErr answer (λ stop. stop ≡ Memory → faults after ≡ faults before)
+  pub calm : OnOk answer (faults after ≡ faults before)
   pub counts : faults before ≤ faults after

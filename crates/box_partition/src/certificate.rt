@@ -10,7 +10,7 @@ ghost use Rattle.partition_check.specs.PrefixWords.{ArePrefixes};
 ghost use Rattle.box_partition.specs.Outcome.{Ends, IsWriting, IsWritten};
 ghost use Rattle.box_partition.specs.Output.{PutsUntil};
 ghost use Rattle.box_partition.specs.Rows.{AreRowsOf};
-ghost use Rattle.box_partition.specs.declared.error.CertError.TheVariants.{Fault};
+ghost use Rattle.box_partition.specs.declared.error.CertError.TheVariants.{Fault, Memory};
 
 use crate::difference::{first_difference, list_decision, table_decision};
 use crate::error::CertError;
@@ -43,8 +43,10 @@ pub fn write_certificate<K: Sink>(
     ensures prefixes { OnOk result (ArePrefixes table.now.entries.items) }
     ensures err { IfErr result (λ error. Ends list.now table.now (K.written out.old) (K.written out.new) error) }
 
-    // A fault comes only where the sink's count of them rose, which never falls.
+    // A fault comes only where the sink's count of them rose, which never falls, and a refusal of memory only where it
+    // stayed.
     ensures fault { IsErrOf result Fault → Rose (K.faults out.old) (K.faults out.new) }
+    ensures memory { IsErrOf result Memory → K.faults out.new ≡ K.faults out.old }
     ensures counts { K.faults out.old ≤ K.faults out.new }
 {
     let _checker = Checker::new(list, table)?;

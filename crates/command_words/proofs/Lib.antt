@@ -1,2 +1,3 @@
 pub mod Taking
 pub mod Fitting
+pub mod Apart

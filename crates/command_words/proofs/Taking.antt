@@ -8,7 +8,8 @@ use Rattle.std.proofs.lemmas.List.{append-nil, length-append, length-map, length
 use Rattle.command_words.specs.declared.option.OptionName.{OptionName}
 use Rattle.command_words.specs.declared.option.OptionName.TheVariants.{Limit, Slot, Slots}
 use Rattle.command_words.specs.Items.{Item, Given, Plain, Reading, Ends, Awaits, Gives, Stands, Fails, items_of, plain_of, reading_of, values_of}
-use Rattle.command_words.specs.Parts.{Found, few_words, first_value, one_in_all, with_items, with_plain, with_value, with_words}
+use Rattle.command_words.specs.Parts.{first_value, nothing_found, one_in_all, with_items, with_plain, with_value, with_words}
+use Rattle.command_words.specs.Spelling.{Found, few_words, found_among}
 use Rattle.command_words.specs.declared.plain.PlainWords.{PlainWords}
 use Rattle.command_words.specs.PlainWords.{plain_seen}
 use Rattle.command_words.specs.Steps.{◌>>=◌, in_front}
@@ -211,3 +212,8 @@ replaced found words plain h = ap (option_map (λ p. record found { plain = p })
 
 pub nothing : (found : Found) (words : List (List ℕ)) → None ≡ few_words (found.plain ++ words) → None ≡ with_plain found words
 nothing found words h = ap (option_map (λ p. record found { plain = p })) h
+
+-- what is found among all words
+pub all_words : (words : List (List ℕ)) → with_words nothing_found words ≡ (items_of None words >>= found_among)
+unfolding with_words
+all_words words = refl

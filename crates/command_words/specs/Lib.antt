@@ -2,10 +2,12 @@ pub mod Steps
 pub mod Numbers
 pub mod Options
 pub mod Items
-pub mod Commands
+pub mod Command
+pub mod Forms
+pub mod Naming
+pub mod Spelling
+pub mod Usage
 pub mod Views
 pub mod PlainWords
 pub mod Parts
-pub mod Usage
-pub mod Built
-pub mod Spelled
+pub mod Asked

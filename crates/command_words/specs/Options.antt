@@ -21,10 +21,14 @@ same_option a b = false
 abbrev pub slot_width : ℕ → Option ℕ
 slot_width n = if n == 104 || n == 144 || n == 288 then Some n else None
 
+-- 104, 144 or 288
+abbrev pub IsSlotWidth : ℕ → Type 0
+IsSlotWidth bits = (bits ≡ 104) ⊎ (bits ≡ 144) ⊎ (bits ≡ 288)
+
 -- the numbers that the option takes
 abbrev pub Takes : OptionName → ℕ → Type 0
 Takes Limit n = (1 ≤ n) × (n ≤ 262144)
-Takes Slot n = (n ≡ 104) ⊎ (n ≡ 144) ⊎ (n ≡ 288)
+Takes Slot n = IsSlotWidth n
 Takes Slots n = (1 ≤ n) × (n ≤ 262144)
 
 -- the number that a value of the option writes, where the option takes it
@@ -32,3 +36,9 @@ unfoldable pub option_number : OptionName → List ℕ → Option ℕ
 option_number Limit value = number_between 1 262144 value
 option_number Slot value = number_between 0 288 value >>= slot_width
 option_number Slots value = number_between 1 262144 value
+
+-- the value of an option that may be left out: the greatest limit, and the usual width
+abbrev pub usual_value : OptionName → ℕ
+usual_value Limit = 262144
+usual_value Slot = 144
+usual_value Slots = 262144

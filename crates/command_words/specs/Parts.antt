@@ -1,18 +1,12 @@
 -- The values of the options and the plain words among words, while they are read from left to right.
-use Rattle.std.specs.Prelude.{ℕ, List, [], ◌∷◌, ◌++◌, length, nat_le, Option, Some, None, option_map, if◌then◌else◌}
+use Rattle.std.specs.Prelude.{ℕ, List, [], ◌∷◌, ◌++◌, Option, Some, None, option_map}
 use Rattle.command_words.specs.declared.option.OptionName.{OptionName}
 use Rattle.command_words.specs.declared.option.OptionName.TheVariants.{Limit, Slot, Slots}
 use Rattle.command_words.specs.declared.parts.Parts as code
-use Rattle.command_words.specs.Commands.{one_value}
 use Rattle.command_words.specs.Items.{Item, items_of, plain_of, values_of}
 use Rattle.command_words.specs.PlainWords.{plain_seen}
+use Rattle.command_words.specs.Spelling.{Found, few_words, one_value}
 use Rattle.command_words.specs.Steps.{◌>>=◌}
-
-pub record Found : Type 0 where
-  pub limit : Option (List ℕ)
-  pub slot : Option (List ℕ)
-  pub slots : Option (List ℕ)
-  pub plain : List (List ℕ)
 
 abbrev pub found_seen : code.Parts → Found
 found_seen parts = record {
@@ -30,10 +24,6 @@ abbrev pub one_in_all : Option (List ℕ) → List (List ℕ) → Option (Option
 one_in_all None values = one_value values
 one_in_all (Some value) [] = Some (Some value)
 one_in_all (Some value) (other ∷ values) = None
-
--- up to nine words
-abbrev pub few_words : List (List ℕ) → Option (List (List ℕ))
-few_words words = if nat_le (length words) 9 then Some words else None
 
 -- what was found, and further items
 abbrev pub with_items : Found → List Item → Option Found

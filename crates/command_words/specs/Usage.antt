@@ -5,7 +5,7 @@ use Rattle.command_words.specs.declared.option.OptionName.{OptionName}
 use Rattle.command_words.specs.declared.option.OptionName.TheVariants.{Limit, Slot, Slots}
 use Rattle.command_words.specs.declared.form.Need.{Need}
 use Rattle.command_words.specs.declared.form.Need.TheVariants.{Never, Maybe, Always}
-use Rattle.command_words.specs.Commands.{Form}
+use Rattle.command_words.specs.Forms.{Form, forms}
 use Rattle.command_words.specs.Options.{option_text}
 
 -- what stands for the value of an option
@@ -21,10 +21,10 @@ option_usage Maybe option = codes " [" ++ option_text option ++ value_label opti
 option_usage Always option = codes " " ++ option_text option ++ value_label option
 
 -- the line of a command
-abbrev pub usage_line : {A : Type 0} → Form A → List ℕ
+abbrev pub usage_line : Form → List ℕ
 usage_line form =
     codes "  " ++ form.name ++ option_usage form.limit Limit ++ option_usage form.slot Slot ++ option_usage form.slots Slots ++ codes " " ++ form.label ++ 10 ∷ []
 
--- the usage text of commands
-abbrev pub usage_of : {A : Type 0} → List (Form A) → List ℕ
-usage_of forms = codes "usage: razor COMMAND" ++ 10 ∷ flat_map usage_line forms
+-- the commands that are built
+abbrev pub usage_text : List ℕ
+usage_text = codes "usage: razor COMMAND" ++ 10 ∷ flat_map usage_line forms

@@ -1,17 +1,18 @@
 -- Values of the code without where they lie in memory.
-use Rattle.std.specs.Prelude.{ℕ, ◌≤◌, List, [], Option, Some, None, IfSome, IsTrue}
-use Rattle.std.specs.List.{AllByRecursion}
+use Rattle.std.specs.Prelude.{ℕ, Bool, true, List}
+use Rattle.command_words.specs.declared.command.Command as code_command
+use Rattle.command_words.specs.declared.command.Command.TheVariants as asked
 use Rattle.command_words.specs.declared.form.CommandForm.{CommandForm}
-use Rattle.command_words.specs.declared.form.CommandName.{CommandName}
 use Rattle.command_words.specs.declared.reading.WordKind.{WordKind}
 use Rattle.command_words.specs.declared.reading.WordKind.TheVariants as code
-use Rattle.command_words.specs.declared.option.OptionName.TheVariants.{Limit, Slot, Slots}
-use Rattle.command_words.specs.declared.command.Spelled.{Spelled}
-use Rattle.command_words.specs.Commands.{Command, Form, all_differ, most_words}
+use Rattle.command_words.specs.declared.settings.Settings as code_settings
+use Rattle.command_words.specs.declared.sizes.Sizes as code_sizes
+use Rattle.command_words.specs.Command.{Command, Sizes, Make, Equiv, Cert, Check, Trace, Gen, Selfrun, Migrate}
+use Rattle.command_words.specs.Forms.{Form}
 use Rattle.command_words.specs.Items.{Reading, Ends, Awaits, Gives, Stands, Fails}
-use Rattle.command_words.specs.Options.{Takes}
-use Rattle.command_words.specs.PlainWords.{plain_seen}
+use Rattle.command_words.specs.Naming.{Settings, driving, is_script_run}
 
+-- how a word reads, as the code tells it
 abbrev pub kind_seen : WordKind → Reading
 kind_seen code.Ends = Ends
 kind_seen (code.Awaits option) = Awaits option
@@ -19,40 +20,38 @@ kind_seen (code.Gives option value) = Gives option value.now
 kind_seen code.Stands = Stands
 kind_seen code.Fails = Fails
 
--- the values of the options are such as the options take, and no two file words are equal
-pub record AreTaken (spelled : Spelled) : Type 0 where
-  pub limit : IfSome spelled.limit (Takes Limit)
-  pub slot : IfSome spelled.slot (Takes Slot)
-  pub slots : IfSome spelled.slots (Takes Slots)
-  pub apart : IsTrue (all_differ (plain_seen spelled.files))
-
 -- the form of a command of the code
-abbrev pub form_seen : CommandForm → Form CommandName
+abbrev pub form_seen : CommandForm → Form
 form_seen form = record {
   command = form.command;
   name = form.name.now;
   limit = form.limit;
   slot = form.slot;
   slots = form.slots;
-  operands = form.operands;
   label = form.label.now;
 }
 
--- no command has more than nine words that are no options
-abbrev pub HaveFewWords : List CommandForm → Type 0
-HaveFewWords forms = AllByRecursion (λ form. most_words form.operands ≤ 9) forms
+-- the sizes of a table
+abbrev pub sizes_of : code_sizes.Sizes → Sizes
+sizes_of sizes = record { limit = sizes.limit; slot = sizes.slot }
 
-abbrev pub numbers_seen : Option (List ℕ) → List ℕ
-numbers_seen None = []
-numbers_seen (Some numbers) = numbers
+-- what the options come to
+abbrev pub settings_seen : code_settings.Settings → Settings
+settings_seen settings = record { sizes = sizes_of settings.sizes; slots = settings.slots.count }
 
--- the command that words of the code spell
-abbrev pub command_seen : Spelled → Command CommandName
-command_seen spelled = record {
-  command = spelled.command;
-  limit = spelled.limit;
-  slot = spelled.slot;
-  slots = spelled.slots;
-  files = plain_seen spelled.files;
-  numbers = numbers_seen spelled.numbers;
-}
+-- the words are those of a script and of its tables, where the command keeps none itself
+abbrev pub are_words_of : code_command.Command → List (List ℕ) → Bool
+are_words_of (asked.Drive slots) words = is_script_run words
+are_words_of command words = true
+
+-- a command of the code over these words
+abbrev pub spelled_over : List (List ℕ) → code_command.Command → Command
+spelled_over words (asked.Make method sizes list) = Make method (sizes_of sizes) list.now
+spelled_over words (asked.Equiv both) = Equiv both.first.now both.second.now
+spelled_over words (asked.Cert both) = Cert both.first.now both.second.now
+spelled_over words (asked.Check all) = Check all.first.now all.second.now all.third.now
+spelled_over words (asked.Trace both) = Trace both.first.now both.second.now
+spelled_over words (asked.Drive slots) = driving slots.count words
+spelled_over words (asked.Gen drawing) = Gen drawing.seed drawing.rules
+spelled_over words (asked.Selfrun drawing) = Selfrun drawing.seed drawing.rules
+spelled_over words (asked.Migrate table) = Migrate table.now

@@ -1,11 +1,13 @@
-//! The forms of commands.
-ghost use Rattle.std.specs.Prelude.{◌≡◌, find};
-ghost use Rattle.std.specs.Option.{option_copied};
+//! The forms of the commands.
+ghost use Rattle.std.specs.Prelude.{◌≡◌, find, map};
+ghost use Rattle.std.specs.Option.{option_copied, option_map};
 ghost use Rattle.std.specs.Str.{bytes_eq};
+ghost use Rattle.command_words.specs.Forms.{forms, plain_form, script_form, table_form};
+ghost use Rattle.command_words.specs.Views.{form_seen};
 
 /// The commands that are built.
 #[derive(Clone, Copy, Debug, PartialEq, Eq)]
-pub enum CommandName {
+pub(crate) enum CommandName {
     Expand,
     Compile,
     Equiv,
@@ -20,38 +22,96 @@ pub enum CommandName {
 
 /// Whether a command takes an option: never, if it is there, or it has to be there.
 #[derive(Clone, Copy, Debug, PartialEq, Eq)]
-pub enum Need {
+pub(crate) enum Need {
     Never,
     Maybe,
     Always,
 }
 
-/// The words of a command that are no options.
+/// How a command is spelled: its name, whether it takes each option, and how the usage text calls its other
+/// words.
 #[derive(Clone, Copy, Debug)]
-pub enum Operands {
-    /// File words, at least and at most so many, and at most nine. No two of them are equal; `-` is
-    /// standard input.
-    Files { fewest: usize, most: usize },
-    /// Two numbers, each from 0 up to its greatest value.
-    Numbers([u32; 2]),
-}
-
-/// The form of a command: its name, whether it takes each option, its other words, and how the usage text
-/// names them.
-#[derive(Clone, Copy, Debug)]
-pub struct CommandForm {
+pub(crate) struct CommandForm {
     pub command: CommandName,
     pub name: &'static str,
     pub limit: Need,
     pub slot: Need,
     pub slots: Need,
-    pub operands: Operands,
     pub label: &'static str,
 }
 
-/// The first form with the name.
-pub(crate) fn form_named<'a>(forms: &'a [CommandForm], name: &str) -> Option<&'a CommandForm>
+/// The form of a command that makes a table of a list.
+fn table_form(command: CommandName, name: &'static str) -> CommandForm
+    ensures { form_seen result ≡ table_form command name.now }
+{
+    CommandForm {
+        command,
+        name,
+        limit: Need::Maybe,
+        slot: Need::Maybe,
+        slots: Need::Never,
+        label: "LIST",
+    }
+}
+
+/// The form of a command without options.
+fn plain_form(command: CommandName, name: &'static str, label: &'static str) -> CommandForm
+    ensures { form_seen result ≡ plain_form command name.now label.now }
+{
+    CommandForm {
+        command,
+        name,
+        limit: Need::Never,
+        slot: Need::Never,
+        slots: Need::Never,
+        label,
+    }
+}
+
+/// The form of a command that runs a script over tables in a memory of some slots.
+fn script_form(command: CommandName, name: &'static str) -> CommandForm
+    ensures { form_seen result ≡ script_form command name.now }
+{
+    CommandForm {
+        command,
+        name,
+        limit: Need::Never,
+        slot: Need::Never,
+        slots: Need::Always,
+        label: "SCRIPT TABLE ..",
+    }
+}
+
+/// The forms of the commands that are built, in the order of the usage text.
+#[tactic(auto, unfolding(crate::specs::Forms::forms))]
+pub(crate) fn forms() -> [CommandForm; 10]
+    ensures { map form_seen result ≡ forms }
+{
+    [
+        table_form(CommandName::Expand, "expand"),
+        table_form(CommandName::Compile, "compile"),
+        plain_form(CommandName::Equiv, "equiv", "A B"),
+        plain_form(CommandName::Cert, "cert", "LIST TABLE"),
+        plain_form(CommandName::Check, "check", "LIST TABLE CERT"),
+        plain_form(CommandName::Trace, "trace", "TABLE TRACE"),
+        script_form(CommandName::Drive, "drive"),
+        plain_form(CommandName::Gen, "gen", "SEED N"),
+        plain_form(CommandName::Selfrun, "selfrun", "SEED N"),
+        plain_form(CommandName::Migrate, "migrate", "TABLE"),
+    ]
+}
+
+/// The first of the forms with the name.
+fn first_named<'a>(forms: &'a [CommandForm], name: &str) -> Option<&'a CommandForm>
     ensures { option_copied result ≡ find (λ form. bytes_eq form.name.now name.now) forms.entry.now }
 {
     forms.iter().find(|form| form.name == name)
+}
+
+/// The form of the command with the name.
+pub(crate) fn form_named(name: &str) -> Option<CommandForm>
+    ensures { option_map form_seen result ≡ find (λ form. bytes_eq form.name name.now) forms }
+{
+    let forms = forms();
+    first_named(&forms, name).copied()
 }

@@ -3,42 +3,45 @@
 //! All commands have one grammar. The first word is the command's name. Among the others an option takes the
 //! next word as its value, or what follows `=` in its own word; the first `--` that is no such value ends the
 //! options; every other word is a plain word, unless it has a `-` in front and more behind it, which makes
-//! the words no command. A [`CommandForm`] says what a command has: which options it takes or needs, and its
-//! plain words, which are file words or numbers. [`spelled_command`] reads words by any list of forms, and
-//! [`built_command`] by those of the commands that are built, which [`built_forms`] lists: a further command
-//! is one more line there, and a name in [`CommandName`].
+//! the words no command. The table in `form` says how each command is spelled: its name, which options it
+//! takes or needs, and what its plain words are called; the usage text is made of it. `naming` gives each
+//! name its [`Command`], over what the options come to and the plain words, which are file words or numbers.
+//! A further command is a line of the table, a case of `naming`, and a variant of [`Command`].
 //!
-//! `specs/Items.antt` and `specs/Commands.antt` say what words spell: the words are parted into items, at
-//! most one value is given to each option, and the form takes the values and the plain words or doesn't. The
-//! code reads the words once, from left to right, and takes no memory. [`rows`] has each rule on small
-//! examples.
+//! `specs/Spelling.antt` says what words spell: the words are parted into items, at most one value is given
+//! to each option, the form takes the values or doesn't, and the name makes a command of them and the plain
+//! words. The code reads the words once, from left to right, and takes no memory. [`rows`] has each rule on
+//! small examples.
 //!
 //! ```text
-//! let command = built_command(&words)?; // of `expand --limit 5 in`
-//! let limit = command.limit; // Some(5)
-//! let files = command.files.as_slice(); // ["in"]
+//! let command = spelled_command(&words)?; // of `expand --limit 5 in`
 //! ```
 #![tactic(auto)]
 
-mod built;
+mod asked;
 mod command;
-mod file_words;
+mod drawing;
+mod files;
 mod form;
+mod naming;
 mod number;
-mod number_words;
 mod option;
 mod parts;
 mod plain;
 mod reading;
 pub mod rows;
 mod settings;
+mod sizes;
+mod spelling;
 mod usage;
 mod words;
 
-pub use built::{built_command, built_forms};
-pub use command::{Spelled, spelled_command};
-pub use form::{CommandForm, CommandName, Need, Operands};
-pub use option::OptionName;
+pub use asked::Asked;
+pub use command::{Command, Method};
+pub use drawing::Drawing;
+pub use files::{ThreeFiles, TwoFiles};
 pub use plain::PlainWords;
-pub use usage::usage_parts;
+pub use sizes::{Sizes, Slots};
+pub use spelling::spelled_command;
+pub use usage::write_usage;
 pub use words::Words;

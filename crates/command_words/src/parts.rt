@@ -1,5 +1,7 @@
 //! The values of the options and the plain words among words, read from left to right.
 ghost use Rattle.std.specs.Prelude.{◌≡◌, ◌<◌, Option, Some, None, length, map, IfSome, option_and_then};
+ghost use Rattle.command_words.specs.Items.{items_of};
+ghost use Rattle.command_words.specs.Spelling.{found_among};
 ghost use Rattle.std.specs.Option.{option_map};
 ghost use Rattle.std.specs.String.{string_bytes};
 ghost use Rattle.command_words.specs.Parts.{first_value, found_seen, nothing_found, with_value, with_words};
@@ -91,7 +93,7 @@ impl<'a> Parts<'a> {
 /// What is found among the words; none where they are no options and plain words, an option is given
 /// twice, or there are more than nine plain words.
 pub(crate) fn parted(words: &[String]) -> Option<Parts<'_>>
-    ensures { option_map found_seen result ≡ with_words nothing_found (map string_bytes words.now) }
+    ensures { option_map found_seen result ≡ option_and_then found_among (items_of None (map string_bytes words.now)) }
 {
     let mut parts = Parts::new();
     let mut left = words;

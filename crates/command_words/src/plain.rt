@@ -17,7 +17,7 @@ impl<'a> PlainWords<'a> {
     ghost use Rattle.std.specs.Option.{option_map};
     ghost use Rattle.std.specs.String.{string_bytes};
     ghost use Rattle.command_words.specs.PlainWords.{plain_seen};
-    ghost use Rattle.command_words.specs.Parts.{few_words};
+    ghost use Rattle.command_words.specs.Spelling.{few_words};
 
     /// No words.
     pub(crate) fn new() -> PlainWords<'a>

@@ -1,4 +1,4 @@
-//! Tests of diagrams and of what is made of them: sets, prefix lists, composed tables, and lists compared.
+//! Tests of diagrams, prefix lists, and tables without redundant entries.
 #![tactic(auto)]
 
 #[cfg(test)]

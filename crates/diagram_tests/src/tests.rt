@@ -1,11 +1,6 @@
-mod agreements;
 mod building;
-mod comparing;
-mod composing;
-mod differences;
 mod joints;
 mod nodes;
 mod prefix_lists;
 mod removing;
-mod sets;
 mod stores;

@@ -8,3 +8,5 @@ mod reading;
 mod refusing;
 mod running;
 mod table;
+mod telling;
+mod tracing;

@@ -32,4 +32,3 @@ pub use reading::read_list;
 pub use reason::Reason;
 pub use token::is_blank;
 pub use write::write_list;
-

@@ -8,7 +8,7 @@ use Rattle.razor_core.specs.declared.ending.Ending.{Ending}
 use Rattle.razor_core.specs.declared.ending.Ending.TheVariants.{Done, No, BadLine as Bad, TooLong, TooMany, ReadFault, WriteFault, Memory}
 use Rattle.razor_core.specs.declared.making.CompileError.{CompileError}
 use Rattle.razor_core.specs.declared.making.CompileError.TheVariants as errors
-use Rattle.razor_core.specs.declared.method.Method.{Method}
+use Rattle.command_words.specs.declared.command.Method.{Method}
 use Rattle.razor_core.specs.Command.{Command, Make, Sizes}
 use Rattle.razor_core.specs.Inputs.{Input, Value, inputs, list_input, list_value, read_by}
 use Rattle.filter_reader.specs.FilterList.{FilterList}

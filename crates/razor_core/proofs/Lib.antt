@@ -1,5 +1,5 @@
-pub mod Apart
 pub mod Compared
+pub mod ScriptWords
 pub mod DifferText
 pub mod Driven
 pub mod Ended

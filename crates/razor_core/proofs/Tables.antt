@@ -7,7 +7,7 @@ use Rattle.std.specs.Str.{bytes_eq}
 use Rattle.std.specs.Io.KnownBytes.{Keeps}
 use Rattle.std.proofs.lemmas.List.{take_all}
 use Rattle.std.proofs.lemmas.Slice.Eq.{bytes_eq-Decides}
-use Rattle.command_words.specs.Commands.{all_differ}
+use Rattle.command_words.specs.Naming.{all_differ}
 use Rattle.ternary_words.specs.declared.table.Table.{Table}
 use Rattle.razor_core.specs.declared.ending.Ending.{Ending}
 use Rattle.razor_core.specs.Command.{Command}

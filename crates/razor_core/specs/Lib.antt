@@ -1,6 +1,4 @@
 pub mod Command
-pub mod Commands
-pub mod Asked
 pub mod Inputs
 pub mod Traced
 pub mod Certified

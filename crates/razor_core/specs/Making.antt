@@ -7,8 +7,8 @@ use Rattle.table_compose.specs.LeastCost.{IsLeastCost}
 use Rattle.rule_compilation.specs.Compiled.{IsCompiled}
 use Rattle.rule_expansion.specs.Expansion.{expanded_count}
 use Rattle.rule_expansion.specs.Tables.{IsExpansion}
-use Rattle.razor_core.specs.declared.method.Method.{Method}
-use Rattle.razor_core.specs.declared.method.Method.TheVariants.{Expand, Compile}
+use Rattle.command_words.specs.declared.command.Method.{Method}
+use Rattle.command_words.specs.declared.command.Method.TheVariants.{Expand, Compile}
 use Rattle.razor_core.specs.declared.making.CompileError.{CompileError}
 use Rattle.razor_core.specs.declared.making.CompileError.TheVariants.{TooMany, Memory}
 

@@ -1,18 +1,13 @@
 -- The lines on standard error.
 use Rattle.std.specs.Prelude.{ℕ, List, [], ◌∷◌, ◌++◌, codes}
 use Rattle.std.specs.Fmt.{decimal}
-use Rattle.command_words.specs.Built.{built_forms}
-use Rattle.command_words.specs.Usage.{usage_of}
+pub use Rattle.command_words.specs.Usage.{usage_text}
 use Rattle.razor_core.specs.declared.line_reason.LineReason.{LineReason}
 use Rattle.razor_core.specs.Reasons.{counts_text, reason_text}
 use Rattle.razor_core.specs.Turns.{Stop, bad_line, too_long, too_many}
 
 abbrev pub line_end : List ℕ
 line_end = 10 ∷ []
-
--- the commands that are built
-abbrev pub usage_text : List ℕ
-usage_text = usage_of built_forms
 
 abbrev pub bad_line_line : List ℕ → ℕ → LineReason → List ℕ
 bad_line_line file line reason = file ++ codes ": line " ++ decimal line ++ codes ": " ++ reason_text reason ++ counts_text reason ++ line_end

@@ -2,7 +2,7 @@
 use Rattle.std.specs.Prelude.{◌≡◌, ℕ, ◌<◌, ◌⊎◌, List, [], ◌∷◌, length, Result, Ok, Err, if◌then◌else◌}
 use Rattle.trace_run.specs.Outcome.{GoesOn}
 use Rattle.list_generator.specs.DrawnRules.{generated}
-use Rattle.razor_core.specs.declared.method.Method.TheVariants.{Compile}
+use Rattle.command_words.specs.declared.command.Method.TheVariants.{Compile}
 use Rattle.razor_core.specs.Command.{Command, Make, Cert, Check, Trace, Selfrun}
 use Rattle.razor_core.specs.Inputs.{BadLine, Input, Value, list_value, table_value, lines_value, inputs, is_too_long, most_bytes, spelled_by, text_of_certificate, text_of_trace}
 use Rattle.razor_core.specs.Outside.{Outside, bytes_at}

@@ -11,7 +11,7 @@ ghost use Rattle.razor_core.specs.Ending.{Ends};
 
 use crate::ending::{Ending, Summary};
 use crate::input::{take_list, take_table};
-use crate::three_files::ThreeFiles;
+use command_words::ThreeFiles;
 use filter_reader::RuleList;
 use partition_check::laws::equal_lists_have_one_verdict;
 use partition_check::{Checker, Stop, Why, Wrong, check_stream};

@@ -5,8 +5,8 @@ ghost use Rattle.razor_core.specs.Command.{Selfrun};
 ghost use Rattle.razor_core.specs.Ending.{Ends};
 ghost use Rattle.razor_core.specs.SelfRuns.{summary_line};
 
-use crate::drawing::Drawing;
 use crate::ending::{Ending, Summary};
+use command_words::Drawing;
 use razor_base::{Failed, Part, Sink, write_parts};
 use self_run::self_run;
 use std::alloc::Global;

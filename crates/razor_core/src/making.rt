@@ -11,8 +11,7 @@ ghost use Rattle.razor_core.specs.Making.{IsMade, IsNeeded, IsRefused};
 ghost use Rattle.razor_core.specs.declared.making.CompileError.{CompileError};
 ghost use Rattle.razor_core.specs.declared.making.CompileError.TheVariants as errors;
 
-use crate::method::Method;
-use crate::sizes::Sizes;
+use command_words::{Method, Sizes};
 use filter_reader::RuleList;
 use rule_expansion::ExpandError;
 use std::alloc::Global;

@@ -1,12 +1,14 @@
 ghost use Rattle.std.specs.Prelude.{◌≡◌};
 ghost use Rattle.razor_base.specs.Parts.{parts_text};
 ghost use Rattle.razor_core.specs.Says.{Says};
-ghost use Rattle.razor_core.specs.Messages.{bad_line_line, usage_text};
+ghost use Rattle.command_words.specs.Usage.{usage_text};
+ghost use Rattle.razor_core.specs.Messages.{bad_line_line};
 ghost use Rattle.razor_core.specs.Ending.{ending_line, summary_text};
 
 use crate::ending::{Ending, Summary};
 use crate::line_reason::LineReason;
 use crate::reason::{counts, reason_words};
+use command_words::write_usage;
 use razor_base::{Part, Sink, write_parts};
 
 /// Writes the parts as far as the sink lets them.
@@ -20,12 +22,7 @@ fn say<E: Sink>(err: &mut E, parts: &[Part<'_>])
 pub fn say_usage<E: Sink>(err: &mut E)
     ensures { Says E.written E.faults err.old err.new usage_text }
 {
-    say(
-        err,
-        &[Part::Text(
-            "usage: razor COMMAND\n  expand [--limit N] [--slot W] LIST\n  compile [--limit N] [--slot W] LIST\n  equiv A B\n  cert LIST TABLE\n  check LIST TABLE CERT\n  trace TABLE TRACE\n  drive --slots N SCRIPT TABLE ..\n  gen SEED N\n  selfrun SEED N\n  migrate TABLE\n",
-        )],
-    )
+    let _ = write_usage(err);
 }
 
 /// Says how the command ended.

@@ -1,28 +1,23 @@
 ghost use Rattle.std.specs.Prelude.{◌≡◌, ◌≢◌, ℕ, List, Option, Some, length};
 ghost use Rattle.std.specs.Io.KnownBytes.{Keeps};
 ghost use Rattle.razor_core.specs.Command.{Make, Equiv, Gen, Migrate};
-ghost use Rattle.razor_core.specs.Commands.{sizes_of};
-ghost use Rattle.razor_core.specs.Asked.{spelled};
+ghost use Rattle.command_words.specs.Asked.{meant};
+ghost use Rattle.command_words.specs.Views.{sizes_of};
 ghost use Rattle.razor_core.specs.Outside.{seen, IsNoInput};
 ghost use Rattle.filter_reader.specs.Lists.{filter_list};
 ghost use Rattle.razor_core.specs.Ending.{Ends, IsEndingOf, summary_text};
 ghost use Rattle.razor_core.specs.Messages.{rules_line};
 
-use crate::asked::Asked;
 use crate::certificate::check_certificate;
 use crate::certifying::certify;
-use crate::command::Command;
 use crate::comparison::{answered, write_verdict};
-use crate::drawing::Drawing;
 use crate::ending::{Ending, Summary};
 use crate::input::{take_list, take_table};
 use crate::load::run_load;
 use crate::making::{CompileError, make};
-use crate::method::Method;
 use crate::running::run_script;
-use crate::sizes::Sizes;
 use crate::tracing::answer_trace;
-use crate::two_files::TwoFiles;
+use command_words::{Asked, Command, Drawing, Method, Sizes, TwoFiles};
 use filter_reader::{RuleList, write_list};
 use list_equiv::equal;
 use list_generator::generate;
@@ -37,11 +32,11 @@ pub fn run<'a, D: Desk, K: Sink>(
     desk: &mut D,
     out: &mut K,
 ) -> Ending<'a>
-    ensures ends { Ends (spelled asked.entry)
+    ensures ends { Ends (meant asked.entry)
         (seen D.remaining D.faults K.written K.faults desk.old out.old)
         (seen D.remaining D.faults K.written K.faults desk.new out.new)
         result }
-    ensures others { (other : List ℕ) → IsNoInput (Some (spelled asked.entry)) other → Keeps (D.remaining desk.old other) (D.remaining desk.new other) }
+    ensures others { (other : List ℕ) → IsNoInput (Some (meant asked.entry)) other → Keeps (D.remaining desk.old other) (D.remaining desk.new other) }
 {
     match asked.command {
         Command::Make {
@@ -53,7 +48,7 @@ pub fn run<'a, D: Desk, K: Sink>(
         Command::Cert(files) => certify(alloc, files, desk, out),
         Command::Check(files) => check_certificate(alloc, files, desk, out),
         Command::Trace(files) => answer_trace(alloc, files, desk, out),
-        Command::Drive(slots) => run_script(alloc, slots, asked.files.as_slice(), desk, out),
+        Command::Drive(slots) => run_script(alloc, slots, asked.words.as_slice(), desk, out),
         Command::Gen(drawing) => draw_list(alloc, drawing, out),
         Command::Selfrun(drawing) => run_load(alloc, drawing, out),
         Command::Migrate(file) => migrate_table(alloc, file, desk, out),

@@ -1,8 +1,8 @@
 //! Running a script of updates over tables.
 ghost use Rattle.std.specs.Prelude.{◌≡◌, ◌≢◌, ◌≤◌, ◌<◌, ◌++◌, ℕ, List, IfErr, IsTrue, OnOk, Some, length, map};
 ghost use Rattle.std.specs.Io.KnownBytes.{Keeps};
-ghost use Rattle.command_words.specs.Commands.{all_differ};
-ghost use Rattle.razor_core.specs.Commands.{driving};
+ghost use Rattle.command_words.specs.Naming.{all_differ};
+ghost use Rattle.command_words.specs.Naming.{driving};
 ghost use Rattle.razor_core.specs.Outside.{seen, IsNoInput};
 ghost use Rattle.razor_core.specs.Ending.{Ends};
 ghost use Rattle.razor_core.specs.Runs.{IsEndOfDrive};
@@ -10,9 +10,9 @@ ghost use Rattle.razor_core.specs.Tables.{AreAdded, IsNone, FailsAmong};
 
 use crate::ending::{Ending, Summary};
 use crate::input::{take_script, take_table};
-use crate::slots::Slots;
 use bank_update::laws::a_run_without_faults_is_the_session;
 use bank_update::{DriveError, Swapper, drive_on};
+use command_words::Slots;
 use razor_base::{Desk, Sink};
 use std::alloc::Global;
 use tcam_sim::Bank;

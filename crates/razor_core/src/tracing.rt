@@ -9,7 +9,7 @@ ghost use Rattle.razor_core.specs.Runs.{IsEndOfRun};
 use crate::ending::{Ending, Summary};
 use crate::input::take_table;
 use crate::line_reason::LineReason;
-use crate::two_files::TwoFiles;
+use command_words::TwoFiles;
 use razor_base::{Desk, Sink};
 use std::alloc::Global;
 use tcam_sim::loaded;

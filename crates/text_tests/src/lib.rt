@@ -1,4 +1,4 @@
-//! Tests of what reads and writes lists, tables and words, and of the desks and sinks below.
+//! Tests of texts as they are read and written, of covers by prefixes, and of the system's files.
 #![tactic(auto)]
 
 #[cfg(test)]

@@ -1,14 +1,7 @@
-mod boxes;
-mod counts;
 mod covers;
-mod desks;
-mod drawn_lists;
 mod lists;
-mod names;
 mod real_files;
 mod reasons;
-mod sinks;
 mod table_texts;
-mod words;
+mod writes;
 mod written_lists;
-mod written_tables;

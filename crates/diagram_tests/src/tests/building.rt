@@ -1,13 +1,15 @@
-//! Diagrams of rules, and changed in one box.
+//! Diagrams of rules, diagrams changed in one box, and what is asked of them.
 ghost use Rattle.std.specs.Prelude.{◌≡◌, ◌≤◌};
 ghost use Rattle.field_boxes.specs.Spans.{AreInside};
 ghost use Rattle.node_store.specs.Diagram.{level_of};
 
 use fdd_build::{build, over, under, under_rule};
+use fdd_ops::agrees_where;
 use field_boxes::{Header, Ports, Rule, Span};
 use node_store::{NodeId, Store};
 use std::process::Abort;
 use std::test::Fail;
+use table_compose::cost;
 
 const ADDRESSES: Span = Span {
     lo: 0,
@@ -23,21 +25,6 @@ fn protocols(lo: u32, hi: u32) -> [Span; 5]
     ensures { AreInside result }
 {
     [ADDRESSES, ADDRESSES, PORTS, PORTS, Span { lo, hi }]
-}
-
-/// The rule that is open but for the protocol.
-fn protocol_rule(lo: u32, hi: u32, decision: u32) -> Option<Rule>
-    requires ordered { lo ≤ hi }
-    requires inside { hi ≤ 255 }
-{
-    let every = Ports::of(&[PORTS])?;
-    Some(Rule {
-        source: ADDRESSES,
-        destination: ADDRESSES,
-        ports: [every, every],
-        protocol: Span { lo, hi },
-        decision,
-    })
 }
 
 /// What the diagram answers at some protocols.
@@ -75,16 +62,21 @@ fn boxes_go_under_and_over(rt: HostRuntime) -> Result<(), Fail> {
     expect(&rt, &store, hidden, &[(5, 2), (6, 0), (17, 0), (18, 2)])
 }
 
+/// A diagram of two answers costs two, and agrees with itself.
 #[test]
-fn a_rule_that_decides_0_hides_the_rules_after_it(rt: HostRuntime) -> Result<(), Fail> {
-    let rules = [
-        protocol_rule(6, 6, 0).ok_or("no rule")?,
-        protocol_rule(17, 17, 3).ok_or("no rule")?,
-        protocol_rule(0, 255, 1).ok_or("no rule")?,
-    ];
-    let mut store = Store::new(rt.alloc());
-    let root = build(rt.alloc(), &mut store, &rules)?;
-    expect(&rt, &store, root, &[(5, 1), (6, 0), (7, 1), (17, 3)])
+fn two_answers(rt: HostRuntime) -> Result<(), Fail> {
+    let alloc = rt.alloc();
+    let mut store = Store::new(alloc);
+    let none = build(alloc, &mut store, &[])?;
+    let six = under(alloc, &mut store, none, &protocols(6, 6), 1)?;
+    let both = under(alloc, &mut store, six, &protocols(0, 255), 2)?;
+    assert_eq!(rt; cost(alloc, &store, none)?, 1);
+    assert_eq!(rt; cost(alloc, &store, both)?, 2);
+    for (decision, agree) in [(1, true), (2, false)] {
+        let asked = agrees_where(alloc, &store, &protocols(0, 255), both, 1, both, decision)?;
+        assert_eq!(rt; asked, agree);
+    }
+    Ok(())
 }
 
 #[test]

@@ -1,6 +1,5 @@
-//! Small nodes and diagrams.
-ghost use Rattle.std.specs.Prelude.{◌≡◌, ◌<◌, ◌≤◌, length};
-ghost use Rattle.field_boxes.specs.Fields.{greatest_of};
+//! Nodes of protocols.
+ghost use Rattle.std.specs.Prelude.{◌≡◌, ◌<◌, length};
 ghost use Rattle.node_store.specs.Diagram.{level_of};
 
 use node_store::{Edge, NodeId, Store, laws};
@@ -14,26 +13,6 @@ pub(super) fn expect_level(rt: &impl Abort, store: &Store, id: NodeId, level: u8
 {
     assert!(rt; id.0 < store.count());
     assert_eq!(rt; store.level(id), level);
-}
-
-/// A node whose values up to `hi` lead to the first child, and those above to the second.
-pub(super) fn parted(
-    rt: &impl Abort,
-    store: &mut Store,
-    field: u8,
-    hi: u32,
-    to: [NodeId; 2],
-) -> Result<NodeId, Fail>
-    requires field { field < 5 }
-    requires hi { hi < greatest_of field }
-{
-    let [low, high] = to;
-    expect_level(rt, store, low, field + 1);
-    expect_level(rt, store, high, field + 1);
-    let last = field_boxes::greatest(usize::from(field));
-    let edges = [Edge { hi, to: low }, Edge { hi: last, to: high }];
-    laws::edges_in_turn();
-    Ok(store.make(field, &edges)?)
 }
 
 /// A protocol node with three edges, which end at these values and at 255.
@@ -59,21 +38,4 @@ pub(super) fn protocols(
     ];
     laws::edges_in_turn();
     Ok(store.make(4, &edges)?)
-}
-
-/// The node, below nodes that lead all values of their fields to it: from the field `first` on.
-pub(super) fn above(
-    rt: &impl Abort,
-    store: &mut Store,
-    first: u8,
-    level: u8,
-    node: NodeId,
-) -> Result<NodeId, Fail>
-    requires { level ≤ 5 }
-{
-    let mut root = node;
-    for field in (first..level).rev() {
-        root = parted(rt, store, field, 0, [root, root])?;
-    }
-    Ok(root)
 }

@@ -12,6 +12,12 @@ use ternary_words::{Entry, Table, Word};
 /// The whole field.
 const OPEN: Prefix = Prefix { value: 0, len: 0 };
 
+/// The addresses from 128.0.0.0 on.
+const HIGH: Prefix = Prefix {
+    value: 0x8000_0000,
+    len: 1,
+};
+
 /// The entry of protocol 6.
 fn tcp(decision: u32) -> Entry {
     Entry {
@@ -75,5 +81,23 @@ pub(super) fn first(rt: &impl Abort, alloc: Global) -> Result<Table, Fail> {
 /// Protocol 17 is accepted, and all else denied.
 pub(super) fn second(rt: &impl Abort, alloc: Global) -> Result<Table, Fail> {
     let entries = Vec::from_slice(alloc, &[udp(1), all_stars(2)])?;
+    Ok(table(rt, entries, two_names(alloc, "accept", "deny")?))
+}
+
+/// Protocol 6 to the high addresses is accepted, all else there has no decision, and the rest is denied.
+pub(super) fn third(rt: &impl Abort, alloc: Global) -> Result<Table, Fail> {
+    let six = Prefix { value: 6, len: 8 };
+    let entries = [
+        Entry {
+            word: Word::of(&[OPEN, HIGH, OPEN, OPEN, six]),
+            decision: 1,
+        },
+        Entry {
+            word: Word::of(&[OPEN, HIGH, OPEN, OPEN, OPEN]),
+            decision: 0,
+        },
+        all_stars(2),
+    ];
+    let entries = Vec::from_slice(alloc, &entries)?;
     Ok(table(rt, entries, two_names(alloc, "accept", "deny")?))
 }

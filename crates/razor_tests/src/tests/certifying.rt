@@ -68,6 +68,50 @@ fn certificates_are_written(rt: HostRuntime) -> Result<(), Fail> {
     check(&rt, ANY_TCP, b"table\n", 3, b"", short)
 }
 
+/// Two rules with one decision, and a rule for all else.
+const TWO_PROTOCOLS: &[u8] =
+    b"@0.0.0.0/0 0.0.0.0/0 0 : 65535 0 : 65535 0x06/0xFF accept\n@0.0.0.0/0 0.0.0.0/0 0 : 65535 0 : 65535 0x07/0xFF accept\n@0.0.0.0/0 0.0.0.0/0 0 : 65535 0 : 65535 0x00/0x00 deny\n";
+
+/// One entry for both protocols, and one for all else.
+const ONE_FOR_BOTH: &[u8] =
+    b"table 2 slot 144 composed 2 entries 2\n00000000/00000000 00000000/00000000 0000/0000 0000/0000 06/FE accept\n00000000/00000000 00000000/00000000 0000/0000 0000/0000 00/00 deny\n";
+
+/// Rows with one decision stay apart where the rules are two.
+const BY_RULE: &[u8] =
+    b"0-4294967295 0-4294967295 0-65535 0-65535 0-5 3 2\n0-4294967295 0-4294967295 0-65535 0-65535 6-6 1 1\n0-4294967295 0-4294967295 0-65535 0-65535 7-7 2 1\n0-4294967295 0-4294967295 0-65535 0-65535 8-255 3 2\nrows 4\n";
+
+/// An entry that says `miss` is claimed, and hides the entry after it.
+const MISS_FIRST: &[u8] =
+    b"table 2 slot 144 composed 2 entries 2\n00000000/00000000 00000000/00000000 0000/0000 0000/0000 06/FF miss\n00000000/00000000 00000000/00000000 0000/0000 0000/0000 06/FF accept\n";
+
+const MISS_CLAIMED: &[u8] =
+    b"0-4294967295 0-4294967295 0-65535 0-65535 0-5 - -\n0-4294967295 0-4294967295 0-65535 0-65535 6-6 - 1\n0-4294967295 0-4294967295 0-65535 0-65535 7-255 - -\nrows 3\n";
+
+/// Drawn at random, with their certificate by the definition.
+const DRAWN: &[u8] =
+    b"@0.0.0.0/0 0.0.0.0/0 0 : 65535 80 : 80 0x06/0xFF accept\n@0.0.0.0/0 0.0.0.0/0 0 : 65535 80 : 80 0x07/0xFF deny\n@0.0.0.0/0 0.0.0.0/0 0 : 65535 80 : 81 0x00/0x00 accept\n";
+
+const DRAWN_TABLE: &[u8] =
+    b"table 2 slot 144 composed 4 entries 4\n00000000/00000000 00000000/00000000 0000/0000 0050/FFFF 06/FF accept\n00000000/00000000 00000000/00000000 0000/0000 0050/FFFF 07/FF deny\n00000000/00000000 00000000/00000000 0000/0000 0050/FFFE 00/00 accept\n00000000/00000000 00000000/00000000 0000/0000 0000/0000 00/00 miss\n";
+
+const DRAWN_ROWS: &[u8] =
+    b"0-4294967295 0-4294967295 0-65535 0-79 0-255 - 4\n0-4294967295 0-4294967295 0-65535 80-80 0-5 3 3\n0-4294967295 0-4294967295 0-65535 80-80 6-6 1 1\n0-4294967295 0-4294967295 0-65535 80-80 7-7 2 2\n0-4294967295 0-4294967295 0-65535 80-80 8-255 3 3\n0-4294967295 0-4294967295 0-65535 81-81 0-255 3 3\n0-4294967295 0-4294967295 0-65535 82-65535 0-255 - 4\nrows 7\n";
+
+/// Lists and tables, each with its certificate.
+const WRITTEN: [(&[u8], &[u8], &[u8]); 3] = [
+    (TWO_PROTOCOLS, ONE_FOR_BOTH, BY_RULE),
+    (b"", MISS_FIRST, MISS_CLAIMED),
+    (DRAWN, DRAWN_TABLE, DRAWN_ROWS),
+];
+
+#[test]
+fn boxes_have_their_first_rule_and_entry(rt: HostRuntime) -> Result<(), Fail> {
+    for (list, table, rows) in WRITTEN {
+        check(&rt, list, table, 0, rows, b"")?;
+    }
+    Ok(())
+}
+
 #[test]
 fn a_front_is_written_into_little_room(rt: HostRuntime) -> Result<(), Fail> {
     for room in 0..ANY_TCP_ROWS.len() {

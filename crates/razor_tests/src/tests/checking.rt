@@ -155,6 +155,27 @@ fn fronts_of_a_certificate_are_wrong(rt: HostRuntime) -> Result<(), Fail> {
     Ok(())
 }
 
+/// Lines of another form: too long, without a part, with other blanks, numbers or names, and a last line of another form.
+const FORMS: [&[u8]; 8] = [
+    &[b'1'; 130],
+    b"\n",
+    b"0-4294967295 0-4294967295 0-65535 0-65535 0-255 - - \n",
+    b"0-4294967295  0-4294967295 0-65535 0-65535 0-255 - -\n",
+    b"0-4294967295 0-4294967295 0-65535 0-65535 00-255 - -\n",
+    b"0-4294967295 0-4294967295 0-65535 0-65535 5-4 - -\n",
+    b"0-4294967295 0-4294967295 0-65535 0-65535 0-255 0 -\n",
+    b"rows 01\n",
+];
+
+#[test]
+fn lines_of_another_form_are_wrong(rt: HostRuntime) -> Result<(), Fail> {
+    for rows in FORMS {
+        let texts = front_of_rows(rows);
+        check_rows(&rt, texts, 1, b"wrong row 1: form\n")?;
+    }
+    Ok(())
+}
+
 /// The rule and its table with these rows.
 fn front_of_rows(rows: &[u8]) -> [&[u8]; 3] {
     [ANY_TCP, ANY_TCP_TABLE, rows]

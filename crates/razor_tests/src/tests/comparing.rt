@@ -1,4 +1,5 @@
-use super::{ANY_TCP, ROOM};
+use super::{ANY_TCP, ROOM, check};
+use crate::setting::calm;
 use razor_base::{MemDesk, MemSink};
 use razor_core::{Words, razor};
 use std::alloc::Global;
@@ -76,5 +77,13 @@ fn joins_sources(rt: HostRuntime) -> Result<(), Fail> {
         sources.extend_from_slice(line.as_bytes())?;
     }
     let prefix = b"@0.0.0.0/26 0.0.0.0/0 0 : 65535 0 : 65535 0x06/0xFF accept\n";
-    check_equiv(&rt, &sources, prefix, 0, b"equal\n", b"")
+    check_equiv(&rt, &sources, prefix, 0, b"equal\n", b"")?;
+    check(
+        &rt,
+        &["compile", "in"],
+        calm(&sources),
+        0,
+        b"table 2 slot 144 composed 3 entries 1\n00000000/FFFFFFC0 00000000/00000000 0000/0000 0000/0000 06/FF accept\n",
+        b"rules 64, flagged 0\n",
+    )
 }

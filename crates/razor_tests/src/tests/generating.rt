@@ -2,6 +2,18 @@ use super::{call, check};
 use crate::setting::calm;
 use std::test::Fail;
 
+const SEED_7: &[u8] = b"\
+@10.5.0.0/16\t10.3.2.12/32\t0 : 65535\t1024 : 65535\t0x00/0x00\tlog\n\
+@0.0.0.0/0\t0.0.0.0/0\t0 : 65535\t1024 : 65535\t0x00/0x00\tlog\n\
+@10.4.2.13/32\t10.1.0.0/16\t0 : 65535\t0 : 65535\t0x11/0xFF\tlog\n\
+@10.4.0.0/24\t10.3.0.0/16\t0 : 65535\t1024 : 65535\t0x00/0x00\taccept\n\
+@10.2.2.0/24\t10.1.0.0/16\t1024 : 65535\t22 : 22\t0x06/0xFF\tlog\n";
+
+const GREATEST_SEED: &[u8] = b"\
+@10.0.0.0/16\t0.0.0.0/0\t1024 : 65535\t1024 : 65535\t0x06/0xFF\taccept\n\
+@10.3.0.0/32\t10.3.3.15/32\t0 : 65535\t0 : 65535\t0x06/0xFF\tlog\n\
+@0.0.0.0/0\t0.0.0.0/0\t1024 : 65535\t1 : 65534\t0x06/0xFF\tlog\n";
+
 #[test]
 fn lists_are_drawn(rt: HostRuntime) -> Result<(), Fail> {
     check(&rt, &["gen", "1", "0"], calm(b""), 0, b"", b"")?;
@@ -11,6 +23,15 @@ fn lists_are_drawn(rt: HostRuntime) -> Result<(), Fail> {
         calm(b""),
         0,
         b"@10.7.3.0/24\t0.0.0.0/0\t0 : 65535\t53 : 53\t0x11/0xFF\tdeny\n",
+        b"",
+    )?;
+    check(&rt, &["gen", "7", "5"], calm(b""), 0, SEED_7, b"")?;
+    check(
+        &rt,
+        &["gen", "2147483647", "3"],
+        calm(b""),
+        0,
+        GREATEST_SEED,
         b"",
     )?;
     let none: [&[&str]; 3] = [

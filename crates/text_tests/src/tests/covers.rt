@@ -1,8 +1,8 @@
-//! The shortest covers of spans and unions by prefixes.
+//! The shortest covers of spans and of unions by prefixes.
 ghost use Rattle.std.specs.Prelude.{◌≤◌, ◌<◌, ◌^◌};
 
 use field_boxes::{Prefix, Span};
-use range_prefix::{count_all, cover, cover_all, cover_count};
+use range_prefix::{cover, cover_all, cover_count};
 use std::test::Fail;
 
 #[test]
@@ -35,17 +35,6 @@ fn covers_of_unions_rise_over_the_spans(rt: HostRuntime) -> Result<(), Fail> {
             len: 16,
         },
     ];
-    assert_eq!(rt; prefixes.as_slice(), expected.as_slice());
-    assert_eq!(rt; count_all(&spans, 16), 4);
-    assert_eq!(rt; count_all(&[], 16), 0);
-    Ok(())
-}
-
-#[test]
-fn the_widest_field_is_one_prefix(rt: HostRuntime) -> Result<(), Fail> {
-    let span = Span::new(0, u32::MAX).ok_or("no span")?;
-    let prefixes = cover(rt.alloc(), span, 32)?;
-    let expected = [Prefix { value: 0, len: 0 }];
     assert_eq!(rt; prefixes.as_slice(), expected.as_slice());
     Ok(())
 }

@@ -4,9 +4,6 @@ use filter_reader::read_list;
 use std::process::Abort;
 use std::test::Fail;
 
-/// One destination port and one protocol, flags, a tab at the end, and no decision word.
-const FLAGGED: &[u8] = b"@10.0.0.0/8\t0.0.0.0/0\t0 : 65535\t80 : 80\t0x06/0xFF\t0x0000/0x0200\t";
-
 /// The list `examples/tools.list`, in the form of the ClassBench tools: comments, flags, blanks at the ends,
 /// and line ends of two bytes.
 const TOOL_LIST: &[u8] =
@@ -25,27 +22,6 @@ fn check_rule(rt: &impl Abort, rule: &Rule, sets: &[&[(u32, u32)]; 5], decision:
             assert!(rt; span.lo == lo && span.hi == hi);
         }
     }
-}
-
-#[test]
-fn reads_a_flagged_rule(rt: HostRuntime) -> Result<(), Fail> {
-    let Ok(list) = read_list(rt.alloc(), FLAGGED) else {
-        panic!(rt);
-    };
-    assert!(rt; list.rules.len() == 1);
-    let sets: [&[(u32, u32)]; 5] = [
-        &[(167_772_160, 184_549_375)],
-        &[(0, 4_294_967_295)],
-        &[(0, 65_535)],
-        &[(80, 80)],
-        &[(6, 6)],
-    ];
-    for rule in &list.rules {
-        check_rule(&rt, rule, &sets, 1);
-    }
-    assert!(rt; list.names.number("#1") == Some(1));
-    assert!(rt; list.flagged == 1);
-    Ok(())
 }
 
 #[test]

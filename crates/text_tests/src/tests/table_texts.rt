@@ -1,26 +1,7 @@
-//! Tables, read in both versions of their text, and refused.
-use razor_base::MemSink;
+//! Tables that are refused, each with its first reason.
 use std::process::Abort;
 use std::test::Fail;
 use table_text::{TableError, TableReason, read_table};
-use ternary_words::write_table;
-
-/// A table for slots of 144 trits with one entry, whose protocol is 6.
-const TCP: &[u8] =
-    b"table 1 slot 144 composed 1 entries 1\n************************************************************************************************00000110**************************************** accept\n";
-
-/// The same in the second version.
-const TCP_COLUMNS: &[u8] =
-    b"table 2 slot 144 composed 1 entries 1\n00000000/00000000 00000000/00000000 0000/0000 0000/0000 06/FF accept\n";
-
-/// Reads the table, and compares what is written of it.
-fn check_read<R: Abort + AllocGlobal>(rt: &R, text: &[u8], written: &[u8]) -> Result<(), Fail> {
-    let table = read_table(rt.alloc(), text)?;
-    let mut out = MemSink::new(rt.alloc(), 1000)?;
-    write_table(&table, &mut out)?;
-    assert!(rt; out.bytes() == written);
-    Ok(())
-}
 
 /// The line and the reason of a text that is refused.
 fn check_refused<R: Abort + AllocGlobal>(rt: &R, text: &[u8], line: u64, reason: TableReason) {
@@ -28,22 +9,6 @@ fn check_refused<R: Abort + AllocGlobal>(rt: &R, text: &[u8], line: u64, reason:
         Err(error) => assert!(rt; error == TableError::BadLine { line, reason }),
         Ok(_) => assert!(rt; false),
     }
-}
-
-#[test]
-fn both_versions_are_read(rt: HostRuntime) -> Result<(), Fail> {
-    check_read(&rt, TCP, TCP_COLUMNS)?;
-    check_read(&rt, TCP_COLUMNS, TCP_COLUMNS)?;
-    check_read(
-        &rt,
-        b"table 1 slot 144 composed 1 entries 1\n*1********************************************************************************************************************************************** miss\n",
-        b"table 2 slot 144 composed 1 entries 1\n40000000/40000000 00000000/00000000 0000/0000 0000/0000 00/00 miss\n",
-    )?;
-    check_read(
-        &rt,
-        b"table 2 slot 104 composed 262144 entries 3\n00000000/00000000 0a00000B/fFFF00ff 0000/0000 0000/0000 06/0F #65536\n00000000/00000000 00000000/00000000 0000/0000 0000/0000 00/00 miss\nFFFFFFFF/FFFFFFFF 00000000/00000000 0000/0000 0050/FFFF 00/00 a_b-c.D9\n",
-        b"table 2 slot 104 composed 262144 entries 3\n00000000/00000000 0A00000B/FFFF00FF 0000/0000 0000/0000 06/0F #65536\n00000000/00000000 00000000/00000000 0000/0000 0000/0000 00/00 miss\nFFFFFFFF/FFFFFFFF 00000000/00000000 0000/0000 0050/FFFF 00/00 a_b-c.D9\n",
-    )
 }
 
 #[test]

@@ -10,12 +10,12 @@ returns-in_err-rows-clause-puts g c = λ rows is.
 
 pub returns-in_err-put_last-clause-puts : goal.returns-in_err-put_last-clause-puts
 returns-in_err-put_last-clause-puts g c = λ rows is.
-    whole-second_cut (certificate_text rows) c.from_residual-in_err-put_last.ensures.0 c.new-pending.ensures (c.in_ok-rows.ensures.rows rows is) c.in_err-put_last.ensures
+    whole-second_cut (certificate_text rows) c.from_residual-in_err-put_last.ensures.1 c.new-pending.ensures (c.in_ok-rows.ensures.rows rows is) c.in_err-put_last.ensures
     (certificate-lines rows c.in_ok-rows.rows (c.in_ok-rows.ensures.count rows is))
 
 pub returns-in_err-flush-clause-puts : goal.returns-in_err-flush-clause-puts
 returns-in_err-flush-clause-puts g c = λ rows is.
-    whole-third_cut (certificate_text rows) c.from_residual-in_err-flush.ensures.0 c.new-pending.ensures (c.in_ok-rows.ensures.rows rows is) c.in_ok-put_last.ensures c.in_err-flush.ensures.whole
+    whole-third_cut (certificate_text rows) c.from_residual-in_err-flush.ensures.1 c.new-pending.ensures (c.in_ok-rows.ensures.rows rows is) c.in_ok-put_last.ensures c.in_err-flush.ensures.whole
     (certificate-lines rows c.in_ok-rows.rows (c.in_ok-rows.ensures.count rows is))
 
 pub returns-clause-puts : goal.returns-clause-puts

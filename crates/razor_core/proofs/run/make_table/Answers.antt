@@ -3,7 +3,7 @@ use Rattle.filter_reader.specs.Lists.{filter_list}
 use Rattle.ternary_words.specs.TableText.{table_text}
 use Rattle.ternary_words.specs.Views.{table_of}
 use Rattle.razor_core.specs.Command.{Make}
-use Rattle.razor_core.specs.Commands.{sizes_of}
+use Rattle.command_words.specs.Views.{sizes_of}
 use Rattle.razor_core.specs.Ending.{IsDone}
 use Rattle.razor_core.specs.Inputs.{list_input}
 use Rattle.razor_core.specs.Messages.{rules_line}

@@ -3,14 +3,14 @@ use Rattle.std.specs.Prelude.{All, IsTrue, map, ◌++◌}
 use Rattle.std.specs.Borrow.{Bor}
 use Rattle.std.specs.Io.KnownBytes.{Appends, Keeps}
 use Rattle.std.proofs.lemmas.List.{length-map, length-replicate}
-use Rattle.command_words.specs.Commands.{all_differ}
+use Rattle.command_words.specs.Naming.{all_differ}
 use Rattle.ternary_words.specs.declared.table.Table.{Table}
 use Rattle.bank_update.specs.Driven as drives
 use Rattle.bank_update.specs.Machine.{State, unsettled}
 use Rattle.bank_update.specs.Runs.{IsRun}
 use Rattle.bank_update.specs.Script.{IsWithin}
 use Rattle.razor_core.specs.Command.{Drive}
-use Rattle.razor_core.specs.Commands.{driving}
+use Rattle.command_words.specs.Naming.{driving}
 use Rattle.razor_core.specs.Inputs.{inputs, script_input, script_value, table_input}
 use Rattle.razor_core.specs.Outside.{seen}
 use Rattle.razor_core.specs.Taking.{EndsTurn, TakesTurn}

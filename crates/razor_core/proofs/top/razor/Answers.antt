@@ -2,7 +2,7 @@ use Rattle.std.proofs.Common.{◌≡◌, ◌≢◌, ℕ, List, Some, sym, subst}
 use Rattle.std.specs.Prelude.{Option}
 use Rattle.std.specs.Io.KnownBytes.{Keeps}
 use Rattle.razor_core.specs.Command.{Command, command_of}
-use Rattle.razor_core.specs.Asked.{spelled}
+use Rattle.command_words.specs.Asked.{meant}
 use Rattle.razor_core.specs.Outside.{seen, IsNoInput}
 use Rattle.razor_core.specs.Ending.{ending_line}
 use Rattle.razor_core.specs.Standing.{WritesNothing}
@@ -17,7 +17,7 @@ pub returns : goal.returns
 returns g c =
     let before = seen g.D.Desk.remaining g.D.Desk.faults g.K.Sink.written g.K.Sink.faults c.args.desk.now c.args.out.now in
     let after = seen g.D.Desk.remaining g.D.Desk.faults g.K.Sink.written g.K.Sink.faults c.run-ending.new.desk c.run-ending.new.out in
-    let command = spelled c.in-Some.asked in
+    let command = meant c.in-Some.asked in
     let ending = c.run-ending.result in
     let ends = c.run-ending.ensures.ends in
     let words : some_command command ≡ command_of c.args.words.now = c.in-Some.ensures in

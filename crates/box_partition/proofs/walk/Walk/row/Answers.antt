@@ -7,7 +7,7 @@ use Rattle.box_partition.proofs.walk.Walk.row.Goals as goal
 pub returns-in_err-put_row-clause-rows : goal.returns-in_err-put_row-clause-rows
 returns-in_err-put_row-clause-rows g c = λ rows is.
     let five : length c.args.spans ≡ 5 = search rules in
-    until-is (until-failed c.from_residual.ensures.0 c.in_err-put_row.ensures)
+    until-is (until-failed c.from_residual.ensures.1 c.in_err-put_row.ensures)
     (leaf-line c.args.self.now.store.now c.args.left.0 c.args.right.0 rows c.args.spans c.number.result c.number-2.result is five
     (c.number.ensures ∙ ap (λ (d : Option ℕ). number_answered (unwrap_or d 0)) c.decision.ensures.decision)
     (c.number-2.ensures ∙ ap (λ (d : Option ℕ). number_answered (unwrap_or d 0)) c.decision-2.ensures.decision))

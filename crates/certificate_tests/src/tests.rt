@@ -1,5 +1,0 @@
-mod lines;
-mod pairs;
-mod refused;
-mod streams;
-mod written;

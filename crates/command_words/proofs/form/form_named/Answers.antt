@@ -1,0 +1,12 @@
+use Rattle.std.proofs.Common.{◌∙◌, ap, sym}
+use Rattle.std.specs.Prelude.{find}
+use Rattle.std.specs.Option.{option_map}
+use Rattle.std.specs.Str.{bytes_eq}
+use Rattle.command_words.specs.Views.{form_seen}
+use Rattle.command_words.proofs.Fitting.{named}
+use Rattle.command_words.proofs.form.form_named.Goals as goal
+
+pub returns : goal.returns
+returns c =
+    let name = c.args.name.now in
+    ap (option_map form_seen) (c.copied.ensures ∙ c.first_named.ensures) ∙ sym (named name c.forms-forms.result) ∙ ap (find (λ form. bytes_eq form.name name)) c.forms-forms.ensures

@@ -1,0 +1,42 @@
+-- How the commands are spelled: their names, their options, and what their other words are called.
+use Rattle.std.specs.Prelude.{ℕ, List, [], ◌∷◌, codes}
+use Rattle.command_words.specs.declared.form.CommandName.{CommandName}
+use Rattle.command_words.specs.declared.form.CommandName.TheVariants.{Expand, Compile, Equiv, Cert, Check, Trace, Drive, Gen, Selfrun, Migrate}
+use Rattle.command_words.specs.declared.form.Need.{Need}
+use Rattle.command_words.specs.declared.form.Need.TheVariants.{Never, Maybe, Always}
+
+-- the form of a command: its name, whether it takes each option, and how the usage text calls its other words
+pub record Form : Type 0 where
+  pub command : CommandName
+  pub name : List ℕ
+  pub limit : Need
+  pub slot : Need
+  pub slots : Need
+  pub label : List ℕ
+
+-- the form of a command that makes a table of a list
+abbrev pub table_form : CommandName → List ℕ → Form
+table_form command name = record { command = command; name = name; limit = Maybe; slot = Maybe; slots = Never; label = codes "LIST" }
+
+-- the form of a command without options
+abbrev pub plain_form : CommandName → List ℕ → List ℕ → Form
+plain_form command name label = record { command = command; name = name; limit = Never; slot = Never; slots = Never; label = label }
+
+-- the form of a command that runs a script over tables in a memory of some slots
+abbrev pub script_form : CommandName → List ℕ → Form
+script_form command name = record { command = command; name = name; limit = Never; slot = Never; slots = Always; label = codes "SCRIPT TABLE .." }
+
+-- the forms of the commands that are built, in the order of the usage text
+unfoldable pub forms : List Form
+forms =
+    table_form Expand (codes "expand")
+    ∷ table_form Compile (codes "compile")
+    ∷ plain_form Equiv (codes "equiv") (codes "A B")
+    ∷ plain_form Cert (codes "cert") (codes "LIST TABLE")
+    ∷ plain_form Check (codes "check") (codes "LIST TABLE CERT")
+    ∷ plain_form Trace (codes "trace") (codes "TABLE TRACE")
+    ∷ script_form Drive (codes "drive")
+    ∷ plain_form Gen (codes "gen") (codes "SEED N")
+    ∷ plain_form Selfrun (codes "selfrun") (codes "SEED N")
+    ∷ plain_form Migrate (codes "migrate") (codes "TABLE")
+    ∷ []

@@ -1,0 +1,64 @@
+-- The command that words spell.
+use Rattle.std.specs.Prelude.{ℕ, List, [], ◌∷◌, length, nat_le, find, Option, Some, None, if◌then◌else◌}
+use Rattle.std.specs.Str.{bytes_eq}
+use Rattle.command_words.specs.declared.option.OptionName.{OptionName}
+use Rattle.command_words.specs.declared.option.OptionName.TheVariants.{Limit, Slot, Slots}
+use Rattle.command_words.specs.declared.form.Need.{Need}
+use Rattle.command_words.specs.declared.form.Need.TheVariants.{Never, Maybe, Always}
+use Rattle.command_words.specs.Command.{Command}
+use Rattle.command_words.specs.Forms.{Form, forms}
+use Rattle.command_words.specs.Items.{Item, items_of, plain_of, values_of}
+use Rattle.command_words.specs.Naming.{Settings, command_named}
+use Rattle.command_words.specs.Options.{option_number, usual_value}
+use Rattle.command_words.specs.Steps.{◌>>=◌}
+
+-- the value of each option, where one is given, and the other words
+pub record Found : Type 0 where
+  pub limit : Option (List ℕ)
+  pub slot : Option (List ℕ)
+  pub slots : Option (List ℕ)
+  pub plain : List (List ℕ)
+
+-- at most one value is given to an option
+abbrev pub one_value : List (List ℕ) → Option (Option (List ℕ))
+one_value [] = Some None
+one_value (value ∷ []) = Some (Some value)
+one_value (value ∷ other ∷ values) = None
+
+-- no command has more than nine words that are no options
+abbrev pub few_words : List (List ℕ) → Option (List (List ℕ))
+few_words words = if nat_le (length words) 9 then Some words else None
+
+-- what is found among items
+abbrev pub found_among : List Item → Option Found
+found_among items = do
+  limit ← one_value (values_of Limit items)
+  slot ← one_value (values_of Slot items)
+  slots ← one_value (values_of Slots items)
+  plain ← few_words (plain_of items)
+  Some (record { limit = limit; slot = slot; slots = slots; plain = plain })
+
+-- what an option comes to whose value is this, or that is left out
+abbrev pub setting : Need → OptionName → Option (List ℕ) → Option ℕ
+setting Never option (Some value) = None
+setting Always option None = None
+setting need option (Some value) = option_number option value
+setting need option None = Some (usual_value option)
+
+-- what the options of the form come to
+abbrev pub settings_of : Form → Found → Option Settings
+settings_of form found = do
+  limit ← setting form.limit Limit found.limit
+  slot ← setting form.slot Slot found.slot
+  slots ← setting form.slots Slots found.slots
+  Some (record { sizes = record { limit = limit; slot = slot }; slots = slots })
+
+-- the command that the words spell, or none
+unfoldable pub command_of : List (List ℕ) → Option Command
+command_of [] = None
+command_of (name ∷ words) = do
+  form ← find (λ form. bytes_eq form.name name) forms
+  items ← items_of None words
+  found ← found_among items
+  settings ← settings_of form found
+  command_named form.command settings found.plain
