@@ -8,6 +8,9 @@ WIDTHS = (32, 32, 16, 16, 8)
 
 PROTOCOLS = {number: name.removeprefix("IPPROTO_").lower() for name, number in vars(socket).items() if name.startswith("IPPROTO_") and 0 < number < 256}
 
+# The protocols whose ports a switch reads.
+WITH_PORTS = {6: "tcp", 17: "udp", 132: "sctp"}
+
 
 class Header(typing.NamedTuple):
     source: int

@@ -6,7 +6,7 @@ import re
 
 ROOT = pathlib.Path(__file__).resolve().parent.parent.parent
 
-IMPORT = re.compile(r"^use Rattle\.(\w+)\.specs\.([\w.]+?)(?:\.\{([^}]*)\}| as (\w+))?$", re.MULTILINE)
+IMPORT = re.compile(r"^(?:pub )?use Rattle\.(\w+)\.specs\.([\w.]+?)(?:\.\{([^}]*)\}| as (\w+))?$", re.MULTILINE)
 HEAD = re.compile(r"(abbrev |unfoldable )?(pub )?(record |data )?([^\s:(){}]+) (.*)")
 BINDER = re.compile(r"[({]([^(){}:]+) :|λ ([^.]+)\.")
 WORD = re.compile(r"[^\s(){},;]+")
@@ -121,7 +121,7 @@ def definitions(crate, file, lines):
             continue
         if head and (head[1] or head[2] or head[3] or head[5].startswith(": ")) and head[4] != "mod":
             found.append(Definition(Place(crate, file, head[4]), bool(head[2]), sentence(above), (head[3] or "").strip(), [line]))
-        elif found and line.strip() and not line.startswith(("use ", "infix")):
+        elif found and line.strip() and not line.startswith(("use ", "pub use ", "infix")):
             found[-1].lines.append(line)
         above = []
     return found
@@ -153,8 +153,17 @@ class Specifications:
         """Where a word of a file stands, if it is imported or defined there."""
         front, _, back = word.partition(".")
         if front in file.modules and back:
-            return Place(*file.modules[front], back.partition(".")[0])
-        return file.names.get(front)
+            return self.own(Place(*file.modules[front], back.partition(".")[0]))
+        return self.own(file.names.get(front))
+
+    def own(self, place):
+        """Where a name is defined that a file may only pass on."""
+        while place is not None and place not in self.owners and (place.crate, place.file) in self.files:
+            passed = self.files[place.crate, place.file].names.get(place.name.replace("◌", ""))
+            if passed in (None, place):
+                break
+            place = passed
+        return place
 
     def public(self):
         return [it for file in self.files.values() for it in file.definitions.values() if it.is_public]

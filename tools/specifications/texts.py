@@ -237,7 +237,9 @@ class Texts:
 
     def applied(self, function, *arguments):
         if not arguments:
-            return function() if callable(function) else function
+            return function
+        if isinstance(function, Made):
+            return Made(function.constructor, [*function.values, *arguments])
         return function(*arguments) if callable(function) else self.unknown()
 
     def items(self, value):
