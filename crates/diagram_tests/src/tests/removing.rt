@@ -54,11 +54,3 @@ fn worked_tables(rt: HostRuntime) -> Result<(), Fail> {
     expect(&rt, alloc, &[miss, two, open_miss], &[])?;
     expect(&rt, alloc, &[two, two, open_one], &[two, open_one])
 }
-
-#[test]
-fn other_words_are_told(rt: HostRuntime) {
-    let ten = entry(&rt, 10 << 96, FIRST_BYTE, 1);
-    assert!(rt; are_prefixes(&[ten]));
-    let odd = entry(&rt, 1, 5, 1);
-    assert!(rt; !are_prefixes(&[ten, odd]));
-}
