@@ -32,9 +32,9 @@ use Rattle.razor_core.specs.Standing.{IsCutOff}
 use Rattle.razor_core.specs.Taking.{TakesTurn, table_value_of, value_of}
 use Rattle.razor_core.specs.Turns.{IsFree, bad_line, too_long, too_many}
 use Rattle.razor_core.specs.Written.{IsFirstOtherWord}
-use Rattle.razor_core.specs.Ending.{Ends, Stops, IsDone, summary_text}
+use Rattle.razor_core.specs.Ending.{Ends, Stops}
 use Rattle.razor_core.proofs.Ended.{done_ends}
-use Rattle.razor_core.proofs.Turns.{AllRead, Passed, passed_taken, read_taken, turns_pass}
+use Rattle.razor_core.proofs.Turns.{AllRead, Passed, ends_in_turn, passed_taken, read_taken, turns_pass}
 
 -- the entry at a place, as the specification sees it
 entry_at : (names : List (List ℕ)) (es : List Entry) (k : ℕ) (e : tables.Entry) → slice_get (map (entry_of names) es) k ≡ Some e → (x : Entry) × (slice_get es k ≡ Some x) × (e ≡ entry_of names x)
@@ -127,6 +127,7 @@ module _ (first second : List ℕ) (before after : Outside) (list : RuleList) (t
   other_stops : (place : ℕ) → IsFirstOther table.entries.items place → Keeps before.written after.written → Stops command before after (bad_line second (record { line = place + 2; reason = NotPrefix }))
   other_stops place h keeps = record {
     unchanged = λ last. keeps;
+    named = ends_in_turn before after (λ input. second ≡ input.name) (list_input first ∷ []) (value_of list ∷ []) (table_input second) [] (passed.0, tt) refl tt;
     stopped = λ tells. inr (record {
       values = values;
       turns = turns_pass before (inputs command) values passed tells;
@@ -157,12 +158,12 @@ module _ (first second : List ℕ) (before after : Outside) (list : RuleList) (t
   memory_ends (inl keeps) tells = inl keeps
   memory_ends (inr (are, w)) tells = inr (cut_off are w tells)
 
-  done_as : (summary : Summary) → summary ≡ Nothing → (count : ℕ) → ArePrefixes table.entries.items → IsWritten list table before.written after.written count → Tells before command → IsDone command before after true (summary_text summary)
-  done_as summary is count are w tells = subst (λ (s : Summary). IsDone command before after true (summary_text s)) (sym is)
-      (done_ends command before after values (certificate_outcome (certificate_text w.rows)) true passed (free are) (gives_written count w) refl w.appended (both_read tells) tells)
+  done_as : (summary : Summary) → summary ≡ Nothing → (count : ℕ) → ArePrefixes table.entries.items → IsWritten list table before.written after.written count → Ends command before after (Done summary)
+  done_as summary is count are w = subst (λ (s : Summary). Ends command before after (Done s)) (sym is)
+      (refl, λ tells. done_ends command before after values (certificate_outcome (certificate_text w.rows)) true passed (free are) (gives_written count w) refl w.appended (both_read tells) tells)
 
   pub cert_ends : (ending : Ending) → IsEnd ending → Ends command before after ending
-  cert_ends (Done summary) h = λ tells. done_as summary h.0 h.2 h.1 h.3 tells
+  cert_ends (Done summary) h = done_as summary h.0 h.2 h.1 h.3
   cert_ends No h = λ tells. done_ends command before after values (difference_outcome h.1.0) false passed (free h.0) (gives_difference h.1.0 h.1.1) refl h.1.2 (both_read tells) tells
   cert_ends (Bad file line reason) h =
       bad_line_as file.now line h.3 (record { line = line; reason = reason }) h.0 h.5 (ap (λ r. let bad : BadLine = record { line = line; reason = r } in bad) h.1) (other_stops h.3 h.4 h.2)
@@ -170,4 +171,4 @@ module _ (first second : List ℕ) (before after : Outside) (list : RuleList) (t
   cert_ends (TooMany needed limit) h = absurd h
   cert_ends (ReadFault file) h = absurd h
   cert_ends WriteFault h = (h.0, fault_ends h.1 h.2)
-  cert_ends Memory h = memory_ends h
+  cert_ends Memory h = (h.0, memory_ends h.1)

@@ -1,15 +1,18 @@
 -- How a command ends that checks a certificate of a list and a table.
-use Rattle.std.proofs.Common.{◌≡◌, ℕ, ◌≤◌, List, [], ◌∷◌, Some, None, inl, inr, refl, subst, sym, arith, ◌∙◌}
-use Rattle.std.specs.Prelude.{true, false, Option, IfSome, unwrap_or, ◌⊎◌}
-use Rattle.std.specs.Io.KnownBytes.{Appends, Keeps}
+use Rattle.std.proofs.Common.{◌≡◌, ℕ, ◌≤◌, List, [], ◌∷◌, ◌++◌, length, ap, Some, None, inl, inr, refl, subst, sym, arith, ◌∙◌}
+use Rattle.std.specs.Prelude.{true, false, Option, Ok, IfSome, Result, unwrap_or, ◌⊎◌}
+use Rattle.std.specs.Io.KnownBytes.{Appends, Consumes, Keeps}
 use Rattle.razor_base.specs.Output.{AppendsFront}
+use Rattle.razor_base.specs.Faults.{Rose}
+use Rattle.filter_reader.specs.FilterList.{FilterList}
 use Rattle.filter_reader.specs.Lists.{filter_list}
 use Rattle.filter_reader.specs.declared.list.RuleList.{RuleList}
+use Rattle.ternary_words.specs.Table as tables
 use Rattle.ternary_words.specs.Views.{table_of}
 use Rattle.ternary_words.specs.declared.table.Table.{Table}
 use Rattle.partition_check.specs.Agreement.{Agree}
-use Rattle.partition_check.specs.Checking.{begun}
-use Rattle.partition_check.specs.Streams.{ReadsTooMuch, ReadsValid, ReadsWrong}
+use Rattle.partition_check.specs.Checking.{Checking, begun}
+use Rattle.partition_check.specs.Streams.{ReadsTooMuch, ReadsUpTo, ReadsValid, ReadsWrong}
 use Rattle.partition_check.specs.declared.row.Wrong.{Wrong}
 use Rattle.razor_core.specs.declared.ending.Ending.{Ending}
 use Rattle.razor_core.specs.declared.ending.Ending.TheVariants.{Done, No, BadLine as Bad, TooLong, TooMany, ReadFault, WriteFault, Memory}
@@ -17,16 +20,17 @@ use Rattle.razor_core.specs.declared.ending.Summary.{Summary}
 use Rattle.razor_core.specs.Certified.{Checks, valid_line, wrong_line}
 use Rattle.razor_core.specs.CheckEnds.{IsEndOfCheck, SaysValid, SaysWrong}
 use Rattle.razor_core.specs.Command.{Command, Check}
-use Rattle.razor_core.specs.Inputs.{Value, inputs, certificate_input, lines_value, list_input, table_input}
+use Rattle.razor_core.specs.Inputs.{Input, Value, inputs, certificate_input, lines_value, list_input, list_value, most_bytes, table_input, table_value, text_of_certificate}
 use Rattle.razor_core.specs.Outcome.{Outcome, Gives}
 use Rattle.razor_core.specs.Outside.{Outside, Tells, bytes_at}
-use Rattle.razor_core.specs.Standing.{IsCutOff}
+use Rattle.razor_core.specs.Standing.{IsCutOff, IsRightSoFar}
 use Rattle.razor_core.specs.Taking.{table_value_of, value_of}
-use Rattle.razor_core.specs.Turns.{IsFree, too_long}
-use Rattle.razor_core.specs.Ending.{Ends, IsDone, summary_text}
+use Rattle.razor_core.specs.Turns.{Stop, IsFree, too_long}
+use Rattle.razor_core.specs.Deciding.{EndsInTurn, IsFaultUnder, IsReadFault}
+use Rattle.razor_core.specs.Ending.{Ends, IsDone}
 use Rattle.razor_core.proofs.CertEnding.{BothRead, both_read, passed}
 use Rattle.razor_core.proofs.Ended.{done_ends}
-use Rattle.razor_core.proofs.Turns.{AllRead, Passed, PassesWith, kept_told, read_fails, rose_later, some_bytes, turns_pass}
+use Rattle.razor_core.proofs.Turns.{AllRead, Passed, PassesWith, ends_in_turn, fault_later, kept_told, some_bytes, told_turn, turns_pass}
 
 abbrev most : ℕ
 most = 268435456
@@ -45,6 +49,21 @@ OneVerdict = (a b : RuleList) (s t : Table) (limit : ℕ) (text : List ℕ) (w :
 lines_pass : (name : List ℕ) (known : Option (List ℕ)) → PassesWith (certificate_input name) known (lines_value (unwrap_or known []))
 lines_pass name None = tt
 lines_pass name (Some text) = refl
+
+same_rules : (turned : Result Value Stop) (a b : FilterList) → turned ≡ Ok (list_value a) → turned ≡ Ok (list_value b) → a ≡ b
+same_rules turned a b p q = cc
+
+same_entries : (turned : Result Value Stop) (a b : tables.Table) → turned ≡ Ok (table_value a) → turned ≡ Ok (table_value b) → a ≡ b
+same_entries turned a b p q = cc
+
+unwrapped : (a b : List ℕ) (o : Option (List ℕ)) → o ≡ Some a → o ≡ Some b → a ≡ b
+unwrapped a b o p q = cc
+
+-- what was read of a certificate before a fault
+read_up_to : (c : Checking) (limit : ℕ) (between after : Option (List ℕ)) → IfSome between (λ all. ReadsUpTo c limit all after) → (seen : List ℕ) × Consumes between after seen × (length seen ≤ limit)
+read_up_to c limit None after h = ([], tt, omega arith)
+read_up_to c limit (Some all) None h = let left = h.left_is in absurd cc
+read_up_to c limit (Some all) (Some left) h = (h.front, h.parts ∙ ap (λ (rest : List ℕ). h.front ++ rest) (unwrapped h.rest left (Some left) h.left_is refl), h.within)
 
 module _ (first second third : List ℕ) (before after : Outside) (list : RuleList) (table : Table) (left : List ℕ → Option (List ℕ)) (faults : List ℕ → ℕ)
     (checked : Checked first second third before after list table (left third) (faults third)) (one : OneVerdict) where
@@ -121,6 +140,28 @@ module _ (first second third : List ℕ) (before after : Outside) (list : RuleLi
       let found = wrong_found w (wrong_at w h tells) in
       done_ends command before after values (wrong_outcome w) false all_passed found.0 found.1 refl written (front_read tells) tells
 
+  -- the turns of list and table passed, and nothing stands behind the certificate
+  in_certificate : (Ended : Input → Type 0) → Ended (certificate_input third) → EndsInTurn before after Ended (inputs command)
+  in_certificate Ended h = ends_in_turn before after Ended (list_input first ∷ table_input second ∷ []) (value_of list ∷ table_value_of table ∷ []) (certificate_input third) [] both_passed h tt
+
+  abbrev IsUpTo : Type 0
+  IsUpTo = IfSome (left third) (λ all. ReadsUpTo (begun list table) most all (after.remaining third))
+
+  fault : Rose (faults third) (after.read_faults third) → IsUpTo → IsReadFault text_of_certificate (before.remaining third) (after.remaining third) (before.read_faults third) (after.read_faults third)
+  fault rose h =
+      let read = read_up_to (begun list table) most (left third) (after.remaining third) h in
+      fault_later text_of_certificate (before.remaining third) (left third) (after.remaining third) (before.read_faults third) (faults third) (after.read_faults third) checked.kept checked.counts
+      (record { rose = rose; seen = read.0; read = read.1; within = read.2 })
+
+  right_so_far : IsUpTo → Tells before command → IsRightSoFar first second third before after
+  right_so_far h tells rules entries listed tabled =
+      let list_turn = told_turn (list_input first) (before.remaining first) (Ok (value_of list)) both_passed.0 tells.0 in
+      let table_turn = told_turn (table_input second) (before.remaining second) (Ok (table_value_of table)) both_passed.1.0 tells.1.0 in
+      record {
+        checks = record { list = list; table = table; rules_are = same_rules _ (filter_list list) rules list_turn listed; entries_are = same_entries _ (table_of table) entries table_turn tabled };
+        up_to = at_text (λ all. ReadsUpTo (begun list table) most all (after.remaining third)) h tells;
+      }
+
   cut_off : (outcome : Outcome) → IsFound outcome → AppendsFront before.written after.written outcome.text → Tells before command → IsCutOff command before after
   cut_off outcome found written tells = record {
     values = values;
@@ -136,11 +177,12 @@ module _ (first second third : List ℕ) (before after : Outside) (list : RuleLi
   fault_ends (inr (w, h, written)) tells = cut_off (wrong_outcome w) (wrong_found w (wrong_at w h tells)) written tells
 
   pub check_ends : (ending : Ending) → IsEndOfCheck list table third between after ending → Ends command before after ending
-  check_ends (Done summary) h = λ tells. subst (λ (s : Summary). IsDone command before after true (summary_text s)) (sym h.0) (valid_done h.1 tells)
+  check_ends (Done summary) h = subst (λ (s : Summary). Ends command before after (Done s)) (sym h.0) (refl, λ tells. valid_done h.1 tells)
   check_ends No h = wrong_done h
   check_ends (Bad file line reason) h = absurd h
   check_ends (TooLong file limit) h = record {
     unchanged = λ last. h.2;
+    named = in_certificate (λ input. (file.now ≡ input.name) × (limit ≡ most_bytes input.kind)) (h.0, h.1);
     stopped = λ tells. inr (record {
       values = values;
       turns = turns_pass before (inputs command) values all_passed tells;
@@ -150,9 +192,8 @@ module _ (first second third : List ℕ) (before after : Outside) (list : RuleLi
   }
   check_ends (TooMany needed limit) h = absurd h
   check_ends (ReadFault file) h = (
-    read_fails before after file.now (list_input first ∷ table_input second ∷ []) (value_of list ∷ table_value_of table ∷ []) (certificate_input third) [] both_passed h.0
-        (rose_later (before.read_faults third) (faults third) (after.read_faults third) checked.counts h.2),
-    h.1,
+    in_certificate (IsFaultUnder before after file.now) (h.0, fault h.2 h.3),
+    (h.1, λ tells same. right_so_far h.3 tells),
   )
   check_ends WriteFault h = (h.0, fault_ends h.1)
   check_ends Memory h = absurd h

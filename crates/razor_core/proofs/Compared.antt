@@ -58,9 +58,12 @@ text_is (Differ header left right) first second = refl
 pub answered_ends : (left right : List ℕ) (before after : Outside) (first second : RuleList) (verdict : Verdict) (ending : Ending) → ReadBoth left right before after first second → IsVerdict first second verdict →
     Appends before.written after.written (verdict_text verdict (filter_list first).rules (filter_list second).rules) → IsAnswer verdict ending → Ends (Equiv left right) before after ending
 unfolding outcome_of
-answered_ends left right before after first second Equal ending reads is written same = subst (Ends (Equiv left right) before after) (sym same) (λ tells.
-    done_ends (Equiv left right) before after (value_of first ∷ value_of second ∷ []) (outcome_of Equal first second) true (both_passed left right before after first second reads) (λ stop later. later)
-    (compares Equal first second is) refl written (both_read left right before after first second reads tells) tells)
+answered_ends left right before after first second Equal ending reads is written same = subst (Ends (Equiv left right) before after) (sym same) (
+  refl,
+  λ tells.
+      done_ends (Equiv left right) before after (value_of first ∷ value_of second ∷ []) (outcome_of Equal first second) true (both_passed left right before after first second reads) (λ stop later. later)
+      (compares Equal first second is) refl written (both_read left right before after first second reads tells) tells,
+)
 answered_ends left right before after first second (Differ header a b) ending reads is written same = subst (Ends (Equiv left right) before after) (sym same) (λ tells.
     done_ends (Equiv left right) before after (value_of first ∷ value_of second ∷ []) (outcome_of (Differ header a b) first second) false (both_passed left right before after first second reads) (λ stop later. later)
     (compares (Differ header a b) first second is) refl written (both_read left right before after first second reads tells) tells)

@@ -41,6 +41,7 @@ pub record Driven (slots : ℕ) (script : List ℕ) (files : List (List ℕ)) (b
   pub tables_taken : AreTaken files before.remaining after.remaining tables
   pub outcome : drives.Outcome (IsRun tables (unsettled slots) last 0 0) (Appends before.written after.written) events ended
   pub write_fault : ended ≡ Err errors.WriteFault → Rose before.write_faults after.write_faults
+  pub calm : drives.UnlessWriteFault ended (after.write_faults ≡ before.write_faults)
 
 -- what a run prints over a device that never fails
 abbrev pub PrintsSession : Type 0
@@ -100,11 +101,14 @@ module _ (law : PrintsSession) (slots : ℕ) (script : List ℕ) (files : List (
       (ap concat (sym printed) ∙ concat-append h.lines (h.last ∷ []) ∙ ap (λ (t : List ℕ). concat h.lines ++ t) (append-nil h.last ∙ h.cut) ∙ sym (append_assoc (concat h.lines) h.part h.lost)) h.written
 
   pub drive_ends : (ended : Result ℕ DriveError) (ending : Ending) → IsDriven ended → IsEndOfDrive ended ending → Ends (Drive slots script files) before after ending
-  drive_ends (Ok count) ending run is = subst (Ends (Drive slots script files) before after) (sym is) (λ tells.
-      let h = run.outcome.1 in
-      let printed = law tables (unsettled slots) last events h.lines h.ran in
-      done_ends (Drive slots script files) before after values outcome true (passed (Ok count) run) (λ stop later. later) (record { tables = tables; values_are = refl; says = refl }) refl
-      (subst (λ (lines : List (List ℕ)). Appends before.written after.written (concat lines)) printed h.written)
-      (read_taken (script_input (length files) script) (before.remaining script) (after.remaining script) (script_value events) run.script_taken tells.0, all_read before after files tables run.tables_taken tells.1) tells)
+  drive_ends (Ok count) ending run is = subst (Ends (Drive slots script files) before after) (sym is) (
+    refl,
+    λ tells.
+        let h = run.outcome.1 in
+        let printed = law tables (unsettled slots) last events h.lines h.ran in
+        done_ends (Drive slots script files) before after values outcome true (passed (Ok count) run) (λ stop later. later) (record { tables = tables; values_are = refl; says = refl }) refl
+        (subst (λ (lines : List (List ℕ)). Appends before.written after.written (concat lines)) printed h.written)
+        (read_taken (script_input (length files) script) (before.remaining script) (after.remaining script) (script_value events) run.script_taken tells.0, all_read before after files tables run.tables_taken tells.1) tells,
+  )
   drive_ends (Err errors.WriteFault) ending run is = subst (Ends (Drive slots script files) before after) (sym is) (run.write_fault refl, cut (Err errors.WriteFault) run (fault_front run))
-  drive_ends (Err errors.Memory) ending run is = subst (Ends (Drive slots script files) before after) (sym is) (λ tells. inr (cut (Err errors.Memory) run (memory_front run) tells))
+  drive_ends (Err errors.Memory) ending run is = subst (Ends (Drive slots script files) before after) (sym is) (run.calm, λ tells. inr (cut (Err errors.Memory) run (memory_front run) tells))

@@ -10,16 +10,17 @@ use Rattle.razor_core.specs.declared.making.CompileError.{CompileError}
 use Rattle.razor_core.specs.declared.making.CompileError.TheVariants as errors
 use Rattle.command_words.specs.declared.command.Method.{Method}
 use Rattle.razor_core.specs.Command.{Command, Make, Sizes}
-use Rattle.razor_core.specs.Inputs.{Input, Value, inputs, list_input, list_value, read_by}
+use Rattle.razor_core.specs.Inputs.{Input, Value, inputs, list_input, list_value, most_bytes, read_by}
 use Rattle.filter_reader.specs.FilterList.{FilterList}
 use Rattle.razor_core.specs.Making.{IsNeeded, IsRefused}
 use Rattle.razor_core.specs.Outcome.{Outcome, Gives}
-use Rattle.razor_core.specs.Outside.{Outside, Tells}
+use Rattle.razor_core.specs.Outside.{Outside, AreKept, Tells}
 use Rattle.razor_core.specs.Standing.{StandsCut, StandsShort, WritesInTurn}
 use Rattle.razor_core.specs.Taking.{EndsTurn}
 use Rattle.razor_core.specs.Turns.{Stop, IsFree, bad_line, too_long, too_many, turns_of}
-use Rattle.razor_core.specs.Ending.{Ends, FailsToRead, IsDone, IsEndingOf, Stops}
-use Rattle.razor_core.proofs.Turns.{AllRead, AllTold, Passed, StopsWith, read_fails, rose_later, turns_pass, turns_stop}
+use Rattle.razor_core.specs.Ending.{Ends, IsDone, IsEndingOf, Stops}
+use Rattle.razor_core.specs.Deciding.{EndsInTurn, IsFaultUnder, IsStopOf}
+use Rattle.razor_core.proofs.Turns.{AllRead, AllTold, Passed, StopsWith, ends_in_turn, fault_later, turns_pass, turns_stop}
 
 -- turns that all pass are ended by nothing
 pub passed_or_stopped : (turns : Result (List Value) Stop) (values : List Value) (stop : Stop) → turns ≡ Ok values → turns ≡ Err stop → ⊥
@@ -28,26 +29,34 @@ passed_or_stopped turns values stop p s = cc
 pub same_values : (turns : Result (List Value) Stop) (a b : List Value) → turns ≡ Ok a → turns ≡ Ok b → a ≡ b
 same_values turns a b p q = cc
 
--- inputs of a command that were taken in turn, up to this one
-pub record Reached (command : Command) (before : Outside) (front : List Input) (values : List Value) (input : Input) (others : List Input) : Type 0 where
+-- inputs of a command that were taken in turn, up to this one, and those behind it are as they were
+pub record Reached (command : Command) (before after : Outside) (front : List Input) (values : List Value) (input : Input) (others : List Input) : Type 0 where
   pub inputs_are : inputs command ≡ front ++ input ∷ others
   pub passed : Passed before front values
+  pub kept : AreKept before after others
 
 -- what stands of a command that has written nothing, where a read under the name failed, and where memory was refused
 pub record StandsStill (command : Command) (before after : Outside) (name : List ℕ) : Type 0 where
   pub keeps : Keeps before.written after.written
   pub cut : (file : List ℕ) → file ≡ name → StandsCut command before after file
+  pub calm : after.write_faults ≡ before.write_faults
   pub short : StandsShort command before after
 
-stop_in_turn : (command : Command) (before after : Outside) (front : List Input) (values : List Value) (input : Input) (others : List Input) (stop : Stop) → Reached command before front values input others →
+stop_in_turn : (command : Command) (before after : Outside) (front : List Input) (values : List Value) (input : Input) (others : List Input) (stop : Stop) → Reached command before after front values input others →
     StopsWith input (before.remaining input.name) stop → Tells before command → turns_of before (inputs command) ≡ Err stop
 stop_in_turn command before after front values input others stop reached h tells =
     ap (turns_of before) reached.inputs_are ∙ turns_stop before front values input others stop reached.passed h (subst (AllTold before) reached.inputs_are tells)
 
-stops : (command : Command) (before after : Outside) (front : List Input) (values : List Value) (input : Input) (others : List Input) (stop : Stop) → Reached command before front values input others →
-    Keeps before.written after.written → StopsWith input (before.remaining input.name) stop → Stops command before after stop
-stops command before after front values input others stop reached keeps h = record {
+ends_there : (command : Command) (before after : Outside) (front : List Input) (values : List Value) (input : Input) (others : List Input) (Is : Input → Type 0) → Reached command before after front values input others → Is input →
+    EndsInTurn before after Is (inputs command)
+ends_there command before after front values input others Is reached is =
+    subst (EndsInTurn before after Is) (sym reached.inputs_are) (ends_in_turn before after Is front values input others reached.passed is reached.kept)
+
+stops : (command : Command) (before after : Outside) (front : List Input) (values : List Value) (input : Input) (others : List Input) (stop : Stop) → Reached command before after front values input others →
+    Keeps before.written after.written → IsStopOf command before after stop → StopsWith input (before.remaining input.name) stop → Stops command before after stop
+stops command before after front values input others stop reached keeps named h = record {
   unchanged = λ last. keeps;
+  named = named;
   stopped = λ tells. inl (stop_in_turn command before after front values input others stop reached h tells);
   stands = λ tells. record {
     in_turn = λ s e. keeps;
@@ -56,19 +65,21 @@ stops command before after front values input others stop reached keeps h = reco
 }
 
 -- the turn of an input is ended
-pub turn_ends : (command : Command) (before after : Outside) (front : List Input) (values : List Value) (input : Input) (others : List Input) (ending : Ending) → Reached command before front values input others →
-    StandsStill command before after input.name → EndsTurn input (before.remaining input.name) (before.read_faults input.name) (after.read_faults input.name) ending → Ends command before after ending
+pub turn_ends : (command : Command) (before after : Outside) (front : List Input) (values : List Value) (input : Input) (others : List Input) (ending : Ending) → Reached command before after front values input others →
+    StandsStill command before after input.name → EndsTurn input (before.remaining input.name) (after.remaining input.name) (before.read_faults input.name) (after.read_faults input.name) ending → Ends command before after ending
 turn_ends command before after front values input others (Done summary) reached still h = absurd h
 turn_ends command before after front values input others No reached still h = absurd h
-turn_ends command before after front values input others (Bad file line reason) reached still h = stops command before after front values input others (bad_line file.now (record { line = line; reason = reason })) reached still.keeps h
-turn_ends command before after front values input others (TooLong file limit) reached still h = stops command before after front values input others (too_long file.now limit) reached still.keeps h
+turn_ends command before after front values input others (Bad file line reason) reached still h =
+    stops command before after front values input others (bad_line file.now (record { line = line; reason = reason })) reached still.keeps
+    (ends_there command before after front values input others (λ i. file.now ≡ i.name) reached h.0) h.1
+turn_ends command before after front values input others (TooLong file limit) reached still h =
+    stops command before after front values input others (too_long file.now limit) reached still.keeps
+    (ends_there command before after front values input others (λ i. (file.now ≡ i.name) × (limit ≡ most_bytes i.kind)) reached (h.0, h.1)) h.2
 turn_ends command before after front values input others (TooMany needed limit) reached still h = absurd h
-turn_ends command before after front values input others (ReadFault file) reached still h = (
-  subst (FailsToRead before after file.now) (sym reached.inputs_are) (read_fails before after file.now front values input others reached.passed h.0 h.1),
-  still.cut file.now h.0,
-)
+turn_ends command before after front values input others (ReadFault file) reached still h =
+    (ends_there command before after front values input others (IsFaultUnder before after file.now) reached h, still.cut file.now h.0)
 turn_ends command before after front values input others WriteFault reached still h = absurd h
-turn_ends command before after front values input others Memory reached still h = still.short
+turn_ends command before after front values input others Memory reached still h = (still.calm, still.short)
 
 stops_later : (input : Input) (before between : Option (List ℕ)) (stop : Stop) → Keeps before between → StopsWith input between stop → StopsWith input before stop
 stops_later input None between stop keeps h = tt
@@ -76,15 +87,16 @@ stops_later input (Some text) None stop keeps h = absurd keeps
 stops_later input (Some text) (Some other) stop keeps h = subst (λ (x : List ℕ). StopsWith input (Some x) stop) keeps h
 
 -- an input that is read later than others is as it was, where these keep its bytes
-pub ends_later : (input : Input) (before between : Option (List ℕ)) (first second last : ℕ) (ending : Ending) → Keeps before between → first ≤ second → EndsTurn input between second last ending → EndsTurn input before first last ending
-ends_later input before between first second last (Done summary) keeps le h = absurd h
-ends_later input before between first second last No keeps le h = absurd h
-ends_later input before between first second last (Bad file line reason) keeps le h = stops_later input before between (bad_line file.now (record { line = line; reason = reason })) keeps h
-ends_later input before between first second last (TooLong file limit) keeps le h = stops_later input before between (too_long file.now limit) keeps h
-ends_later input before between first second last (TooMany needed limit) keeps le h = absurd h
-ends_later input before between first second last (ReadFault file) keeps le h = (h.0, rose_later first second last le h.1)
-ends_later input before between first second last WriteFault keeps le h = absurd h
-ends_later input before between first second last Memory keeps le h = tt
+pub ends_later : (input : Input) (before between after : Option (List ℕ)) (first second last : ℕ) (ending : Ending) → Keeps before between → first ≤ second → EndsTurn input between after second last ending →
+    EndsTurn input before after first last ending
+ends_later input before between after first second last (Done summary) keeps le h = absurd h
+ends_later input before between after first second last No keeps le h = absurd h
+ends_later input before between after first second last (Bad file line reason) keeps le h = (h.0, stops_later input before between (bad_line file.now (record { line = line; reason = reason })) keeps h.1)
+ends_later input before between after first second last (TooLong file limit) keeps le h = (h.0, h.1, stops_later input before between (too_long file.now limit) keeps h.2)
+ends_later input before between after first second last (TooMany needed limit) keeps le h = absurd h
+ends_later input before between after first second last (ReadFault file) keeps le h = (h.0, fault_later input.kind before between after first second last keeps le h.1)
+ends_later input before between after first second last WriteFault keeps le h = absurd h
+ends_later input before between after first second last Memory keeps le h = tt
 
 -- all was written
 pub done_ends : (command : Command) (before after : Outside) (values : List Value) (outcome : Outcome) (answer : Bool) → Passed before (inputs command) values → IsFree command values → Gives command values outcome →
@@ -127,10 +139,11 @@ make_free method sizes file list room (too_many needed limit) later =
 
 -- no table was made
 pub not_made_ends : (method : Method) (sizes : Sizes) (file : List ℕ) (before after : Outside) (list : FilterList) (error : CompileError) (ending : Ending) → Passed before (list_input file ∷ []) (list_value list ∷ []) →
-    IsRefused (IsNeeded method list.rules) sizes.limit error → IsEndingOf error ending → Keeps before.written after.written → Ends (Make method sizes file) before after ending
-not_made_ends method sizes file before after list errors.Memory ending passed refused same keeps = subst (Ends (Make method sizes file) before after) (sym same) keeps
-not_made_ends method sizes file before after list (errors.TooMany needed limit) ending passed refused same keeps = subst (Ends (Make method sizes file) before after) (sym same) (record {
+    IsRefused (IsNeeded method list.rules) sizes.limit error → IsEndingOf error ending → Keeps before.written after.written → after.write_faults ≡ before.write_faults → Ends (Make method sizes file) before after ending
+not_made_ends method sizes file before after list errors.Memory ending passed refused same keeps calm = subst (Ends (Make method sizes file) before after) (sym same) (calm, keeps)
+not_made_ends method sizes file before after list (errors.TooMany needed limit) ending passed refused same keeps calm = subst (Ends (Make method sizes file) before after) (sym same) (record {
   unchanged = λ last. keeps;
+  named = (refused.1, let limited = refused.1 in let above = refused.2 in omega arith);
   stopped = λ tells. inr (record { values = list_value list ∷ []; turns = turns_pass before (list_input file ∷ []) (list_value list ∷ []) passed tells; later = (refused.0, refused.1, let limited = refused.1 in let above = refused.2 in omega arith) });
   stands = λ tells. record { in_turn = λ s e. keeps; later = λ vs e. keeps };
 })

@@ -1,5 +1,5 @@
 -- What an ending shows of the status, whatever the command.
-use Rattle.std.proofs.Common.{◌≡◌, ◌≢◌, ℕ, List, [], ◌∷◌, Some, None, refl, ap, arith, subst, inl, inr}
+use Rattle.std.proofs.Common.{◌≡◌, ◌≢◌, ◌≤◌, ℕ, List, [], ◌∷◌, Some, None, refl, ap, arith, subst, inl, inr}
 use Rattle.std.specs.Prelude.{◌⊎◌, Ok, Err, Option, Result, option_map, true, false}
 use Rattle.std.specs.Io.KnownBytes.{Keeps}
 use Rattle.razor_core.specs.declared.ending.Ending.{Ending}
@@ -13,11 +13,11 @@ use Rattle.razor_core.specs.Outside.{Outside, Tells}
 use Rattle.razor_core.specs.Standing.{IsCutOff, Stands, StandsCut, StandsShort, WritesInTurn, WritesNothing}
 use Rattle.razor_core.specs.Traced.{HasBadLine, bad_line_of, taken_of}
 use Rattle.razor_core.specs.Turns.{Stop, bad_line, too_long, too_many, stop_status, turns_of, Pass, IsFree, IsStopped, StopsLater}
-use Rattle.razor_core.specs.Ending.{status_of, ending_line, summary_text, IsDone, FailsToRead, Ends}
+use Rattle.razor_core.specs.Ending.{status_of, ending_line, IsDone, IsDoneLine, Ends, Stops}
 use Rattle.razor_core.proofs.Ended.{passed_or_stopped, same_values}
-use Rattle.razor_core.specs.Messages.{stop_line, read_fault_line, write_fault_line, memory_line}
+use Rattle.razor_core.specs.Messages.{stop_line, write_fault_line, memory_line}
 use Rattle.razor_base.specs.Faults.{Rose}
-use Rattle.razor_core.specs.Promise.{IsStatusOfPass, IsStatusOfStop, KeepsPromise, IsLineOf}
+use Rattle.razor_core.specs.Promise.{IsEnded, IsStatusOfPass, IsStatusOfStop, IsUnread, KeepsPromise}
 
 same_stop : (turns : Result (List Value) Stop) (a b : Stop) → turns ≡ Err a → turns ≡ Err b → a ≡ b
 same_stop turns a b p q = cc
@@ -61,37 +61,42 @@ one_status command before a b (inr h) (inl k) = absurd (passed_or_stopped (turns
 one_status command before a b (inr h) (inr k) =
     later_alike command k.values a b (subst (λ (vs : List Value). StopsLater command vs a) (same_values (turns_of before (inputs command)) h.values k.values h.turns k.turns) h.later) k.later
 
-done_by : (command : Command) (before after : Outside) (ending : Ending) → Ends command before after ending → status_of ending ≡ 0 → Tells before command → (line : List ℕ) × IsDone command before after true line
-done_by command before after (Done summary) h e tells = (summary_text summary, h tells)
+done_by : (command : Command) (before after : Outside) (ending : Ending) → Ends command before after ending → status_of ending ≡ 0 → Tells before command → IsDone command before after true (ending_line ending)
+done_by command before after (Done summary) h e tells = h.1 tells
 done_by command before after ending h e tells = absurd (omega (arith, e))
+
+done_line_by : (command : Command) (before after : Outside) (ending : Ending) → Ends command before after ending → status_of ending ≡ 0 → IsDoneLine command (ending_line ending)
+done_line_by command before after (Done summary) h e = h.0
+done_line_by command before after ending h e = absurd (omega (arith, e))
 
 no_by : (command : Command) (before after : Outside) (ending : Ending) → Ends command before after ending → status_of ending ≡ 1 → Tells before command → IsDone command before after false []
 no_by command before after No h e tells = h tells
 no_by command before after ending h e tells = absurd (omega (arith, e))
 
-bad_line_by : (command : Command) (before after : Outside) (ending : Ending) → Ends command before after ending → status_of ending ≡ 3 → Tells before command → (file : List ℕ) × (bad : BadLine) × IsStopped command before (bad_line file bad)
-bad_line_by command before after (Bad file line reason) h e tells = (file.now, record { line = line; reason = reason }, h.stopped tells)
-bad_line_by command before after ending h e tells = absurd (omega (arith, e))
+no_line_by : (ending : Ending) → status_of ending ≡ 1 → ending_line ending ≡ []
+no_line_by No e = refl
+no_line_by ending e = absurd (omega (arith, e))
 
-too_much_by : (command : Command) (before after : Outside) (ending : Ending) → Ends command before after ending → status_of ending ≡ 4 → Tells before command →
-    ((file : List ℕ) × (limit : ℕ) × IsStopped command before (too_long file limit)) ⊎ ((needed : ℕ) × (limit : ℕ) × IsStopped command before (too_many needed limit))
-too_much_by command before after (TooLong file limit) h e tells = inl (file.now, limit, h.stopped tells)
-too_much_by command before after (TooMany needed limit) h e tells = inr (needed, limit, h.stopped tells)
-too_much_by command before after ending h e tells = absurd (omega (arith, e))
+ended_as : (command : Command) (before after : Outside) (stop : Stop) → Stops command before after stop → IsEnded command before after (stop_line stop) (stop_status stop)
+ended_as command before after stop h = record { stop = stop; status_is = refl; line_is = refl; named = h.named; stopped = h.stopped; stands = h.stands }
 
-stands_by : (command : Command) (before after : Outside) (ending : Ending) → Ends command before after ending → (status_of ending ≡ 3) ⊎ (status_of ending ≡ 4) → Tells before command → Stands command before after
-stands_by command before after (Bad file line reason) h e tells = h.stands tells
-stands_by command before after (TooLong file limit) h e tells = h.stands tells
-stands_by command before after (TooMany needed limit) h e tells = h.stands tells
-stands_by command before after ending h e tells = absurd (grind (arith, e))
+ended_by : (command : Command) (before after : Outside) (ending : Ending) → Ends command before after ending → (status_of ending ≡ 3) ⊎ (status_of ending ≡ 4) → IsEnded command before after (ending_line ending) (status_of ending)
+ended_by command before after (Bad file line reason) h e = ended_as command before after (bad_line file.now (record { line = line; reason = reason })) h
+ended_by command before after (TooLong file limit) h e = ended_as command before after (too_long file.now limit) h
+ended_by command before after (TooMany needed limit) h e = ended_as command before after (too_many needed limit) h
+ended_by command before after ending h e = absurd (grind (arith, e))
 
-read_fault_by : (command : Command) (before after : Outside) (ending : Ending) → Ends command before after ending → status_of ending ≡ 5 → (file : List ℕ) × FailsToRead before after file (inputs command) × StandsCut command before after file
-read_fault_by command before after (ReadFault file) h e = (file.now, h.0, h.1)
+read_fault_by : (command : Command) (before after : Outside) (ending : Ending) → Ends command before after ending → status_of ending ≡ 5 → IsUnread command before after (ending_line ending)
+read_fault_by command before after (ReadFault file) h e = record { file = file.now; line_is = refl; failed = h.0; stands = h.1 }
 read_fault_by command before after ending h e = absurd (omega (arith, e))
 
 short_by : (command : Command) (before after : Outside) (ending : Ending) → Ends command before after ending → status_of ending ≡ 7 → StandsShort command before after
-short_by command before after Memory h e = h
+short_by command before after Memory h e = h.1
 short_by command before after ending h e = absurd (omega (arith, e))
+
+calm_by : (command : Command) (before after : Outside) (ending : Ending) → Ends command before after ending → status_of ending ≡ 7 → after.write_faults ≡ before.write_faults
+calm_by command before after Memory h e = h.0
+calm_by command before after ending h e = absurd (omega (arith, e))
 
 write_fault_by : (command : Command) (before after : Outside) (ending : Ending) → Ends command before after ending → status_of ending ≡ 6 → Rose before.write_faults after.write_faults
 write_fault_by command before after WriteFault h e = h.0
@@ -117,7 +122,7 @@ cut_by_stop command before stop values turns (inl free) s = absurd (pass_or_stop
 cut_by_stop command before stop values turns (inr writes) s = inr (inr (inr (refl, writes)))
 
 stopped_by_turns : (command : Command) (before after : Outside) (ending : Ending) → Ends command before after ending → Tells before command → (stop : Stop) → IsStopped command before stop → IsStatusOfStop command stop (status_of ending)
-stopped_by_turns command before after (Done summary) h tells stop s = absurd (pass_or_stopped command before (h tells).values stop (h tells).pass s)
+stopped_by_turns command before after (Done summary) h tells stop s = absurd (pass_or_stopped command before (h.1 tells).values stop (h.1 tells).pass s)
 stopped_by_turns command before after No h tells stop s = absurd (pass_or_stopped command before (h tells).values stop (h tells).pass s)
 stopped_by_turns command before after (Bad file line reason) h tells stop s = inl (one_status command before (bad_line file.now (record { line = line; reason = reason })) stop (h.stopped tells) s)
 stopped_by_turns command before after (TooLong file limit) h tells stop s = inl (one_status command before (too_long file.now limit) stop (h.stopped tells) s)
@@ -126,21 +131,21 @@ stopped_by_turns command before after (ReadFault file) h tells stop s = inr (inl
 stopped_by_turns command before after WriteFault h tells stop s = cut_by_stop command before stop (h.1 tells).values (h.1 tells).turns (h.1 tells).free s
 stopped_by_turns command before after Memory h tells stop s = inr (inr (inl refl))
 
-not_two : (ending : Ending) → status_of ending ≢ 2
-not_two (Done summary) = λ e. omega (arith, e)
-not_two No = λ e. omega (arith, e)
-not_two (Bad file line reason) = λ e. omega (arith, e)
-not_two (TooLong file limit) = λ e. omega (arith, e)
-not_two (TooMany needed limit) = λ e. omega (arith, e)
-not_two (ReadFault file) = λ e. omega (arith, e)
-not_two WriteFault = λ e. omega (arith, e)
-not_two Memory = λ e. omega (arith, e)
+known_by : (ending : Ending) → (status_of ending ≤ 7) × (status_of ending ≢ 2)
+known_by (Done summary) = (omega arith, λ e. omega (arith, e))
+known_by No = (omega arith, λ e. omega (arith, e))
+known_by (Bad file line reason) = (omega arith, λ e. omega (arith, e))
+known_by (TooLong file limit) = (omega arith, λ e. omega (arith, e))
+known_by (TooMany needed limit) = (omega arith, λ e. omega (arith, e))
+known_by (ReadFault file) = (omega arith, λ e. omega (arith, e))
+known_by WriteFault = (omega arith, λ e. omega (arith, e))
+known_by Memory = (omega arith, λ e. omega (arith, e))
 
 cut_unchanged : (command : Command) (before after : Outside) (file : List ℕ) → WritesNothing (Some command) 5 → StandsCut command before after file → Keeps before.written after.written
 cut_unchanged (Make method sizes list) before after file last h = h
 cut_unchanged (Equiv left right) before after file last h = h
 cut_unchanged (Cert list table) before after file last h = h
-cut_unchanged (Check list table certificate) before after file last h = h
+cut_unchanged (Check list table certificate) before after file last h = h.0
 cut_unchanged (Trace table trace) before after file last h = absurd last
 cut_unchanged (Drive slots script tables) before after file last h = h
 cut_unchanged (Gen seed rules) before after file last h = h
@@ -167,60 +172,32 @@ unchanged_by command before after (TooLong file limit) h last zero one six = h.u
 unchanged_by command before after (TooMany needed limit) h last zero one six = h.unchanged last
 unchanged_by command before after (ReadFault file) h last zero one six = cut_unchanged command before after file.now last h.1
 unchanged_by command before after WriteFault h last zero one six = absurd (six refl)
-unchanged_by command before after Memory h last zero one six = short_unchanged command before after last h
+unchanged_by command before after Memory h last zero one six = short_unchanged command before after last h.1
+
+write_line_by : (ending : Ending) → status_of ending ≡ 6 → ending_line ending ≡ write_fault_line
+write_line_by WriteFault e = refl
+write_line_by ending e = absurd (omega (arith, e))
+
+short_line_by : (ending : Ending) → status_of ending ≡ 7 → ending_line ending ≡ memory_line
+short_line_by Memory e = refl
+short_line_by ending e = absurd (omega (arith, e))
 
 -- what a command's ending promises
-pub kept_by : (command : Command) (before after : Outside) (ending : Ending) → Ends command before after ending → KeepsPromise command before after (status_of ending) × (status_of ending ≢ 2)
-kept_by command before after ending h = (
-  record {
-    done = done_by command before after ending h;
-    answered_no = no_by command before after ending h;
-    bad_line = bad_line_by command before after ending h;
-    too_much = too_much_by command before after ending h;
-    stands = stands_by command before after ending h;
-    read_fault = read_fault_by command before after ending h;
-    write_fault = write_fault_by command before after ending h;
-    cut_off = cut_off_by command before after ending h;
-    short = short_by command before after ending h;
-    complete = complete_by command before after ending h;
-    stopped = stopped_by_turns command before after ending h;
-  },
-  not_two ending,
-)
-
-line_done : (command : Command) (before after : Outside) (ending : Ending) → Ends command before after ending → status_of ending ≡ 0 → Tells before command → IsDone command before after true (ending_line ending)
-line_done command before after (Done summary) h e tells = h tells
-line_done command before after ending h e tells = absurd (omega (arith, e))
-
-line_no : (ending : Ending) → status_of ending ≡ 1 → ending_line ending ≡ []
-line_no No e = refl
-line_no ending e = absurd (omega (arith, e))
-
-line_stopped : (command : Command) (before after : Outside) (ending : Ending) → Ends command before after ending → (status_of ending ≡ 3) ⊎ (status_of ending ≡ 4) → Tells before command → (stop : Stop) × IsStopped command before stop × (ending_line ending ≡ stop_line stop)
-line_stopped command before after (Bad file line reason) h e tells = (bad_line file.now (record { line = line; reason = reason }), h.stopped tells, refl)
-line_stopped command before after (TooLong file limit) h e tells = (too_long file.now limit, h.stopped tells, refl)
-line_stopped command before after (TooMany needed limit) h e tells = (too_many needed limit, h.stopped tells, refl)
-line_stopped command before after ending h e tells = absurd (grind (arith, e))
-
-line_read_fault : (command : Command) (before after : Outside) (ending : Ending) → Ends command before after ending → status_of ending ≡ 5 → (file : List ℕ) × FailsToRead before after file (inputs command) × (ending_line ending ≡ read_fault_line file)
-line_read_fault command before after (ReadFault file) h e = (file.now, h.0, refl)
-line_read_fault command before after ending h e = absurd (omega (arith, e))
-
-line_write_fault : (ending : Ending) → status_of ending ≡ 6 → ending_line ending ≡ write_fault_line
-line_write_fault WriteFault e = refl
-line_write_fault ending e = absurd (omega (arith, e))
-
-line_memory : (ending : Ending) → status_of ending ≡ 7 → ending_line ending ≡ memory_line
-line_memory Memory e = refl
-line_memory ending e = absurd (omega (arith, e))
-
--- the line of an ending is that of its status
-pub line_by : (command : Command) (before after : Outside) (ending : Ending) → Ends command before after ending → IsLineOf command before after (status_of ending) (ending_line ending)
-line_by command before after ending h = record {
-  done = line_done command before after ending h;
-  answered_no = line_no ending;
-  stopped = line_stopped command before after ending h;
-  read_fault = line_read_fault command before after ending h;
-  write_fault = line_write_fault ending;
-  memory = line_memory ending;
+pub kept_by : (command : Command) (before after : Outside) (ending : Ending) → Ends command before after ending → KeepsPromise command before after (ending_line ending) (status_of ending)
+kept_by command before after ending h = record {
+  done = done_by command before after ending h;
+  done_line = done_line_by command before after ending h;
+  answered_no = no_by command before after ending h;
+  no_line = no_line_by ending;
+  ended = ended_by command before after ending h;
+  read_fault = read_fault_by command before after ending h;
+  write_fault = write_fault_by command before after ending h;
+  write_line = write_line_by ending;
+  cut_off = cut_off_by command before after ending h;
+  calm = calm_by command before after ending h;
+  short = short_by command before after ending h;
+  short_line = short_line_by ending;
+  known = known_by ending;
+  complete = complete_by command before after ending h;
+  stopped = stopped_by_turns command before after ending h;
 }

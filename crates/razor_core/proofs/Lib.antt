@@ -10,3 +10,5 @@ pub mod Turns
 pub mod CertEnding
 pub mod CheckEnding
 pub mod SelfRun
+pub mod SpelledNames
+mod Unread

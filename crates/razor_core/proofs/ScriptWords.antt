@@ -1,5 +1,5 @@
 -- The words of a script and of its tables.
-use Rattle.std.proofs.Common.{◌≡◌, ◌×◌, ◌<◌, ◌≤◌, ℕ, List, Bool, true, false, length, refl, arith}
+use Rattle.std.proofs.Common.{◌≡◌, ◌<◌, ◌≤◌, ℕ, List, Bool, true, false, length, refl, arith}
 use Rattle.std.specs.Prelude.{IsTrue, nat_le, ◌&&◌}
 use Rattle.std.proofs.lemmas.Bool.{leb-true}
 use Rattle.command_words.specs.Naming.{all_differ, is_script_run}

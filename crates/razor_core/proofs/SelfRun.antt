@@ -50,6 +50,7 @@ module _ (seed rules : ℕ) (before after : Outside) where
   pub too_many_stop : (needed limit : ℕ) → IsLeastCost stated (generated seed rules).rules needed → limit ≡ 262144 → 262144 < needed → Keeps before.written after.written → Stops (Selfrun seed rules) before after (too_many needed limit)
   too_many_stop needed limit least same above keeps = record {
     unchanged = λ last. keeps;
+    named = (same, omega (arith, same, above));
     stopped = λ tells. inr (record { values = []; turns = refl; later = (least, same, omega (arith, same, above)) });
     stands = λ tells. record { in_turn = λ s e. keeps; later = λ vs e. keeps };
   }

@@ -12,9 +12,9 @@ use Rattle.ternary_words.specs.declared.table.Table.{Table}
 use Rattle.razor_core.specs.declared.ending.Ending.{Ending}
 use Rattle.razor_core.specs.Command.{Command}
 use Rattle.razor_core.specs.Inputs.{Input, Value, inputs, table_input}
-use Rattle.razor_core.specs.Outside.{Outside}
-use Rattle.razor_core.specs.Tables.{AreAdded, AreTaken, Bytes, FailsAmong, IsNone}
-use Rattle.razor_core.specs.Taking.{TakesTurn, table_value_of}
+use Rattle.razor_core.specs.Outside.{Outside, AreKept}
+use Rattle.razor_core.specs.Tables.{AreAdded, AreTaken, Bytes, FailsAmong, IsNone, StayAt}
+use Rattle.razor_core.specs.Taking.{EndsTurn, TakesTurn, table_value_of}
 use Rattle.razor_core.specs.Ending.{Ends}
 use Rattle.razor_core.proofs.Ended.{StandsStill, ends_later, turn_ends}
 use Rattle.razor_core.proofs.Turns.{AllRead, AllTold, Passed, PassesWith, keeps_trans, passed_taken, read_taken, taken_before, taken_later}
@@ -59,17 +59,36 @@ all_taken_later name (file ∷ files) before between after (table ∷ tables) no
   all_taken_later name files before between after tables none.1 keeps h.1,
 )
 
-pub all_fail_later : (name : List ℕ) (files : List (List ℕ)) (before between : Bytes) (first second last : List ℕ → ℕ) (ending : Ending) → IsNone name files → KeepsOthers before between name →
-    ((other : List ℕ) → first other ≤ second other) → FailsAmong files between second last ending → FailsAmong files before first last ending
-all_fail_later name [] before between first second last ending none keeps counts h = absurd h
-all_fail_later name (file ∷ files) before between first second last ending none keeps counts (inl h) =
-    inl (ends_later (table_input file) (before file) (between file) (first file) (second file) (last file) ending (keeps file (λ e. none.0 (sym e))) (counts file) h)
-all_fail_later name (file ∷ files) before between first second last ending none keeps counts (inr h) =
+-- names that stay later stay from before on, where those of others do
+stay_later : (name : List ℕ) (files : List (List ℕ)) (before between after : Bytes) → IsNone name files → KeepsOthers before between name → StayAt files between after → StayAt files before after
+stay_later name [] before between after none keeps h = tt
+stay_later name (file ∷ files) before between after none keeps h =
+    (keeps_trans (before file) (between file) (after file) (keeps file (λ e. none.0 (sym e))) h.0, stay_later name files before between after none.1 keeps h.1)
+
+-- those that are none of a name stay, where all but that name do
+pub all_stay : (name : List ℕ) (files : List (List ℕ)) (before after : Bytes) → IsNone name files → KeepsOthers before after name → StayAt files before after
+all_stay name [] before after none keeps = tt
+all_stay name (file ∷ files) before after none keeps = (keeps file (λ e. none.0 (sym e)), all_stay name files before after none.1 keeps)
+
+pub all_fail_later : (name : List ℕ) (files : List (List ℕ)) (before between after : Bytes) (first second last : List ℕ → ℕ) (ending : Ending) → IsNone name files → KeepsOthers before between name →
+    ((other : List ℕ) → first other ≤ second other) → FailsAmong files between after second last ending → FailsAmong files before after first last ending
+all_fail_later name [] before between after first second last ending none keeps counts h = absurd h
+all_fail_later name (file ∷ files) before between after first second last ending none keeps counts (inl h) =
+    inl (
+      ends_later (table_input file) (before file) (between file) (after file) (first file) (second file) (last file) ending (keeps file (λ e. none.0 (sym e))) (counts file) h.0,
+      stay_later name files before between after none.1 keeps h.1,
+    )
+all_fail_later name (file ∷ files) before between after first second last ending none keeps counts (inr h) =
     inr (
       h.0,
       passes_later (table_input file) (before file) (between file) h.0 (keeps file (λ e. none.0 (sym e))) h.1,
-      all_fail_later name files before between first second last ending none.1 keeps counts h.2,
+      all_fail_later name files before between after first second last ending none.1 keeps counts h.2,
     )
+
+-- the first of some tables was ended so
+pub first_fails : (file : List ℕ) (files : List (List ℕ)) (before after : Bytes) (first last : List ℕ → ℕ) (ending : Ending) → IsTrue (all_differ (file ∷ files)) → KeepsOthers before after file →
+    EndsTurn (table_input file) (before file) (after file) (first file) (last file) ending → FailsAmong (file ∷ files) before after first last ending
+first_fails file files before after first last ending differ keeps h = inl (h, all_stay file files before after (none_later file files differ) keeps)
 
 -- no table was read
 pub none_added : (before : Bytes) (tables : List Table) → AreAdded [] before before tables tables
@@ -86,14 +105,14 @@ one_more file files before between after old pushed new table differ push taken 
       h.2 ∙ ap (λ (ts : List Table). ts ++ h.0) push ∙ append_assoc old (table ∷ []) h.0,
     )
 
-pub later_fails : (file : List ℕ) (files : List (List ℕ)) (before between : Bytes) (middle : Option (List ℕ)) (first second last : List ℕ → ℕ) (ending : Ending) (table : Table) → IsTrue (all_differ (file ∷ files)) →
+pub later_fails : (file : List ℕ) (files : List (List ℕ)) (before between after : Bytes) (middle : Option (List ℕ)) (first second last : List ℕ → ℕ) (ending : Ending) (table : Table) → IsTrue (all_differ (file ∷ files)) →
     TakesTurn (table_input file) (before file) middle (table_value_of table) → KeepsOthers before between file → ((other : List ℕ) → first other ≤ second other) →
-    FailsAmong files between second last ending → FailsAmong (file ∷ files) before first last ending
-later_fails file files before between middle first second last ending table differ taken keeps counts h =
+    FailsAmong files between after second last ending → FailsAmong (file ∷ files) before after first last ending
+later_fails file files before between after middle first second last ending table differ taken keeps counts h =
     inr (
       table_value_of table,
       passed_taken (table_input file) (before file) middle (table_value_of table) taken,
-      all_fail_later file files before between first second last ending (none_later file files differ) keeps counts h,
+      all_fail_later file files before between after first second last ending (none_later file files differ) keeps counts h,
     )
 
 -- what keeps to the others of the first keeps to those that are none of all
@@ -108,12 +127,17 @@ passed_more before [] (v ∷ values) input value h p = absurd h
 passed_more before (first ∷ front) [] input value h p = absurd h
 passed_more before (first ∷ front) (v ∷ values) input value h p = (h.0, passed_more before front values input value h.1 p)
 
+-- tables that stay are inputs that do
+pub stay_kept : (before after : Outside) (files : List (List ℕ)) → StayAt files before.remaining after.remaining → AreKept before after (map table_input files)
+stay_kept before after [] h = tt
+stay_kept before after (file ∷ files) h = (h.0, stay_kept before after files h.1)
+
 -- the command ends in the turn of a table
 pub among_ends : (command : Command) (before after : Outside) (front : List Input) (values : List Value) (files : List (List ℕ)) (ending : Ending) → inputs command ≡ front ++ map table_input files → Passed before front values →
-    ((name : List ℕ) → StandsStill command before after name) → FailsAmong files before.remaining before.read_faults after.read_faults ending → Ends command before after ending
+    ((name : List ℕ) → StandsStill command before after name) → FailsAmong files before.remaining after.remaining before.read_faults after.read_faults ending → Ends command before after ending
 among_ends command before after front values [] ending are passed still h = absurd h
 among_ends command before after front values (file ∷ files) ending are passed still (inl h) =
-    turn_ends command before after front values (table_input file) (map table_input files) ending (record { inputs_are = are; passed = passed }) (still file) h
+    turn_ends command before after front values (table_input file) (map table_input files) ending (record { inputs_are = are; passed = passed; kept = stay_kept before after files h.1 }) (still file) h.0
 among_ends command before after front values (file ∷ files) ending are passed still (inr h) =
     among_ends command before after (front ++ table_input file ∷ []) (values ++ h.0 ∷ []) files ending (are ∙ sym (append_assoc front (table_input file ∷ []) (map table_input files)))
     (passed_more before front values (table_input file) h.0 passed h.1) still h.2

@@ -13,7 +13,7 @@ use Rattle.ternary_words.specs.declared.table.Table as code_table
 use Rattle.trace_run.specs.Answers as runs
 use Rattle.trace_run.specs.Outcome as run_outcomes
 use Rattle.trace_run.specs.Outcome.{GoesOn, IsCut, IsWhole}
-use Rattle.trace_run.specs.Progress.{OnWriteFault}
+use Rattle.trace_run.specs.Progress.{OnWriteFault, UnlessWriteFault}
 use Rattle.trace_run.specs.Trace as traces
 use Rattle.trace_run.specs.Trace.{trace_of, trace_within, whole_lines}
 use Rattle.trace_run.specs.declared.error.TraceError.{TraceError}
@@ -24,7 +24,7 @@ use Rattle.trace_run.specs.declared.reason.TraceReason.{TraceReason}
 use Rattle.razor_core.specs.declared.line_reason.LineReason.{LineReason}
 use Rattle.razor_core.specs.declared.line_reason.LineReason.TheVariants.{OfTrace}
 use Rattle.razor_core.specs.Command.{Trace}
-use Rattle.razor_core.specs.Inputs.{BadLine, Value, inputs, table_input, table_value, trace_input, lines_value}
+use Rattle.razor_core.specs.Inputs.{BadLine, Input, Value, inputs, most_bytes, table_input, table_value, text_of_trace, trace_input, lines_value}
 use Rattle.razor_core.specs.Outcome.{Outcome}
 use Rattle.razor_core.specs.Outside.{Outside, Tells, bytes_at}
 use Rattle.razor_core.specs.Runs.{IsEndOfRun}
@@ -32,9 +32,10 @@ use Rattle.razor_core.specs.Standing.{AnswersCut, IsCutOff, Stands, WroteFor}
 use Rattle.razor_core.specs.Taking.{TakesTurn}
 use Rattle.razor_core.specs.Traced.{answer_line, answers_text, bad_line_of, taken_of}
 use Rattle.razor_core.specs.Turns.{Stop, StopsLater, bad_line, too_long, too_many, turn, turns_of}
+use Rattle.razor_core.specs.Deciding.{EndsInTurn, IsFaultUnder, IsReadFault}
 use Rattle.razor_core.specs.Ending.{Ends, IsDone, Stops}
 use Rattle.razor_core.proofs.Ended.{done_ends, passed_or_stopped, same_values}
-use Rattle.razor_core.proofs.Turns.{Passed, PassesWith, kept_told, passed_taken, read_fails, read_taken, rose_later, some_bytes, told_turn, turns_pass}
+use Rattle.razor_core.proofs.Turns.{Passed, PassesWith, ends_in_turn, fault_later, kept_told, passed_taken, read_taken, some_bytes, told_turn, turns_pass}
 
 abbrev pub most : ℕ
 most = 67108864
@@ -49,6 +50,7 @@ pub record Ran (table trace : List ℕ) (before after : Outside) (entries : Tabl
   pub outcome : run_outcomes.Outcome (Appends before.written after.written) (AppendsFront before.written after.written) answers most middle (after.remaining trace) ended
   pub read_fault : IsErrOf ended errors.ReadFault → Rose faults (after.read_faults trace)
   pub write_fault : OnWriteFault ended (Rose before.write_faults after.write_faults)
+  pub calm : UnlessWriteFault ended (after.write_faults ≡ before.write_faults)
 
 -- a bank into which the table was loaded answers as the table
 headers_answered : (names : List (List ℕ)) (entries : List Entry) (slots : List (Option Stored)) → ((header : List ℕ) → runs.answer_in names slots header ≡ answer (map (entry_of names) entries) header) → (table : Table) →
@@ -131,6 +133,16 @@ module _ (table trace : List ℕ) (before after : Outside) (entries : Table) (an
       (subst (Appends before.written after.written) same (appended (Ok count) ran (trace_of text).headers h.1))
       (read_taken (table_input table) (before.remaining table) (after.remaining table) (table_value entries) ran.taken tells.0, (h.0.read, tt)) tells
 
+  -- the table's turn passed, and nothing stands behind the trace
+  in_trace : (ended : Result ℕ TraceError) → IsRan ended → (Ended : Input → Type 0) → Ended (trace_input trace) → EndsInTurn before after Ended (inputs (Trace table trace))
+  in_trace ended ran Ended h =
+      ends_in_turn before after Ended (table_input table ∷ []) (table_value entries ∷ []) (trace_input trace) [] (passed_taken (table_input table) (before.remaining table) (after.remaining table) (table_value entries) ran.taken, tt) h tt
+
+  fault : IsRan (Err errors.ReadFault) → IsReadFault text_of_trace (before.remaining trace) (after.remaining trace) (before.read_faults trace) (after.read_faults trace)
+  fault ran =
+      fault_later text_of_trace (before.remaining trace) middle (after.remaining trace) (before.read_faults trace) faults (after.read_faults trace) ran.kept ran.counts
+      (record { rose = ran.read_fault refl; seen = ran.outcome.0; read = ran.outcome.1.read; within = ran.outcome.1.within })
+
   -- what stands where something ends the command later: the answers to all that was taken
   stands : (ended : Result ℕ TraceError) → IsRan ended → Tells before (Trace table trace) → Appends before.written after.written (answers (taken_of text).headers) → Stands (Trace table trace) before after
   stands ended ran tells written = record {
@@ -153,6 +165,7 @@ module _ (table trace : List ℕ) (before after : Outside) (entries : Table) (an
       let at = bad_at line reason ran in
       record {
         unchanged = λ last. absurd last;
+        named = in_trace ended ran (λ input. file ≡ input.name) named;
         stopped = λ tells. inr (record { values = values; turns = pass_all ended ran tells; later = (named, some_bad (taken_of text).bad (record { line = line; reason = reason }) (at tells).0) });
         stands = λ tells. stands ended ran tells (at tells).1;
       }
@@ -163,6 +176,7 @@ module _ (table trace : List ℕ) (before after : Outside) (entries : Table) (an
       let at = long_at ran in
       record {
         unchanged = λ last. absurd last;
+        named = in_trace ended ran (λ input. (file ≡ input.name) × (limit ≡ most_bytes input.kind)) (named, limited);
         stopped = λ tells. inr (record { values = values; turns = pass_all ended ran tells; later = (named, limited, subst (λ (n : ℕ). GoesOn n text) (sym limited) (at tells).0) });
         stands = λ tells. stands ended ran tells (at tells).1;
       }
@@ -201,7 +215,7 @@ module _ (table trace : List ℕ) (before after : Outside) (entries : Table) (an
   front_of ended ran tells h = at_text (λ all. AppendsFront before.written after.written (answers (trace_within most all).headers)) ended ran tells h
 
   pub run_ends : (ended : Result ℕ TraceError) (ending : Ending) → IsRan ended → IsEndOfRun trace ended ending → Ends (Trace table trace) before after ending
-  run_ends (Ok count) ending ran is = subst (Ends (Trace table trace) before after) (sym is) (done count ran)
+  run_ends (Ok count) ending ran is = subst (Ends (Trace table trace) before after) (sym is) (refl, done count ran)
   run_ends (Err (errors.BadLine line reason)) (Bad file at why) ran is =
       subst (λ (n : ℕ). Stops (Trace table trace) before after (bad_line file.now (record { line = n; reason = why }))) (sym is.1)
       (subst (λ (w : LineReason). Stops (Trace table trace) before after (bad_line file.now (record { line = line; reason = w }))) (sym is.2) (bad_ends file.now line reason ran is.0))
@@ -209,11 +223,9 @@ module _ (table trace : List ℕ) (before after : Outside) (entries : Table) (an
   run_ends (Err errors.TooLong) (TooLong file limit) ran is = long_ends file.now limit ran is.0 is.1
   run_ends (Err errors.TooLong) ending ran is = absurd is
   run_ends (Err errors.ReadFault) (ReadFault file) ran is = (
-    read_fails before after file.now (table_input table ∷ []) (table_value entries ∷ []) (trace_input trace) []
-        (passed_taken (table_input table) (before.remaining table) (after.remaining table) (table_value entries) ran.taken, tt) is
-        (rose_later (before.read_faults trace) faults (after.read_faults trace) ran.counts (ran.read_fault refl)),
+    in_trace (Err errors.ReadFault) ran (IsFaultUnder before after file.now) (is, fault ran),
     cut file.now ran is,
   )
   run_ends (Err errors.ReadFault) ending ran is = absurd is
   run_ends (Err errors.WriteFault) ending ran is = subst (Ends (Trace table trace) before after) (sym is) (ran.write_fault, (λ tells. cut_off (Err errors.WriteFault) ran tells (front_of (Err errors.WriteFault) ran tells ran.outcome)))
-  run_ends (Err errors.Memory) ending ran is = subst (Ends (Trace table trace) before after) (sym is) (λ tells. inr (cut_off (Err errors.Memory) ran tells (front_of (Err errors.Memory) ran tells ran.outcome)))
+  run_ends (Err errors.Memory) ending ran is = subst (Ends (Trace table trace) before after) (sym is) (ran.calm, λ tells. inr (cut_off (Err errors.Memory) ran tells (front_of (Err errors.Memory) ran tells ran.outcome)))

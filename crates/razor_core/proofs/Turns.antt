@@ -2,13 +2,13 @@
 use Rattle.std.proofs.Common.{◌≡◌, ℕ, ◌≤◌, List, [], ◌∷◌, ◌++◌, Some, None, ap, arith, inl, inr, refl, subst, sym, ◌∙◌}
 use Rattle.std.specs.Prelude.{Option, IfSome, IsSome, Ok, Err, Result, unwrap_or}
 use Rattle.std.specs.List.{AllByRecursion}
-use Rattle.std.specs.Io.KnownBytes.{Keeps}
+use Rattle.std.specs.Io.KnownBytes.{Consumes, Keeps}
 use Rattle.razor_base.specs.Faults.{Rose}
-use Rattle.razor_core.specs.Inputs.{Input, Value}
-use Rattle.razor_core.specs.Outside.{Outside}
+use Rattle.razor_core.specs.Inputs.{Input, Kind, Value}
+use Rattle.razor_core.specs.Outside.{Outside, AreKept}
 use Rattle.razor_core.specs.Taking.{TakesTurn}
 use Rattle.razor_core.specs.Turns.{Stop, before_others, turn, turns_of}
-use Rattle.razor_core.specs.Ending.{FailsToRead}
+use Rattle.razor_core.specs.Deciding.{EndsInTurn, IsReadFault}
 
 -- the desk tells the bytes of each of these inputs
 abbrev pub AllTold : Outside → List Input → Type 0
@@ -67,12 +67,13 @@ passes_turn before input value None h text e = absurd cc
 passes_turn before input value (Some bytes) h text e = (value, subst (λ (t : List ℕ). turn input t ≡ Ok value) (ap (λ (o : Option (List ℕ)). unwrap_or o bytes) e) h)
 
 -- a read under its name failed
-pub read_fails : (before after : Outside) (file : List ℕ) (front : List Input) (values : List Value) (input : Input) (others : List Input) → Passed before front values → file ≡ input.name →
-    Rose (before.read_faults input.name) (after.read_faults input.name) → FailsToRead before after file (front ++ input ∷ others)
-read_fails before after file [] values input others passed same rose = inl (same, subst (λ (name : List ℕ). Rose (before.read_faults name) (after.read_faults name)) (sym same) rose)
-read_fails before after file (first ∷ front) [] input others passed same rose = absurd passed
-read_fails before after file (first ∷ front) (value ∷ values) input others passed same rose =
-    inr (passes_turn before first value (before.remaining first.name) passed.0, read_fails before after file front values input others passed.1 same rose)
+-- after turns that pass an input ended so, and those behind it are as they were
+pub ends_in_turn : (before after : Outside) (Ended : Input → Type 0) (front : List Input) (values : List Value) (input : Input) (others : List Input) → Passed before front values → Ended input → AreKept before after others →
+    EndsInTurn before after Ended (front ++ input ∷ others)
+ends_in_turn before after Ended [] values input others passed ended kept = inl (ended, kept)
+ends_in_turn before after Ended (first ∷ front) [] input others passed ended kept = absurd passed
+ends_in_turn before after Ended (first ∷ front) (value ∷ values) input others passed ended kept =
+    inr (passes_turn before first value (before.remaining first.name) passed.0, ends_in_turn before after Ended front values input others passed.1 ended kept)
 
 -- what was taken passed
 pub passed_taken : (input : Input) (before after : Option (List ℕ)) (value : Value) → TakesTurn input before after value → PassesWith input before value
@@ -122,3 +123,15 @@ keeps_trans (Some x) (Some y) (Some z) p q = q ∙ p
 pub rose_later : (a b c : ℕ) → a ≤ b → Rose b c → Rose a c
 rose_later a b c le (inl less) = inl (omega arith)
 rose_later a b c le (inr last) = inr last
+
+-- bytes that are read later are those that stood before
+pub consumed_later : (before between after : Option (List ℕ)) (seen : List ℕ) → Keeps before between → Consumes between after seen → Consumes before after seen
+consumed_later None between after seen keeps read = tt
+consumed_later (Some text) None after seen keeps read = absurd keeps
+consumed_later (Some text) (Some other) None seen keeps read = absurd read
+consumed_later (Some text) (Some other) (Some left) seen keeps read = sym keeps ∙ read
+
+-- and a read of them that failed is one of those
+pub fault_later : (kind : Kind) (before between after : Option (List ℕ)) (first second last : ℕ) → Keeps before between → first ≤ second → IsReadFault kind between after second last → IsReadFault kind before after first last
+fault_later kind before between after first second last keeps le h =
+    record { rose = rose_later first second last le h.rose; seen = h.seen; read = consumed_later before between after h.seen keeps h.read; within = h.within }

@@ -26,5 +26,5 @@ IsEndOfCert list table name before after old new No = ArePrefixes table.entries.
 IsEndOfCert list table name before after old new (Bad file line reason) =
     (file.now ≡ name) × (reason ≡ NotPrefix) × Keeps before after × (place : ℕ) × IsFirstOther table.entries.items place × (line ≡ place + 2)
 IsEndOfCert list table name before after old new WriteFault = Rose old new × ArePrefixes table.entries.items × (IsCut list table before after ⊎ SaysDifference list table (AppendsFront before after))
-IsEndOfCert list table name before after old new Memory = Keeps before after ⊎ (ArePrefixes table.entries.items × IsCut list table before after)
+IsEndOfCert list table name before after old new Memory = (new ≡ old) × (Keeps before after ⊎ (ArePrefixes table.entries.items × IsCut list table before after))
 IsEndOfCert list table name before after old new ending = ⊥

@@ -1,5 +1,5 @@
 -- What checking a certificate of a list and a table comes to, and how it is written.
-use Rattle.std.specs.Prelude.{◌≡◌, ℕ, ◌≤◌, List, [], ◌∷◌, ◌++◌, length, codes}
+use Rattle.std.specs.Prelude.{◌≡◌, ℕ, ◌≤◌, List, [], ◌∷◌, ◌++◌, length, codes, Option}
 use Rattle.std.specs.Fmt.{decimal}
 use Rattle.field_boxes.specs.Classifier.{source}
 use Rattle.field_boxes.specs.Fields.{stated, IsHeader}
@@ -14,7 +14,7 @@ use Rattle.partition_check.specs.declared.row.Why.{Why}
 use Rattle.partition_check.specs.declared.row.Why.TheVariants.{Form, NotNext, RuleClaim, EntryClaim, Decisions, EndsEarly, Count}
 use Rattle.partition_check.specs.declared.row.Wrong.{Wrong}
 use Rattle.partition_check.specs.Checking.{Checking, begun}
-use Rattle.partition_check.specs.Streams.{ReadsTooMuch}
+use Rattle.partition_check.specs.Streams.{ReadsTooMuch, ReadsUpTo}
 use Rattle.partition_check.specs.Verdict.{IsValid}
 use Rattle.razor_core.specs.Inputs.{most_bytes, text_of_certificate}
 
@@ -46,6 +46,11 @@ pub record Validates (rules : FilterList) (entries : Table) (text : List ℕ) (r
 pub record GoesOnRight (rules : FilterList) (entries : Table) (text : List ℕ) : Type 0 where
   pub checks : Checks rules entries
   pub goes_on : ReadsTooMuch (checking_of checks) (most_bytes text_of_certificate) text
+
+-- what was read of the certificate is within the limit, and no line that ends in it is wrong
+pub record GoesRight (rules : FilterList) (entries : Table) (text : List ℕ) (left : Option (List ℕ)) : Type 0 where
+  pub checks : Checks rules entries
+  pub up_to : ReadsUpTo (checking_of checks) (most_bytes text_of_certificate) text left
 
 abbrev pub valid_line : ℕ → List ℕ
 valid_line rows = codes "valid rows=" ++ (decimal rows ++ line_end)

@@ -7,7 +7,7 @@ use Rattle.filter_reader.specs.declared.list.RuleList.{RuleList}
 use Rattle.ternary_words.specs.declared.table.Table.{Table}
 use Rattle.partition_check.specs.Agreement.{Agree}
 use Rattle.partition_check.specs.Checking.{begun}
-use Rattle.partition_check.specs.Streams.{ReadsTooMuch, ReadsValid, ReadsWrong}
+use Rattle.partition_check.specs.Streams.{ReadsTooMuch, ReadsUpTo, ReadsValid, ReadsWrong}
 use Rattle.partition_check.specs.declared.row.Wrong.{Wrong}
 use Rattle.razor_core.specs.declared.ending.Ending.{Ending}
 use Rattle.razor_core.specs.declared.ending.Ending.TheVariants.{Done, No, TooLong, ReadFault, WriteFault}
@@ -32,7 +32,9 @@ IsEndOfCheck list table name before after (Done summary) = (summary ≡ Nothing)
 IsEndOfCheck list table name before after No = SaysWrong list table (before.remaining name) (Appends before.written after.written)
 IsEndOfCheck list table name before after (TooLong file limit) =
     (file.now ≡ name) × (limit ≡ most_bytes text_of_certificate) × Keeps before.written after.written × IfSome (before.remaining name) (λ text. ReadsTooMuch (begun list table) (most_bytes text_of_certificate) text)
-IsEndOfCheck list table name before after (ReadFault file) = (file.now ≡ name) × Keeps before.written after.written × Rose (before.read_faults name) (after.read_faults name)
+IsEndOfCheck list table name before after (ReadFault file) =
+    (file.now ≡ name) × Keeps before.written after.written × Rose (before.read_faults name) (after.read_faults name)
+    × IfSome (before.remaining name) (λ text. ReadsUpTo (begun list table) (most_bytes text_of_certificate) text (after.remaining name))
 IsEndOfCheck list table name before after WriteFault =
     Rose before.write_faults after.write_faults
     × (SaysValid list table (before.remaining name) (after.remaining name) (AppendsFront before.written after.written) ⊎ SaysWrong list table (before.remaining name) (AppendsFront before.written after.written))

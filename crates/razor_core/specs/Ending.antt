@@ -8,11 +8,12 @@ use Rattle.razor_core.specs.declared.ending.Summary.{Summary}
 use Rattle.razor_core.specs.declared.ending.Summary.TheVariants.{Nothing, Rules}
 use Rattle.razor_core.specs.declared.making.CompileError.{CompileError}
 use Rattle.razor_core.specs.declared.making.CompileError.TheVariants as errors
-use Rattle.razor_core.specs.Command.{Command}
-use Rattle.razor_core.specs.Inputs.{Input, Value, inputs, read_by}
+use Rattle.razor_core.specs.Command.{Command, Make}
+use Rattle.razor_core.specs.Inputs.{Value, read_by}
 use Rattle.razor_core.specs.Outside.{Outside, Tells, AreReadThrough}
 use Rattle.razor_core.specs.Standing.{IsCutOff, Stands, StandsCut, StandsShort, WritesNothing}
-use Rattle.razor_core.specs.Turns.{Stop, Pass, IsStopped, bad_line, too_long, too_many, stop_status, turn}
+use Rattle.razor_core.specs.Turns.{Stop, Pass, IsStopped, bad_line, too_long, too_many, stop_status}
+use Rattle.razor_core.specs.Deciding.{FailsToRead, IsStopOf}
 use Rattle.razor_core.specs.Outcome.{Outcome, Gives}
 use Rattle.razor_core.specs.Messages.{rules_line, bad_line_line, too_long_line, too_many_line, read_fault_line, write_fault_line, memory_line}
 
@@ -26,16 +27,6 @@ pub record IsDone (command : Command) (before after : Outside) (answer : Bool) (
   pub lined : outcome.line ≡ line
   pub written : Appends before.written after.written outcome.text
   pub read : AreReadThrough after (read_by command answer)
-
--- the turn of the input passes, where the desk tells its bytes
-abbrev pub PassesTurn : Outside → Input → Type 0
-PassesTurn before input = (text : List ℕ) → before.remaining input.name ≡ Some text → (value : Value) × (turn input text ≡ Ok value)
-
--- the file is the first of these inputs, or one after inputs whose turns pass, and its count of faults rose
-abbrev pub FailsToRead : Outside → Outside → List ℕ → List Input → Type 0
-FailsToRead before after file [] = ⊥
-FailsToRead before after file (input ∷ others) =
-    ((file ≡ input.name) × Rose (before.read_faults file) (after.read_faults file)) ⊎ (PassesTurn before input × FailsToRead before after file others)
 
 abbrev pub status_of : Ending → ℕ
 status_of (Done summary) = 0
@@ -62,22 +53,28 @@ ending_line (ReadFault file) = read_fault_line file.now
 ending_line WriteFault = write_fault_line
 ending_line Memory = memory_line
 
--- where the desk tells, the command is ended by this, and what stands then
+-- the line of a command that is done: how many rules its list has and how many are flagged, if it makes a table of one
+abbrev pub IsDoneLine : Command → List ℕ → Type 0
+IsDoneLine (Make method sizes file) line = (rules : ℕ) × (flagged : ℕ) × (line ≡ rules_line rules flagged)
+IsDoneLine command line = line ≡ []
+
+-- the command is ended by this, and what stands then
 pub record Stops (command : Command) (before after : Outside) (stop : Stop) : Type 0 where
   pub unchanged : WritesNothing (Some command) (stop_status stop) → Keeps before.written after.written
+  pub named : IsStopOf command before after stop
   pub stopped : Tells before command → IsStopped command before stop
   pub stands : Tells before command → Stands command before after
 
 -- what stands when a command ends so
 abbrev pub Ends : Command → Outside → Outside → Ending → Type 0
-Ends command before after (Done summary) = Tells before command → IsDone command before after true (summary_text summary)
+Ends command before after (Done summary) = IsDoneLine command (summary_text summary) × (Tells before command → IsDone command before after true (summary_text summary))
 Ends command before after No = Tells before command → IsDone command before after false []
 Ends command before after (Bad file line reason) = Stops command before after (bad_line file.now (record { line = line; reason = reason }))
 Ends command before after (TooLong file limit) = Stops command before after (too_long file.now limit)
 Ends command before after (TooMany needed limit) = Stops command before after (too_many needed limit)
-Ends command before after (ReadFault file) = FailsToRead before after file.now (inputs command) × StandsCut command before after file.now
+Ends command before after (ReadFault file) = FailsToRead command before after file.now × StandsCut command before after file.now
 Ends command before after WriteFault = Rose before.write_faults after.write_faults × (Tells before command → IsCutOff command before after)
-Ends command before after Memory = StandsShort command before after
+Ends command before after Memory = (after.write_faults ≡ before.write_faults) × StandsShort command before after
 
 -- the ending of a command whose table wasn't made for this reason
 abbrev pub IsEndingOf : CompileError → Ending → Type 0

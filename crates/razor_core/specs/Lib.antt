@@ -6,6 +6,7 @@ pub mod Written
 pub mod SelfRuns
 pub mod Outside
 pub mod Turns
+pub mod Deciding
 pub mod Taking
 pub mod Making
 pub mod Tables

@@ -1,5 +1,5 @@
 -- What each command defines for what its inputs come to.
-use Rattle.std.specs.Prelude.{◌≡◌, ◌⊎◌, ℕ, Bool, true, false, List, [], ◌∷◌, length, map}
+use Rattle.std.specs.Prelude.{◌≡◌, ◌⊎◌, ℕ, Bool, true, false, List, [], ◌∷◌, length, map, Ok}
 use Rattle.std.specs.List.{concat}
 use Rattle.ternary_words.specs.Table.{Table, answer}
 use Rattle.ternary_words.specs.Views.{table_of}
@@ -8,6 +8,7 @@ use Rattle.bank_update.specs.Machine.{unsettled}
 use Rattle.bank_update.specs.Runs.{session}
 use Rattle.bank_update.specs.Script.{Event}
 use Rattle.ternary_words.specs.TableText.{table_text}
+use Rattle.table_text.specs.Reading.{table_in_text}
 use Rattle.razor_core.specs.Command.{Command, Make, Equiv, Cert, Check, Trace, Drive, Gen, Selfrun, Migrate}
 use Rattle.razor_core.specs.Inputs.{Value, list_value, table_value, script_value, lines_value, most_bytes, text_of_certificate}
 use Rattle.field_boxes.specs.Classifier.{Rule, source}
@@ -31,12 +32,17 @@ pub record Outcome : Type 0 where
   pub text : List ℕ
   pub line : List ℕ
 
+-- the text of this table, which spells it: whoever reads it gets this table
+pub record IsTextOf (table : Table) (text : List ℕ) : Type 0 where
+  pub written : text ≡ table_text table
+  pub spells : table_in_text text ≡ Ok table
+
 -- the text of a table that meets this, and the line on the rules of its list
 pub record IsTableOf (list : FilterList) (Meets : Table → Type 0) (outcome : Outcome) : Type 0 where
   pub table : Table
   pub meets : Meets table
   pub yes : outcome.yes ≡ true
-  pub text : outcome.text ≡ table_text table
+  pub text : IsTextOf table outcome.text
   pub line : outcome.line ≡ rules_line (length list.rules) list.flagged
 
 -- all headers get one decision of both lists, or else this is the least that doesn't, with both decisions
@@ -80,5 +86,5 @@ Gives (Trace table trace) (table_value entries ∷ lines_value text ∷ values) 
 Gives (Drive slots script tables) (script_value events ∷ values) outcome = Drives slots events values outcome
 Gives (Gen seed rules) values outcome = outcome ≡ record { yes = true; text = list_text (generated seed rules).rules; line = [] }
 Gives (Selfrun seed rules) values outcome = Summarises seed rules outcome.text × (outcome.yes ≡ true) × (outcome.line ≡ [])
-Gives (Migrate file) (table_value table ∷ values) outcome = outcome ≡ record { yes = true; text = table_text table; line = [] }
+Gives (Migrate file) (table_value table ∷ values) outcome = IsTextOf table outcome.text × (outcome.yes ≡ true) × (outcome.line ≡ [])
 Gives command values outcome = ⊥

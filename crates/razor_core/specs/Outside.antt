@@ -1,5 +1,6 @@
 -- What a call sees of the desk and of the output.
 use Rattle.std.specs.Prelude.{◌≡◌, ◌≢◌, ℕ, List, [], Option, Some, None, IsSome, unwrap_or}
+use Rattle.std.specs.Io.KnownBytes.{Keeps}
 use Rattle.std.specs.List.{AllByRecursion}
 use Rattle.razor_core.specs.Command.{Command}
 use Rattle.razor_core.specs.Inputs.{Input, inputs}
@@ -22,6 +23,10 @@ Tells outside command = AllByRecursion (λ input. IsSome (outside.remaining inpu
 -- each of these inputs was read to its end
 abbrev pub AreReadThrough : Outside → List Input → Type 0
 AreReadThrough outside some = AllByRecursion (λ input. outside.remaining input.name ≡ Some []) some
+
+-- each of these inputs is as it was
+abbrev pub AreKept : Outside → Outside → List Input → Type 0
+AreKept before after some = AllByRecursion (λ input. Keeps (before.remaining input.name) (after.remaining input.name)) some
 
 -- the name is that of no input
 abbrev pub IsNoInput : Option Command → List ℕ → Type 0

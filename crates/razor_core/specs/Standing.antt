@@ -2,12 +2,14 @@
 use Rattle.std.specs.Prelude.{◌≡◌, ◌≢◌, ℕ, ◌⊎◌, List, Option, Some, Ok, Err}
 use Rattle.std.specs.Io.KnownBytes.{Appends, Keeps}
 use Rattle.razor_base.specs.Output.{AppendsFront}
+use Rattle.filter_reader.specs.FilterList.{FilterList}
 use Rattle.ternary_words.specs.Table.{Table}
 use Rattle.trace_run.specs.Outcome.{IsCut}
-use Rattle.razor_core.specs.Command.{Command, Cert, Trace, Drive}
-use Rattle.razor_core.specs.Inputs.{Value, table_input, table_value, inputs, most_bytes, text_of_trace}
+use Rattle.razor_core.specs.Command.{Command, Cert, Check, Trace, Drive}
+use Rattle.razor_core.specs.Inputs.{Value, list_input, list_value, table_input, table_value, inputs, most_bytes, text_of_trace}
 use Rattle.razor_core.specs.Outside.{Outside, Tells, bytes_at}
 use Rattle.razor_core.specs.Outcome.{Outcome, Gives}
+use Rattle.razor_core.specs.Certified.{GoesRight}
 use Rattle.razor_core.specs.Traced.{answers_text, taken_before}
 use Rattle.razor_core.specs.Turns.{Stop, IsFree, turn, turns_of}
 
@@ -50,9 +52,16 @@ pub record AnswersCut (table trace file : List ℕ) (before after : Outside) : T
       (seen : List ℕ) × IsCut (most_bytes text_of_trace) (before.remaining trace) (after.remaining trace) seen
       × Appends before.written after.written (answers_text entries (taken_before seen).headers)
 
--- what was written where a read under the file word failed
+-- no line of the certificate is wrong that ends in what was read of it, where list and table passed
+abbrev pub IsRightSoFar : List ℕ → List ℕ → List ℕ → Outside → Outside → Type 0
+IsRightSoFar list table certificate before after = (rules : FilterList) (entries : Table) →
+    turn (list_input list) (bytes_at before list) ≡ Ok (list_value rules) → turn (table_input table) (bytes_at before table) ≡ Ok (table_value entries) →
+    GoesRight rules entries (bytes_at before certificate) (after.remaining certificate)
+
+-- what was written where a read under the file word failed, and that no line had ended the command before
 abbrev pub StandsCut : Command → Outside → Outside → List ℕ → Type 0
 StandsCut (Trace table trace) before after file = Tells before (Trace table trace) → AnswersCut table trace file before after
+StandsCut (Check list table certificate) before after file = Keeps before.written after.written × (Tells before (Check list table certificate) → file ≡ certificate → IsRightSoFar list table certificate before after)
 StandsCut command before after file = Keeps before.written after.written
 
 -- what was written where memory was refused

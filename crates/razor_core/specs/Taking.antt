@@ -1,6 +1,5 @@
 -- What taking the turn of one input comes to.
 use Rattle.std.specs.Prelude.{◌≡◌, ℕ, List, [], Option, Some, IfSome, Ok, Err}
-use Rattle.razor_base.specs.Faults.{Rose}
 use Rattle.razor_base.specs.declared.read.ReadError.{ReadError}
 use Rattle.razor_base.specs.declared.read.ReadError.TheVariants as reads
 use Rattle.razor_core.specs.declared.ending.Ending.{Ending}
@@ -16,8 +15,9 @@ use Rattle.table_text.specs.declared.error.TableError.TheVariants as table_error
 use Rattle.bank_update.specs.declared.read.ScriptError.{ScriptError}
 use Rattle.bank_update.specs.declared.read.ScriptError.TheVariants as script_errors
 use Rattle.razor_core.specs.declared.line_reason.LineReason.TheVariants.{OfList, OfScript, OfTable}
-use Rattle.razor_core.specs.Inputs.{Input, Value, list_value, table_value}
+use Rattle.razor_core.specs.Inputs.{Input, Value, list_value, most_bytes, table_value}
 use Rattle.razor_core.specs.Turns.{turn, bad_line, too_long}
+use Rattle.razor_core.specs.Deciding.{IsReadFault}
 
 -- the value of a list of the code
 abbrev pub value_of : RuleList → Value
@@ -32,15 +32,15 @@ abbrev pub TakesTurn : Input → Option (List ℕ) → Option (List ℕ) → Val
 TakesTurn input before after value = IfSome before (λ text. (turn input text ≡ Ok value) × (after ≡ Some []))
 
 -- the turn was ended so
-abbrev pub EndsTurn : Input → Option (List ℕ) → ℕ → ℕ → Ending → Type 0
-EndsTurn input before faults_before faults_after (Done summary) = ⊥
-EndsTurn input before faults_before faults_after No = ⊥
-EndsTurn input before faults_before faults_after (Bad file line reason) = IfSome before (λ text. turn input text ≡ Err (bad_line file.now (record { line = line; reason = reason })))
-EndsTurn input before faults_before faults_after (TooLong file limit) = IfSome before (λ text. turn input text ≡ Err (too_long file.now limit))
-EndsTurn input before faults_before faults_after (TooMany needed limit) = ⊥
-EndsTurn input before faults_before faults_after (ReadFault file) = (file.now ≡ input.name) × Rose faults_before faults_after
-EndsTurn input before faults_before faults_after WriteFault = ⊥
-EndsTurn input before faults_before faults_after Memory = Unit {0}
+abbrev pub EndsTurn : Input → Option (List ℕ) → Option (List ℕ) → ℕ → ℕ → Ending → Type 0
+EndsTurn input before after faults_before faults_after (Done summary) = ⊥
+EndsTurn input before after faults_before faults_after No = ⊥
+EndsTurn input before after faults_before faults_after (Bad file line reason) = (file.now ≡ input.name) × IfSome before (λ text. turn input text ≡ Err (bad_line file.now (record { line = line; reason = reason })))
+EndsTurn input before after faults_before faults_after (TooLong file limit) = (file.now ≡ input.name) × (limit ≡ most_bytes input.kind) × IfSome before (λ text. turn input text ≡ Err (too_long file.now limit))
+EndsTurn input before after faults_before faults_after (TooMany needed limit) = ⊥
+EndsTurn input before after faults_before faults_after (ReadFault file) = (file.now ≡ input.name) × IsReadFault input.kind before after faults_before faults_after
+EndsTurn input before after faults_before faults_after WriteFault = ⊥
+EndsTurn input before after faults_before faults_after Memory = Unit {0}
 
 -- the ending of a command whose list was refused with this error
 abbrev pub IsRefusalOf : List ℕ → ListError → Ending → Type 0

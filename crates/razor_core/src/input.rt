@@ -1,9 +1,11 @@
-ghost use Rattle.std.specs.Prelude.{◌≡◌, ◌≢◌, ◌≤◌, ℕ, List, All, IfOk, MatchResult};
+//! Taking the turn of an input that is read whole.
+ghost use Rattle.std.specs.Prelude.{◌≡◌, ◌≢◌, ◌≤◌, ℕ, List, All, IfOk, IsTrue, MatchResult};
 ghost use Rattle.std.specs.Io.KnownBytes.{Keeps};
 ghost use Rattle.razor_core.specs.Inputs.{list_input, script_input, table_input};
 ghost use Rattle.razor_core.specs.Taking.{TakesTurn, EndsTurn, IsRefusalOf, IsScriptRefusalOf, IsTableRefusalOf, IsFaultOf, table_value_of, value_of};
 ghost use Rattle.razor_core.specs.Inputs.{script_value};
 ghost use Rattle.bank_update.specs.Script.{IsWithin};
+ghost use Rattle.table_text.specs.Names.{is_name};
 
 use crate::ending::Ending;
 use crate::line_reason::LineReason;
@@ -84,7 +86,8 @@ pub fn take_list<'a, D: Desk>(
 ) -> Result<RuleList, Ending<'a>>
     ensures turn { MatchResult result
         (λ list. TakesTurn (list_input file.now) (D.remaining desk.old file.now) (D.remaining desk.new file.now) (value_of list))
-        (λ ending. EndsTurn (list_input file.now) (D.remaining desk.old file.now) (D.faults desk.old file.now) (D.faults desk.new file.now) ending) }
+        (λ ending. EndsTurn (list_input file.now) (D.remaining desk.old file.now) (D.remaining desk.new file.now) (D.faults desk.old file.now) (D.faults desk.new file.now) ending) }
+    ensures names { IfOk result (λ list. All (λ name. IsTrue (is_name name)) list.names) }
     ensures counts { (other : List ℕ) → D.faults desk.old other ≤ D.faults desk.new other }
     ensures others { (other : List ℕ) → other ≢ file.now → Keeps (D.remaining desk.old other) (D.remaining desk.new other) }
 {
@@ -106,7 +109,8 @@ pub fn take_table<'a, D: Desk>(
 ) -> Result<Table, Ending<'a>>
     ensures turn { MatchResult result
         (λ table. TakesTurn (table_input file.now) (D.remaining desk.old file.now) (D.remaining desk.new file.now) (table_value_of table))
-        (λ ending. EndsTurn (table_input file.now) (D.remaining desk.old file.now) (D.faults desk.old file.now) (D.faults desk.new file.now) ending) }
+        (λ ending. EndsTurn (table_input file.now) (D.remaining desk.old file.now) (D.remaining desk.new file.now) (D.faults desk.old file.now) (D.faults desk.new file.now) ending) }
+    ensures names { IfOk result (λ table. All (λ name. IsTrue (is_name name)) table.names) }
     ensures counts { (other : List ℕ) → D.faults desk.old other ≤ D.faults desk.new other }
     ensures others { (other : List ℕ) → other ≢ file.now → Keeps (D.remaining desk.old other) (D.remaining desk.new other) }
 {
@@ -130,7 +134,7 @@ pub fn take_script<'a, D: Desk>(
 ) -> Result<Script, Ending<'a>>
     ensures turn { MatchResult result
         (λ script. TakesTurn (script_input tables file.now) (D.remaining desk.old file.now) (D.remaining desk.new file.now) (script_value script))
-        (λ ending. EndsTurn (script_input tables file.now) (D.remaining desk.old file.now) (D.faults desk.old file.now) (D.faults desk.new file.now) ending) }
+        (λ ending. EndsTurn (script_input tables file.now) (D.remaining desk.old file.now) (D.remaining desk.new file.now) (D.faults desk.old file.now) (D.faults desk.new file.now) ending) }
     ensures within { IfOk result (λ script. All (IsWithin tables) script) }
     ensures counts { (other : List ℕ) → D.faults desk.old other ≤ D.faults desk.new other }
     ensures others { (other : List ℕ) → other ≢ file.now → Keeps (D.remaining desk.old other) (D.remaining desk.new other) }

@@ -1,3 +1,4 @@
+//! The tables of lists, by either method.
 ghost use Rattle.std.specs.Prelude.{◌≡◌, ◌≤◌, ℕ, IfOk, MatchResult};
 ghost use Rattle.filter_reader.specs.Lists.{filter_list};
 ghost use Rattle.rule_expansion.specs.Expansion.{expanded_count};
@@ -40,6 +41,7 @@ pub fn expand(alloc: Global, list: &RuleList, limit: u32, slot: u16) -> Result<T
     ensures table { MatchResult result
         (λ table. IsExpansion (filter_list list.now).rules slot (table_of table))
         (λ e. IsRefused (λ needed. needed ≡ expanded_count (filter_list list.now).rules) limit e) }
+    ensures names { IfOk result (λ table. table.names ≡ list.now.names) }
     ensures room { IfOk result (λ table. expanded_count (filter_list list.now).rules ≤ limit) }
 {
     match rule_expansion::expand(alloc, &list.rules, &list.names, limit, slot) {
@@ -60,6 +62,7 @@ pub fn compile(alloc: Global, list: &RuleList, limit: u32, slot: u16) -> Result<
     ensures table { MatchResult result
         (λ table. IsCompiled (filter_list list.now).rules slot (table_of table))
         (λ e. IsRefused (λ needed. IsLeastCost stated (filter_list list.now).rules needed) limit e) }
+    ensures names { IfOk result (λ table. table.names ≡ list.now.names) }
     ensures room { IfOk result (λ table. (needed : ℕ) → IsLeastCost stated (filter_list list.now).rules needed → needed ≤ limit) }
 {
     match rule_compilation::compile(alloc, &list.rules, &list.names, limit, slot) {
@@ -81,6 +84,7 @@ pub(crate) fn make(
     ensures table { MatchResult result
         (λ table. IsMade method (filter_list list.now).rules sizes.slot (table_of table))
         (λ e. IsRefused (IsNeeded method (filter_list list.now).rules) sizes.limit e) }
+    ensures names { IfOk result (λ table. table.names ≡ list.now.names) }
     ensures room { IfOk result (λ table. (needed : ℕ) → IsNeeded method (filter_list list.now).rules needed → needed ≤ sizes.limit) }
 {
     match method {

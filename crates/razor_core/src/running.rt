@@ -27,7 +27,7 @@ fn take_tables<'a, D: Desk>(
 ) -> Result<(), Ending<'a>>
     requires { IsTrue (all_differ (map (λ word. word.now) files.now)) }
     ensures taken { OnOk result (AreAdded (map (λ word. word.now) files.now) (D.remaining desk.old) (D.remaining desk.new) tables.old.items tables.new.items) }
-    ensures ended { IfErr result (λ ending. FailsAmong (map (λ word. word.now) files.now) (D.remaining desk.old) (D.faults desk.old) (D.faults desk.new) ending) }
+    ensures ended { IfErr result (λ ending. FailsAmong (map (λ word. word.now) files.now) (D.remaining desk.old) (D.remaining desk.new) (D.faults desk.old) (D.faults desk.new) ending) }
     ensures counts { (other : List ℕ) → D.faults desk.old other ≤ D.faults desk.new other }
     ensures others { (other : List ℕ) → IsNone other (map (λ word. word.now) files.now) → Keeps (D.remaining desk.old other) (D.remaining desk.new other) }
 {

@@ -1,3 +1,4 @@
+//! The table of an expansion, within a limit.
 ghost use Rattle.std.specs.Prelude.{◌≡◌, ◌≤◌, All, IfOk, MatchResult, length};
 ghost use Rattle.field_boxes.specs.NamedRules.{IsNumberedBy, named_rules};
 ghost use Rattle.ternary_words.specs.Limits.{IsSlotWidth};
@@ -52,6 +53,7 @@ pub fn expand(
     ensures table { MatchResult result
         (λ table. IsExpansion (named_rules names.now rules.now) slot (table_of table))
         (λ e. IsRefused (named_rules names.now rules.now) limit e) }
+    ensures names { IfOk result (λ table. table.names ≡ names.now) }
     ensures room { IfOk result (λ table. expanded_count (named_rules names.now rules.now) ≤ limit) }
 {
     let needed = entry_count(rules);

@@ -18,3 +18,4 @@ pub mod EntryBack
 pub mod HeadingBack
 pub mod TableBack
 pub mod UpperTexts
+pub mod NamesSeen

@@ -2,7 +2,7 @@
 use Rattle.std.specs.Prelude.{ℕ, Bool, List}
 use Rattle.ternary_words.specs.Table.{Entry}
 use Rattle.ternary_words.specs.Views.{word_of}
-use Rattle.table_text.specs.declared.entry.Spelled.{Spelled}
+use Rattle.table_text.specs.declared.spelling.Spelled.{Spelled}
 use Rattle.table_text.specs.Lines.{Line}
 use Rattle.table_text.specs.Names.{decided}
 

@@ -1,8 +1,9 @@
-ghost use Rattle.std.specs.Prelude.{◌≡◌, ◌≤◌, ◌<◌, ℕ, length, map, vec_len, IfOk, OnOk};
+//! The entries of a table that is read, one after another.
+ghost use Rattle.std.specs.Prelude.{◌≡◌, ◌≤◌, ◌<◌, ℕ, length, map, vec_len, All, IfOk, IsTrue, OnOk};
 ghost use Rattle.field_boxes.specs.Names.{name_at};
 ghost use Rattle.ternary_words.specs.Limits.{AreNumbered};
 ghost use Rattle.ternary_words.specs.Views.{entry_of};
-ghost use Rattle.table_text.specs.Names.{decided};
+ghost use Rattle.table_text.specs.Names.{decided, is_decision, is_name};
 ghost use Rattle.table_text.specs.Seen.{names_seen, with_decided};
 
 use crate::names::is_miss;
@@ -20,6 +21,7 @@ pub(crate) struct Entries {
     pub ghost fewer_names: { length names ≤ vec_len entries },
     pub ghost numbered: { AreNumbered (length names) entries.items },
     pub ghost seen: { names_seen (map (entry_of names) entries.items) ≡ names },
+    pub ghost named: { All (λ name. IsTrue (is_name name)) names },
 }
 
 impl Entries {
@@ -41,7 +43,8 @@ impl Entries {
 
     /// With an entry behind the others, and its decision among the names.
     pub(crate) fn with_entry(self, word: Word, decision: &str) -> Result<Self, Memory>
-        requires { vec_len self.entries < 262144 }
+        requires room { vec_len self.entries < 262144 }
+        requires named { IsTrue (is_decision decision.now) }
         ensures entries { IfOk result (λ entries. entries_view entries
             ≡ entries_view self ++ record { word = word_of word; decision = decided decision.now } ∷ []) }
         ensures one_more { IfOk result (λ entries. vec_len entries.entries ≡ vec_len self.entries + 1) }

@@ -1,3 +1,4 @@
+//! The entry that a line of a table's text spells.
 ghost use Rattle.std.specs.Prelude.{◌≡◌, ◌≤◌, Ok, Err, MatchResult};
 ghost use Rattle.std.specs.Option.{option_map};
 ghost use Rattle.ternary_words.specs.Views.{word_of};
@@ -10,15 +11,9 @@ use crate::cut::last_column;
 use crate::error::TableReason;
 use crate::heading::{Heading, Version};
 use crate::names::decision;
+use crate::spelling::Spelled;
 use crate::trits::{are_trits, is_padded, word_of_trits};
 use ternary_words::Word;
-
-/// An entry as a line spells it.
-#[derive(Clone, Copy)]
-pub(crate) struct Spelled<'a> {
-    pub(crate) word: Word,
-    pub(crate) decision: &'a str,
-}
 
 /// The entry of the word, if a decision stands at the end of the line.
 fn with_decision<'a>(

@@ -23,6 +23,7 @@ mod line;
 mod names;
 mod number;
 mod reading;
+mod spelling;
 mod trits;
 
 pub use error::{TableError, TableReason};

@@ -1,10 +1,12 @@
-ghost use Rattle.std.specs.Prelude.{◌≡◌, ◌+◌, ◌-◌, ◌^◌, ◌≤◌, ◌<◌, min, length, take, vec_len, Ok, Err, IfOk, IfSome, IfNone, MatchResult, OnOk, Some};
+//! Reading the text of a table whole.
+ghost use Rattle.std.specs.Prelude.{◌≡◌, ◌+◌, ◌-◌, ◌^◌, ◌≤◌, ◌<◌, min, length, take, vec_len, Ok, Err, All, IfOk, IfSome, IfNone, IsTrue, MatchResult, OnOk, Some};
 ghost use Rattle.ternary_words.specs.Limits.{IsSlotWidth};
 ghost use Rattle.ternary_words.specs.Views as words;
 ghost use Rattle.table_text.specs.Lines.{lines_of};
 ghost use Rattle.table_text.specs.EntriesViews.{entries_view};
 ghost use Rattle.table_text.specs.EntryViews.{line_of};
 ghost use Rattle.table_text.specs.HeadingViews.{heading_view};
+ghost use Rattle.table_text.specs.Names.{is_name};
 ghost use Rattle.table_text.specs.Reading.{after_heading, counted, entries_of, entry_of, no_heading, table_in_text};
 ghost use Rattle.table_text.specs.Refused.{IsBehind, IsLineRefused, IsRefused, table_view};
 ghost use Rattle.table_text.specs.Seen.{names_seen};
@@ -28,6 +30,7 @@ pub fn read_table(alloc: Global, bytes: &[u8]) -> Result<Table, TableError>
         (λ table. table_in_text bytes.now ≡ Ok (words.table_of table))
         (λ error. IsRefused error (table_in_text bytes.now)) }
     ensures names { IfOk result (λ table. names_seen (words.table_of table).entries ≡ table.names) }
+    ensures spelled { IfOk result (λ table. All (λ name. IsTrue (is_name name)) table.names) }
 {
     let Some((heading, lines)) = first_line(bytes) else {
         return Err(TableError::BadLine {

@@ -1,4 +1,4 @@
-use Rattle.std.proofs.Common.{[], ◌∷◌, arith, refl, sym}
+use Rattle.std.proofs.Common.{[], ◌∷◌, ◌∙◌, arith, refl, sym}
 use Rattle.razor_core.specs.Command.{Check}
 use Rattle.razor_core.specs.Inputs.{certificate_input, list_input, table_input}
 use Rattle.razor_core.specs.Outside.{seen}
@@ -7,6 +7,22 @@ use Rattle.razor_core.proofs.CheckEnding.{Checked, check_ends}
 use Rattle.razor_core.proofs.Ended.{ends_later, turn_ends}
 use Rattle.razor_core.proofs.Turns.{keeps_trans, kept, passed_taken, taken_before, taken_later}
 use Rattle.razor_core.proofs.certificate.check_certificate.Goals as goal
+
+pub returns-in-Err-clause-ends : goal.returns-in-Err-clause-ends
+returns-in-Err-clause-ends g c =
+    let first = c.args.files.first.now in
+    let second = c.args.files.second.now in
+    let third = c.args.files.third.now in
+    let before = seen g.D.Desk.remaining g.D.Desk.faults g.K.Sink.written g.K.Sink.faults c.args.desk.now c.args.out.now in
+    let after = seen g.D.Desk.remaining g.D.Desk.faults g.K.Sink.written g.K.Sink.faults c.take_list.new.desk c.args.out.now in
+    let still = kept (g.K.Sink.written c.args.out.now) in
+    turn_ends (Check first second third) before after [] [] (list_input first) (table_input second ∷ certificate_input third ∷ []) c.in-Err.ending
+    (record {
+      inputs_are = refl;
+      passed = tt;
+      kept = (c.in-Err.ensures.others second (λ e. c.args.files.front (sym e)), (c.in-Err.ensures.others third (λ e. c.args.files.ends (sym e)), tt));
+    })
+    (record { keeps = still; cut = λ file e. (still, λ tells same. absurd (c.args.files.ends (sym e ∙ same))); calm = refl; short = still }) c.in-Err.ensures.turn
 
 pub returns-in-Err-take_table-clause-ends : goal.returns-in-Err-take_table-clause-ends
 returns-in-Err-take_table-clause-ends g c =
@@ -19,9 +35,13 @@ returns-in-Err-take_table-clause-ends g c =
     let list = c.in-Ok.list in
     let still = kept (g.K.Sink.written c.args.out.now) in
     turn_ends (Check first second third) before after (list_input first ∷ []) (value_of list ∷ []) (table_input second) (certificate_input third ∷ []) c.in-Err-take_table.ending
-    (record { inputs_are = refl; passed = (passed_taken (list_input first) (before.remaining first) (g.D.Desk.remaining between first) (value_of list) c.in-Ok.ensures.turn, tt) })
-    (record { keeps = still; cut = λ file e. still; short = still })
-    (ends_later (table_input second) (before.remaining second) (g.D.Desk.remaining between second) (before.read_faults second) (g.D.Desk.faults between second) (after.read_faults second) c.in-Err-take_table.ending
+    (record {
+      inputs_are = refl;
+      passed = (passed_taken (list_input first) (before.remaining first) (g.D.Desk.remaining between first) (value_of list) c.in-Ok.ensures.turn, tt);
+      kept = (keeps_trans (before.remaining third) (g.D.Desk.remaining between third) (after.remaining third) (c.in-Ok.ensures.others third (λ e. c.args.files.ends (sym e))) (c.in-Err-take_table.ensures.others third (λ e. c.args.files.back (sym e))), tt);
+    })
+    (record { keeps = still; cut = λ file e. (still, λ tells same. absurd (c.args.files.back (sym e ∙ same))); calm = refl; short = still })
+    (ends_later (table_input second) (before.remaining second) (g.D.Desk.remaining between second) (after.remaining second) (before.read_faults second) (g.D.Desk.faults between second) (after.read_faults second) c.in-Err-take_table.ending
     (c.in-Ok.ensures.others second (λ e. c.args.files.front (sym e))) (c.in-Ok.ensures.counts second) c.in-Err-take_table.ensures.turn)
 
 pub returns-clause-ends : goal.returns-clause-ends

@@ -8,6 +8,17 @@ use Rattle.razor_core.proofs.Ended.{ends_later, turn_ends}
 use Rattle.razor_core.proofs.Turns.{kept, passed_taken, taken_before, taken_later}
 use Rattle.razor_core.proofs.certifying.certify.Goals as goal
 
+pub returns-in-Err-clause-ends : goal.returns-in-Err-clause-ends
+returns-in-Err-clause-ends g c =
+    let first = c.args.files.first.now in
+    let second = c.args.files.second.now in
+    let before = seen g.D.Desk.remaining g.D.Desk.faults g.K.Sink.written g.K.Sink.faults c.args.desk.now c.args.out.now in
+    let after = seen g.D.Desk.remaining g.D.Desk.faults g.K.Sink.written g.K.Sink.faults c.take_list.new.desk c.args.out.now in
+    let still = kept (g.K.Sink.written c.args.out.now) in
+    turn_ends (Cert first second) before after [] [] (list_input first) (table_input second ∷ []) c.in-Err.ending
+    (record { inputs_are = refl; passed = tt; kept = (c.in-Err.ensures.others second (λ e. c.args.files.apart (sym e)), tt) })
+    (record { keeps = still; cut = λ file e. still; calm = refl; short = λ tells. inl still }) c.in-Err.ensures.turn
+
 pub returns-in-Err-take_table-clause-ends : goal.returns-in-Err-take_table-clause-ends
 returns-in-Err-take_table-clause-ends g c =
     let first = c.args.files.first.now in
@@ -17,9 +28,9 @@ returns-in-Err-take_table-clause-ends g c =
     let between = c.take_list.new.desk in
     let still = kept (g.K.Sink.written c.args.out.now) in
     turn_ends (Cert first second) before after (list_input first ∷ []) (value_of c.in-Ok.list ∷ []) (table_input second) [] c.in-Err-take_table.ending
-    (record { inputs_are = refl; passed = (passed_taken (list_input first) (before.remaining first) (g.D.Desk.remaining between first) (value_of c.in-Ok.list) c.in-Ok.ensures.turn, tt) })
-    (record { keeps = still; cut = λ file e. still; short = λ tells. inl still })
-    (ends_later (table_input second) (before.remaining second) (g.D.Desk.remaining between second) (before.read_faults second) (g.D.Desk.faults between second) (after.read_faults second) c.in-Err-take_table.ending
+    (record { inputs_are = refl; passed = (passed_taken (list_input first) (before.remaining first) (g.D.Desk.remaining between first) (value_of c.in-Ok.list) c.in-Ok.ensures.turn, tt); kept = tt })
+    (record { keeps = still; cut = λ file e. still; calm = refl; short = λ tells. inl still })
+    (ends_later (table_input second) (before.remaining second) (g.D.Desk.remaining between second) (after.remaining second) (before.read_faults second) (g.D.Desk.faults between second) (after.read_faults second) c.in-Err-take_table.ending
     (c.in-Ok.ensures.others second (λ e. c.args.files.apart (sym e))) (c.in-Ok.ensures.counts second) c.in-Err-take_table.ensures.turn)
 
 pub returns-clause-ends : goal.returns-clause-ends

@@ -17,7 +17,7 @@ use Rattle.razor_core.specs.Taking.{EndsTurn, TakesTurn}
 use Rattle.razor_core.specs.Ending.{Ends}
 use Rattle.razor_core.proofs.Driven.{Driven, drive_ends}
 use Rattle.razor_core.proofs.Ended.{turn_ends}
-use Rattle.razor_core.proofs.Tables.{NoneOf, all_fail_later, all_taken_later, among_ends, first_text, later_words, none_later, none_of_inputs, taken_length, texts, words_parted}
+use Rattle.razor_core.proofs.Tables.{NoneOf, all_fail_later, all_stay, all_taken_later, among_ends, first_text, later_words, none_later, none_of_inputs, stay_kept, taken_length, texts, words_parted}
 use Rattle.razor_core.proofs.Turns.{keeps_trans, kept, passed_taken, taken_before}
 use Rattle.razor_core.proofs.running.run_script.Goals as goal
 
@@ -30,13 +30,14 @@ returns-in-Err-clause-ends g c =
     let slots = c.args.slots.count in
     let seen_is = words_parted words c.in-len1-up.len_at_least in
     let count_is = length-map rest (λ (word : Bor (List ℕ)). word.now) in
+    let differ = subst (λ (ws : List (List ℕ)). IsTrue (all_differ ws)) seen_is c.requires.apart in
     let before = seen g.D.Desk.remaining g.D.Desk.faults g.K.Sink.written g.K.Sink.faults c.args.desk.now c.args.out.now in
     let after = seen g.D.Desk.remaining g.D.Desk.faults g.K.Sink.written g.K.Sink.faults c.take_script.new.desk c.args.out.now in
     let still = kept (g.K.Sink.written c.args.out.now) in
     subst (λ (ws : List (List ℕ)). Ends (driving slots ws) before after c.in-Err.ending) (sym seen_is)
-    (turn_ends (Drive slots script files) before after [] [] (script_input (length files) script) (map table_input files) c.in-Err.ending (record { inputs_are = refl; passed = tt })
-    (record { keeps = still; cut = λ file e. still; short = λ tells. inl still })
-    (subst (λ (n : ℕ). EndsTurn (script_input n script) (before.remaining script) (before.read_faults script) (after.read_faults script) c.in-Err.ending) (sym count_is) c.in-Err.ensures.turn))
+    (turn_ends (Drive slots script files) before after [] [] (script_input (length files) script) (map table_input files) c.in-Err.ending (record { inputs_are = refl; passed = tt; kept = stay_kept before after files (all_stay script files before.remaining after.remaining (none_later script files differ) c.in-Err.ensures.others) })
+    (record { keeps = still; cut = λ file e. still; calm = refl; short = λ tells. inl still })
+    (subst (λ (n : ℕ). EndsTurn (script_input n script) (before.remaining script) (after.remaining script) (before.read_faults script) (after.read_faults script) c.in-Err.ending) (sym count_is) c.in-Err.ensures.turn))
 
 pub returns-in-Err-take_tables-clause-ends : goal.returns-in-Err-take_tables-clause-ends
 returns-in-Err-take_tables-clause-ends g c =
@@ -61,8 +62,8 @@ returns-in-Err-take_tables-clause-ends g c =
     subst (λ (ws : List (List ℕ)). Ends (driving slots ws) before after ending) (sym seen_is)
     (among_ends (Drive slots script files) before after (script_input (length files) script ∷ []) (script_value events ∷ []) files ending refl
     (passed_taken (script_input (length files) script) (start script) (between script) (script_value events) taken, tt)
-    (λ name. record { keeps = still; cut = λ file e. still; short = λ tells. inl still })
-    (all_fail_later script files start between (g.D.Desk.faults c.args.desk.now) (g.D.Desk.faults c.take_script.new.desk) (g.D.Desk.faults c.take_tables.new.desk) ending none c.in-Ok.ensures.others c.in-Ok.ensures.counts
+    (λ name. record { keeps = still; cut = λ file e. still; calm = refl; short = λ tells. inl still })
+    (all_fail_later script files start between end (g.D.Desk.faults c.args.desk.now) (g.D.Desk.faults c.take_script.new.desk) (g.D.Desk.faults c.take_tables.new.desk) ending none c.in-Ok.ensures.others c.in-Ok.ensures.counts
     c.in-Err-take_tables.ensures.ended))
 
 pub returns-in-Err-take_tables-clause-others : goal.returns-in-Err-take_tables-clause-others
@@ -124,6 +125,7 @@ returns-clause-ends g c =
       outcome = subst (λ (ts : List Table). drives.Outcome (IsRun ts (unsettled slots) last 0 0) appended events c.drive_on-ended.result) tables_are
           (subst (λ (s : State). drives.Outcome (IsRun c.deref.result.now s last 0 0) appended events c.drive_on-ended.result) state_is c.drive_on-ended.ensures.outcome);
       write_fault = c.drive_on-ended.ensures.write_fault;
+      calm = c.drive_on-ended.ensures.calm;
     } in
     subst (λ (ws : List (List ℕ)). Ends (driving slots ws) before after c.drive_ended.result) (sym seen_is)
     (drive_ends c.a_run_without_faults_is_the_session.ensures.lines slots script files before after events added.0 last c.drive_on-ended.result c.drive_ended.result run c.drive_ended.ensures)

@@ -6,8 +6,8 @@ use Rattle.command_words.specs.Asked.{meant}
 use Rattle.razor_core.specs.Outside.{seen, IsNoInput}
 use Rattle.razor_core.specs.Ending.{ending_line}
 use Rattle.razor_core.specs.Standing.{WritesNothing}
-use Rattle.razor_core.specs.Promise.{IsLine, KeepsPromiseOf}
-use Rattle.razor_core.proofs.Endings.{kept_by, unchanged_by, line_by}
+use Rattle.razor_core.specs.Promise.{KeepsPromiseOf}
+use Rattle.razor_core.proofs.Endings.{kept_by, unchanged_by}
 use Rattle.razor_core.proofs.top.razor.Goals as goal
 
 abbrev some_command : Command → Option Command
@@ -23,13 +23,11 @@ returns g c =
     let words : some_command command ≡ command_of c.args.words.now = c.in-Some.ensures in
     let same = sym c.status.ensures in
     record {
-      command = subst (λ (o : Option Command). KeepsPromiseOf o before after c.status.result) words (subst (λ (s : ℕ). KeepsPromiseOf (some_command command) before after s) same (kept_by command before after ending ends));
+      line = ending_line ending;
+      message = c.say_ending.ensures;
+      command = subst (λ (o : Option Command). KeepsPromiseOf o before after (ending_line ending) c.status.result) words
+          (subst (λ (s : ℕ). KeepsPromiseOf (some_command command) before after (ending_line ending) s) same (kept_by command before after ending ends));
       unchanged = subst (λ (o : Option Command). WritesNothing o c.status.result → c.status.result ≢ 0 → c.status.result ≢ 1 → c.status.result ≢ 6 → Keeps before.written after.written) words
           (subst (λ (s : ℕ). WritesNothing (some_command command) s → s ≢ 0 → s ≢ 1 → s ≢ 6 → Keeps before.written after.written) same (unchanged_by command before after ending ends));
       untouched = subst (λ (o : Option Command). (name : List ℕ) → IsNoInput o name → Keeps (before.remaining name) (after.remaining name)) words c.run-ending.ensures.others;
-      message = (
-        ending_line ending,
-        subst (λ (o : Option Command). IsLine o before after c.status.result (ending_line ending)) words (subst (λ (s : ℕ). IsLine (some_command command) before after s (ending_line ending)) same (line_by command before after ending ends)),
-        c.say_ending.ensures,
-      );
     }
