@@ -1,0 +1,13 @@
+pub mod Alone
+pub mod ByPlace
+pub mod First
+pub mod Joined
+pub mod Masks
+pub mod Merging
+pub mod Places
+pub mod Runs
+pub mod Splits
+pub mod Steps
+pub mod Tight
+pub mod Words
+pub mod Merged
