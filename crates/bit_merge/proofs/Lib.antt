@@ -11,3 +11,7 @@ pub mod Steps
 pub mod Tight
 pub mod Words
 pub mod Merged
+pub mod Symmetric
+pub mod WordBits
+pub mod Ranks
+pub mod SlotSteps

@@ -1,4 +1,5 @@
 //! Bit merging: entries of one run whose words differ in a single bit become one entry.
 #![tactic(auto)]
 
+mod joining;
 pub mod laws;
