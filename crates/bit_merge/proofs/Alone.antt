@@ -5,7 +5,7 @@ use Rattle.std.specs.List.{remove}
 use Rattle.std.proofs.lemmas.List.{length-append}
 use Rattle.ternary_words.specs.Table.{Entry, answer}
 use Rattle.bit_merge.proofs.Tight.{IsTight}
-use Rattle.bit_merge.proofs.Places.{removed}
+use Rattle.bit_merge.proofs.PairPlaces.{removed}
 
 record Cut (entries : List Entry) (k : ℕ) : Type 0 where
   before : List Entry

@@ -3,9 +3,9 @@ pub mod ByPlace
 pub mod First
 pub mod Joined
 pub mod Masks
-pub mod Merging
-pub mod Places
-pub mod Runs
+pub mod Outcome
+pub mod PairPlaces
+pub mod RunByRun
 pub mod Splits
 pub mod Steps
 pub mod Tight
@@ -15,3 +15,9 @@ pub mod Symmetric
 pub mod WordBits
 pub mod Ranks
 pub mod SlotSteps
+pub mod Nearness
+pub mod Leasts
+pub mod Held
+pub mod Numbered
+pub mod Parts
+pub mod Promised

@@ -5,7 +5,7 @@ use Rattle.ternary_words.specs.Table.{Entry, answer}
 use Rattle.bit_merge.specs.Merge.{IsClosed, IsMerged}
 use Rattle.bit_merge.specs.Table.{IsTight}
 use Rattle.bit_merge.proofs.Alone.{tight-places, places-tight}
-use Rattle.bit_merge.proofs.Merging.{some-merged, one-merged, merged-closed, merged-shorter, merged-alike, merged-tight}
+use Rattle.bit_merge.proofs.Outcome.{some-merged, one-merged, merged-closed, merged-shorter, merged-alike, merged-tight}
 
 pub has_merged : (entries : List Entry) → (out : List Entry) × IsMerged entries out
 has_merged entries = let m = some-merged entries in (m.1, (m.0, m.2))

@@ -88,9 +88,11 @@ pub lead-step : (slots now : Slots) (i j : ℕ) (a b w : Word) → AreFirst slot
     at (set slots i (Some w)) j ≡ Some b → now ≡ set (set slots i (Some w)) j None → LeadTo slots now
 lead-step slots now i j a b w f h there e d out m =
     let x = entry d a in
-    let es = ap (entries_of d) e ∙ joined-slots d x slots i j a b w f h there in
-    (suc m.0, places-step (entries_of d slots) x (rank slots i) (rank slots j) m.0 out (first_places d x slots i j a b f)
-    (subst (λ l. MergedIn m.0 l out) es m.1))
+    let es = ap (entries_of d) e ∙ joined-slots d x slots i j a b w f h there in (
+      suc m.0,
+      places-step (entries_of d slots) x (rank slots i) (rank slots j) m.0 out (first_places d x slots i j a b f)
+          (subst (λ l. MergedIn m.0 l out) es m.1),
+    )
 
 pub lead-both : (a b c : Slots) → LeadTo a b → LeadTo b c → LeadTo a c
 lead-both a b c f g d out m = f d out (g d out m)
@@ -103,9 +105,11 @@ some-within (s ∷ slots) (suc k) w h = omega (arith, some-within slots k w h)
 -- where none is left to join
 pub done-merged : (d : Option (List ℕ)) (slots : Slots) (count : ℕ) → length slots ≤ count → AreDone slots count → IsMerged (entries_of d slots) (entries_of d slots)
 done-merged d slots count long done =
-    let e : Entry = record { word = []; decision = d } in
-    (0, places-end (entries_of d slots) e (λ i j h.
-    let t = both d e slots i j h in
-    let within = some-within slots t.first.place t.first.word t.first.here in
-    let same = done t.first.place t.second.place t.first.word t.second.word (omega (arith, within, long)) t.first.here t.second.here t.joinable in
-    omega (arith, t.less, same)))
+    let e : Entry = record { word = []; decision = d } in (
+      0,
+      places-end (entries_of d slots) e (λ i j h.
+          let t = both d e slots i j h in
+          let within = some-within slots t.first.place t.first.word t.first.here in
+          let same = done t.first.place t.second.place t.first.word t.second.word (omega (arith, within, long)) t.first.here t.second.here t.joinable in
+          omega (arith, t.less, same)),
+    )

@@ -4,7 +4,7 @@ use Rattle.std.specs.Prelude.{suc}
 use Rattle.ternary_words.specs.Table.{Entry}
 use Rattle.bit_merge.specs.Merge.{Pair, IsPair, IsFirstPair, MergedIn, first_place, second_place, joined}
 use Rattle.bit_merge.proofs.ByPlace.{ArePlaces, AreFirstPlaces, joined_at}
-use Rattle.bit_merge.proofs.Places.{pair-places, places-pair, joined-places}
+use Rattle.bit_merge.proofs.PairPlaces.{pair-places, places-pair, joined-places}
 
 -- the first pair at these places
 record FirstAt (entries : List Entry) (d : Entry) (i j : ℕ) : Type 0 where

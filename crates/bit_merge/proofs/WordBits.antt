@@ -14,6 +14,7 @@ use Rattle.field_boxes.specs.Bits.{bits}
 use Rattle.field_boxes.proofs.Bits.{length-bits}
 use Rattle.ternary_words.specs.Word.{Trit, trits}
 use Rattle.bit_merge.specs.Merge.{CanJoin, join}
+use Rattle.bit_merge.specs.Near.{IsNear}
 use Rattle.bit_merge.proofs.Masks.{unlike_bits, without_bits, both_bits, ones, can-join-masks, masks-can-join, join-masks, clear-masks}
 
 -- one bit of each
@@ -168,10 +169,6 @@ word n m a = trits (bits n m) (bits n a)
 
 same_lengths : (n m a : ℕ) → length (bits n m) ≡ length (bits n a)
 same_lengths n m a = length-bits n m ∙ sym (length-bits n a)
-
--- the second word has the mask and the value of the first one, or a value that differs in a bit of the mask
-abbrev pub IsNear : ℕ → ℕ → ℕ → ℕ → ℕ → Type 0
-IsNear n m a k b = (k ≡ m) × ((b ≡ a) ⊎ ((i : ℕ) × (i < n) × (bit_and m (2 ^ i) ≡ 2 ^ i) × (b ≡ bit_xor a (2 ^ i))))
 
 near_step : (n m a b u : ℕ) → u < 2 ^ n → bit_xor a b ≡ u → bit_and m u ≡ u → AtMostOne n u → (b ≡ a) ⊎ ((i : ℕ) × (i < n) × (bit_and m (2 ^ i) ≡ 2 ^ i) × (b ≡ bit_xor a (2 ^ i)))
 near_step n m a b u small e w (inl h) =

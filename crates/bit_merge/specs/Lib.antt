@@ -1,3 +1,5 @@
 pub mod Merge
 pub mod Table
 pub mod Slots
+pub mod Near
+pub mod Runs
