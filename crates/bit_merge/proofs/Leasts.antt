@@ -4,7 +4,7 @@ use Rattle.std.specs.Prelude.{bit_and, bit_xor, nat_eq, ◌&&◌}
 use Rattle.std.proofs.lemmas.Bool.{cases_lt, eqb-true, true≢false}
 use Rattle.ternary_words.specs.declared.word.Word.{Word}
 use Rattle.bit_merge.specs.Near.{IsNear}
-use Rattle.bit_merge.specs.Slots.{Slots, at, IsLeast, IsPartner, IsWord, IsFirstOfItsWord, has_word, lesser_of}
+use Rattle.bit_merge.specs.Slots.{Slots, at, IsLeast, IsPartner, IsWord, IsFirstOfItsWord, lesser_of}
 use Rattle.bit_merge.proofs.SlotSteps.{some-within}
 use Rattle.bit_merge.proofs.Nearness.{IsLast, near-up, near-down, near-last, near-none, near-start, start-near, near-partner, partner-near, alike-too}
 
@@ -45,35 +45,6 @@ least-either slots P Q (Some x) (Some y) h g =
           let e : y ≡ min x y = omega (arith, more) in
           subst (λ z. IsLeast slots (Either P Q) (Some z)) e ((g.0.0, g.0.1, inr g.0.2), both_either slots P Q x y y more (omega arith) h g)
     ]
-
--- by a test of each place
-and_true : (s t : Bool) → (s && t) ≡ true → (s ≡ true) × (t ≡ true)
-and_true true true h = (refl, refl)
-and_true true false h = absurd (true≢false (sym h))
-and_true false t h = absurd (true≢false (sym h))
-
-is_word : (mask value : ℕ) (s : Option Word) → has_word mask value s ≡ true → (b : Word) × (s ≡ Some b) × IsWord mask value b
-is_word mask value None h = absurd (true≢false (sym h))
-is_word mask value (Some w) h =
-    let r = and_true (nat_eq w.mask mask) (nat_eq w.value value) h in (w, refl, (eqb-true w.mask mask r.0, eqb-true w.value value r.1))
-
-word_is : (mask value : ℕ) (s : Option Word) (b : Word) → s ≡ Some b → IsWord mask value b → has_word mask value s ≡ true
-word_is mask value s b e h =
-    ap (has_word mask value) e ∙ ap (λ t. t && nat_eq b.value value) (eq-eqb b.mask mask h.0) ∙ eq-eqb b.value value h.1
-
-pub scan-none : (slots : Slots) (mask value n : ℕ) → length slots ≤ n → ((k : ℕ) → k < n → has_word mask value (at slots k) ≡ false) → IsLeast slots (IsWord mask value) None
-scan-none slots mask value n long h = λ k b e is.
-    let within = some-within slots k b e in true≢false (sym (word_is mask value (at slots k) b e is) ∙ h k (omega (arith, within, long)))
-
-pub scan-some : (slots : Slots) (mask value i : ℕ) → has_word mask value (at slots i) ≡ true → ((k : ℕ) → k < i → has_word mask value (at slots k) ≡ false) → IsLeast slots (IsWord mask value) (Some i)
-scan-some slots mask value i here h = (
-  is_word mask value (at slots i) here,
-  λ k b e is.
-      elim (cases_lt k i) [
-        | inl less ↦ absurd (true≢false (sym (word_is mask value (at slots k) b e is) ∙ h k less))
-        | inr more ↦ more
-      ],
-)
 
 -- one bit after another
 abbrev Near : ℕ → Word → Word → Type 0

@@ -21,3 +21,5 @@ pub mod Held
 pub mod Numbered
 pub mod Parts
 pub mod Promised
+pub mod Indexed
+pub mod Filled

@@ -4,7 +4,7 @@ use Rattle.std.specs.Prelude.{zero, suc}
 use Rattle.std.proofs.lemmas.List.{take_more}
 use Rattle.ternary_words.specs.declared.word.Word.{Word}
 use Rattle.ternary_words.specs.declared.entry.Entry.{Entry}
-use Rattle.bit_merge.specs.Slots.{Slots, at, numbered_entries}
+use Rattle.bit_merge.specs.Slots.{Slots, numbered_entries}
 
 pub numbered-append : (decision : ℕ) (xs ys : Slots) → numbered_entries decision (xs ++ ys) ≡ numbered_entries decision xs ++ numbered_entries decision ys
 numbered-append decision [] ys = refl
@@ -19,7 +19,7 @@ numbered-more decision xs i s h e =
     ∙ sym (numbered-append decision (take i xs) (get_or xs i s ∷ [])) ∙ ap (numbered_entries decision) (sym (take_more xs i s h))
 
 -- a place within the list needs no item to stand in
-pub at-item : (xs : Slots) (i : ℕ) (s : Option Word) → i < length xs → s ≡ get_or xs i s → at xs i ≡ s
-at-item [] i s h e = absurd (omega (arith, h))
-at-item (x ∷ xs) zero s h e = sym e
-at-item (x ∷ xs) (suc i) s h e = at-item xs i s (omega (arith, h)) e
+pub item-at : {A : Type 0} (xs : List (Option A)) (i : ℕ) (s : Option A) → i < length xs → s ≡ get_or xs i s → get_or xs i None ≡ s
+item-at [] i s h e = absurd (omega (arith, h))
+item-at (x ∷ xs) zero s h e = sym e
+item-at (x ∷ xs) (suc i) s h e = item-at xs i s (omega (arith, h)) e

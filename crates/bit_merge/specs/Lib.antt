@@ -3,3 +3,4 @@ pub mod Table
 pub mod Slots
 pub mod Near
 pub mod Runs
+pub mod Index

@@ -1,5 +1,5 @@
 -- The words of a run at their places, of which some are empty.
-use Rattle.std.specs.Prelude.{◌≡◌, ℕ, ◌<◌, ◌≤◌, List, [], ◌∷◌, Option, Some, None, slice_index_or, Bool, false, nat_eq, ◌&&◌, min, set}
+use Rattle.std.specs.Prelude.{◌≡◌, ℕ, ◌<◌, ◌≤◌, List, [], ◌∷◌, Option, Some, None, slice_index_or, min, set}
 use Rattle.ternary_words.specs.Table.{Entry}
 use Rattle.ternary_words.specs.Views.{word_of}
 use Rattle.ternary_words.specs.declared.word.Word.{Word}
@@ -49,11 +49,6 @@ abbrev pub numbered_entries : ℕ → Slots → List code_entry.Entry
 numbered_entries decision [] = []
 numbered_entries decision (None ∷ slots) = numbered_entries decision slots
 numbered_entries decision (Some w ∷ slots) = record { word = w; decision = decision } ∷ numbered_entries decision slots
-
--- whether it is the word with this mask and this value
-abbrev pub has_word : ℕ → ℕ → Option Word → Bool
-has_word mask value None = false
-has_word mask value (Some w) = nat_eq w.mask mask && nat_eq w.value value
 
 -- the lesser of two places, where there are two
 abbrev pub lesser_of : Option ℕ → Option ℕ → Option ℕ

@@ -7,8 +7,10 @@
 #![tactic(auto)]
 
 mod joining;
+mod key;
 pub mod laws;
 mod merging;
+mod partner;
 mod places;
 mod runs;
 mod table;

@@ -8,10 +8,11 @@
 //! taken. So the pair with the least places is the word in hand with its least partner: a partner before
 //! it is the first of the pair, and one behind it the second.
 
-ghost use Rattle.std.specs.Prelude.{◌≡◌, ◌<◌, suc, None, Some, OnOk, length, slice_set};
+ghost use Rattle.std.specs.Prelude.{◌≡◌, ◌<◌, suc, None, Some, IfOk, OnOk, length, slice_set};
 ghost use Rattle.bit_merge.specs.Slots.{AreDone, IsJoined, LeadTo, at};
 
 use crate::joining::joined;
+use crate::partner::least_partner;
 use crate::places::Places;
 use razor_base::Memory;
 use ternary_words::Word;
@@ -35,7 +36,7 @@ fn finish(places: &mut Places, taken: usize) -> Result<(), Memory>
     ensures done { OnOk result (AreDone places.new (suc taken)) }
     ensures count { OnOk result (length places.new ≡ length places.old) }
 {
-    match places.take(taken) {
+    match places.take(taken)? {
         Some(word) => settle(places, taken, word),
         None => Ok(()),
     }
@@ -52,7 +53,7 @@ fn settle(places: &mut Places, taken: usize, word: Word) -> Result<(), Memory>
 {
     let mut hand = word;
     let mut place = taken;
-    while let Some((join, partner)) = join_next(places, &hand) {
+    while let Some((join, partner)) = join_next(places, &hand)? {
         hand = join;
         place = place.min(partner);
     }
@@ -60,12 +61,14 @@ fn settle(places: &mut Places, taken: usize, word: Word) -> Result<(), Memory>
 }
 
 /// Takes the least partner of the word, if it has one: their join, and where the partner stood.
-fn join_next(places: &mut Places, word: &Word) -> Option<(Word, usize)>
-    ensures { IsJoined places.old places.new word.now result }
+fn join_next(places: &mut Places, word: &Word) -> Result<Option<(Word, usize)>, Memory>
+    ensures { IfOk result (λ next. IsJoined places.old places.new word.now next) }
 {
-    let place = places.least_partner(word)?;
-    match places.take(place) {
-        Some(partner) => Some((joined(word, &partner), place)),
+    let Some(place) = least_partner(places, word) else {
+        return Ok(None);
+    };
+    match places.take(place)? {
+        Some(partner) => Ok(Some((joined(word, &partner), place))),
         None => unreachable!(),
     }
 }

@@ -1,35 +1,61 @@
 //! The words of a run at their places, with the least place of each word.
 
+use crate::key::Key;
 use razor_base::Memory;
 use std::alloc::Global;
+use std::collections::HashMap;
 use std::marker::Model;
 use ternary_words::{Entry, Word};
 
 /// The words of a run at their places. A place whose word was taken is empty.
+///
+/// Each word has its least place in a map, and each place the next one with the same word.
 #[derive(Drop)]
 pub(crate) struct Places {
     words: Vec<Option<Word>>,
+    least: HashMap<Key, usize>,
+    next: Vec<Option<usize>>,
 }
 
 impl Model for Places {
+    ghost use Rattle.std.specs.HashMap.{get};
     ghost use Rattle.bit_merge.specs.Slots.{Slots};
+    ghost use Rattle.bit_merge.specs.Index.{IsIndexed, same_key};
 
     ghost Value = { Slots };
 
     ghost view = { λ p. p.words.items };
+
+    ghost invariant = { λ p. IsIndexed p.words.items (get same_key p.least) p.next.items };
 }
 
 impl Places {
-    ghost use Rattle.std.specs.Prelude.{◌≡◌, ◌<◌, ℕ, List, Some, None, IfOk, OnOk, length, map, slice_set};
+    ghost use Rattle.std.specs.Prelude.{◌≡◌, ◌<◌, ◌≤◌, ℕ, List, Some, None, IfOk, OnOk, length, map, replicate, slice_set};
     ghost use Rattle.ternary_words.specs.declared.word.Word.{Word as SeenWord};
-    ghost use Rattle.bit_merge.specs.Slots.{IsFirstOfItsWord, IsLeast, IsPartner, IsWord, at, numbered_entries};
+    ghost use Rattle.bit_merge.specs.Slots.{IsFirstOfItsWord, IsLeast, IsWord, at, numbered_entries};
+
+    /// So many empty places.
+    fn empty(alloc: Global, count: usize) -> Result<Places, Memory>
+        ensures { IfOk result (λ places. places ≡ replicate count None) }
+    {
+        Ok(Places {
+            words: vec![in alloc; None; count]?,
+            least: HashMap::with_capacity(alloc, count)?,
+            next: vec![in alloc; None; count]?,
+        })
+    }
 
     /// The words of the entries.
     pub fn of(alloc: Global, run: &[Entry]) -> Result<Places, Memory>
         ensures { IfOk result (λ places. places ≡ map (λ e. Some e.word) run.now) }
     {
-        let words = run.iter().map(|entry| Some(entry.word)).collect(alloc)?;
-        Ok(Places { words })
+        let mut places = Places::empty(alloc, run.len())?;
+        let mut place = run.len();
+        while place > 0 {
+            place -= 1;
+            places.put(place, run[place].word)?;
+        }
+        Ok(places)
     }
 
     /// How many places there are.
@@ -50,92 +76,62 @@ impl Places {
         Ok(entries)
     }
 
-    /// Takes the word at the place, if one stands there.
-    pub fn take(&mut self, place: usize) -> Option<Word>
+    /// Takes the word at the place, if one stands there, which must be the first of its like.
+    pub fn take(&mut self, place: usize) -> Result<Option<Word>, Memory>
         requires within { place < length self.old }
         requires first { IsFirstOfItsWord self.old place }
-        ensures word { result ≡ at self.old place }
-        ensures taken { self.new ≡ slice_set self.old place None }
+        ensures word { IfOk result (λ word. word ≡ at self.old place) }
+        ensures taken { OnOk result (self.new ≡ slice_set self.old place None) }
     {
-        let word = self.words[place];
+        let Some(word) = self.words[place] else {
+            return Ok(None);
+        };
+        lead_to(&mut self.least, Key::of(&word), self.next[place])?;
         self.words[place] = None;
-        word
+        Ok(Some(word))
     }
 
-    /// Puts the word, which stands nowhere, at an empty place.
+    /// Puts the word at an empty place, in front of all its like.
     pub fn put(&mut self, place: usize, word: Word) -> Result<(), Memory>
         requires within { place < length self.old }
         requires empty { at self.old place ≡ None }
-        requires absent { (k : ℕ) (b : SeenWord) → at self.old k ≡ Some b → IsWord word.mask word.value b → ⊥ }
+        requires front { (k : ℕ) (b : SeenWord) → at self.old k ≡ Some b → IsWord word.mask word.value b → place < k }
         ensures { OnOk result (self.new ≡ slice_set self.old place (Some word)) }
     {
+        let behind = self.least.insert(Key::of(&word), place)?;
+        self.next[place] = behind;
         self.words[place] = Some(word);
         Ok(())
     }
 
-    /// The least place of a word that can be joined with this one, if there is one.
-    pub fn least_partner(&self, word: &Word) -> Option<usize>
-        ensures { IsLeast self.now (IsPartner word.now) result }
-    {
-        let mut found = self.least_place(word.mask, word.value);
-        for bit in 0..104 {
-            found = self.nearer(found, word, bit);
-        }
-        found
-    }
-
-    ghost use Rattle.std.specs.Prelude.{◌⊎◌, ◌^◌, ◌+◌, bit_xor};
-    ghost use Rattle.bit_merge.specs.Near.{IsNear};
-
-    /// The lesser of the place that was found for fewer bits, and the least place of the word with
-    /// another value of this bit.
-    fn nearer(&self, found: Option<usize>, word: &Word, bit: u8) -> Option<usize>
-        requires bit { bit < 104 }
-        requires found { IsLeast self.now (λ b. IsNear bit word.now.mask word.now.value b.mask b.value) found }
-        ensures { IsLeast self.now (λ b. IsNear (bit + 1) word.now.mask word.now.value b.mask b.value) result }
-    {
-        let one = 1u128 << bit;
-        if word.mask & one == 0 {
-            return found;
-        }
-        lesser(found, self.least_place(word.mask, word.value ^ one))
-    }
-
     /// The least place of the word with this mask and this value, if it stands somewhere.
-    fn least_place(&self, mask: u128, value: u128) -> Option<usize>
+    pub fn least_place(&self, mask: u128, value: u128) -> Option<usize>
         ensures { IsLeast self.now (IsWord mask value) result }
     {
-        for (place, word) in self.words.iter().enumerate() {
-            if is_word(word, mask, value) {
-                return Some(place);
-            }
+        self.least.get(&Key { mask, value }).copied()
+    }
+}
+
+ghost use Rattle.std.specs.Prelude.{◌≡◌, ◌++◌, ◌∷◌, [], OnOk, OnErr, cond};
+ghost use Rattle.std.specs.HashMap.{get, IsUnchanged};
+ghost use Rattle.bit_merge.specs.Index.{same_key};
+ghost use Rattle.bit_merge.specs.Slots.{numbered_entries};
+ghost use Rattle.bit_merge.specs.declared.key.Key.{Key as SeenKey};
+
+/// Has the key lead to the place, or nowhere.
+fn lead_to(least: &mut HashMap<Key, usize>, key: Key, place: Option<usize>) -> Result<(), Memory>
+    ensures leads { OnOk result ((q : SeenKey) → get same_key least.new q ≡ cond (same_key key q) place (get same_key least.old q)) }
+    ensures err { OnErr result (IsUnchanged least.old least.new) }
+{
+    match place {
+        Some(place) => {
+            least.insert(key, place)?;
         }
-        None
+        None => {
+            least.remove(&key);
+        }
     }
-}
-
-ghost use Rattle.std.specs.Prelude.{◌≡◌, ◌++◌, ◌∷◌, [], ◌↔◌, IsTrue, OnOk, IfSome};
-ghost use Rattle.bit_merge.specs.Slots.{lesser_of, has_word, numbered_entries};
-
-/// Whether it is the word with this mask and this value.
-fn is_word(slot: &Option<Word>, mask: u128, value: u128) -> bool
-    ensures { result ≡ has_word mask value slot.now }
-{
-    match slot {
-        Some(word) => word.mask == mask && word.value == value,
-        None => false,
-    }
-}
-
-/// The lesser of two places, where there are two.
-fn lesser(one: Option<usize>, other: Option<usize>) -> Option<usize>
-    ensures { result ≡ lesser_of one other }
-{
-    match (one, other) {
-        (Some(one), Some(other)) => Some(one.min(other)),
-        (Some(one), None) => Some(one),
-        (None, other) => other,
-    }
+    Ok(())
 }
 
 /// Pushes the entry of a word, where there is one.

@@ -1,13 +1,15 @@
-use Rattle.std.proofs.Common.{◌≡◌, ap, sym, subst, ◌∙◌, true}
-use Rattle.bit_merge.specs.Slots.{at, has_word}
-use Rattle.bit_merge.proofs.Numbered.{at-item}
-use Rattle.bit_merge.proofs.Leasts.{scan-some}
+use Rattle.std.proofs.Common.{◌∙◌, subst, sym}
+use Rattle.std.specs.HashMap.{get}
+use Rattle.bit_merge.specs.Index.{same_key}
+use Rattle.bit_merge.specs.Slots.{Slots, IsLeast, IsWord}
+use Rattle.bit_merge.specs.declared.key.Key.{Key}
+use Rattle.bit_merge.proofs.Indexed.{least-from}
 use Rattle.bit_merge.proofs.places.Places.least_place.Goals as goal
 
-pub returns-then-is_word : goal.returns-then-is_word
-returns-then-is_word c =
-    let i = c.loop-place.place in
-    let slots = c.args.self.now in
-    let item = at-item c.deref-word-items.result.now i c.word-item.result c.loop-place-test.true c.word-item.is in
-    let seen : at slots i ≡ c.word-item.result = cc (item, c.self.view_is, c.deref-word-items.ensures.value) in
-    scan-some slots c.args.mask c.args.value i (ap (has_word c.args.mask c.args.value) seen ∙ sym c.is_word.ensures ∙ c.if-is_word.true) c.loop-place.invariant
+pub returns : goal.returns
+returns c =
+    let words = c.self.inside.words.items in
+    let key : Key = record { mask = c.args.mask; value = c.args.value } in
+    let Fits = IsWord c.args.mask c.args.value in
+    let least = least-from words Fits (get same_key c.self.inside.least key) (c.self.invariant.heads key) in
+    subst (λ (s : Slots). IsLeast s Fits c.copied.result) c.self.view_is (subst (IsLeast words Fits) (sym (c.copied.ensures ∙ c.get.ensures.value)) least)

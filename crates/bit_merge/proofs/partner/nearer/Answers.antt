@@ -4,14 +4,14 @@ use Rattle.std.proofs.lemmas.Nat.{one_shl}
 use Rattle.bit_merge.specs.Slots.{IsLeast, IsWord, lesser_of}
 use Rattle.bit_merge.proofs.Nearness.{has-bit}
 use Rattle.bit_merge.proofs.Leasts.{least-skip, least-next}
-use Rattle.bit_merge.proofs.places.Places.nearer.Goals as goal
+use Rattle.bit_merge.proofs.partner.nearer.Goals as goal
 
 pub returns-then-word-one-eq0 : goal.returns-then-word-one-eq0
 returns-then-word-one-eq0 c =
     let bit = c.args.bit in
     let small = c.requires.bit in
     let one = one_shl bit 128 (omega (arith, small)) in
-    least-skip c.args.self.now c.args.word.now bit c.args.found (ap (bit_and c.args.word.now.mask) (sym one) ∙ c.if-word-one-eq0.true) c.requires.found
+    least-skip c.args.places.now c.args.word.now bit c.args.found (ap (bit_and c.args.word.now.mask) (sym one) ∙ c.if-word-one-eq0.true) c.requires.found
 
 pub returns : goal.returns
 returns c =
@@ -20,5 +20,5 @@ returns c =
     let w = c.args.word.now in
     let one = one_shl bit 128 (omega (arith, small)) in
     let has = has-bit w.mask bit (λ e. c.if-word-one-eq0.false (ap (bit_and w.mask) one ∙ e)) in
-    let found = subst (λ x. IsLeast c.args.self.now (IsWord w.mask (bit_xor w.value x)) c.least_place.result) one c.least_place.ensures in
-    subst (IsLeast c.args.self.now _) (sym c.lesser.ensures) (least-next c.args.self.now w bit c.args.found c.least_place.result has c.requires.found found)
+    let found = subst (λ x. IsLeast c.args.places.now (IsWord w.mask (bit_xor w.value x)) c.least_place.result) one c.least_place.ensures in
+    subst (IsLeast c.args.places.now _) (sym c.lesser.ensures) (least-next c.args.places.now w bit c.args.found c.least_place.result has c.requires.found found)

@@ -1,6 +1,0 @@
-use Rattle.bit_merge.specs.Near.{IsNear}
-use Rattle.bit_merge.specs.Slots.{IsLeast}
-use Rattle.bit_merge.proofs.places.Places.least_partner.Given as goal
-
-abbrev pub invariant-loop-bit : goal.invariant-loop-bit
-invariant-loop-bit l = IsLeast l.self (λ b. IsNear l.bit l.word.mask l.word.value b.mask b.value) l.found
