@@ -1,5 +1,5 @@
 -- Tables that are tight, by places.
-use Rattle.std.proofs.Common.{◌≡◌, ◌∷◌, ◌++◌, ◌<◌, ℕ, List, [], length, ap, refl, sym, ◌∙◌, arith, Bool}
+use Rattle.std.proofs.Common.{◌≡◌, ◌∷◌, ◌++◌, ◌<◌, ℕ, List, [], length, ap, refl, sym, ◌∙◌, arith}
 use Rattle.std.specs.Prelude.{suc, zero, ◌≢◌}
 use Rattle.std.specs.List.{remove}
 use Rattle.std.proofs.lemmas.List.{length-append}

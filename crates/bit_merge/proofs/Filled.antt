@@ -5,7 +5,7 @@ use Rattle.std.proofs.lemmas.Bool.{cases_eq, cases_lt}
 use Rattle.std.proofs.lemmas.List.{length-set, length-map, get_or-set_same, get_or-set_other}
 use Rattle.ternary_words.specs.declared.word.Word.{Word}
 use Rattle.ternary_words.specs.declared.entry.Entry.{Entry}
-use Rattle.bit_merge.specs.Slots.{Slots, at, IsWord, IsLeast}
+use Rattle.bit_merge.specs.Slots.{Slots, at, IsWord}
 use Rattle.bit_merge.specs.Index.{IsLeastFrom, IsIndexed}
 use Rattle.bit_merge.specs.declared.key.Key.{Key}
 

@@ -1,5 +1,5 @@
 -- The word in hand: a pair that can be joined holds it, or lies wholly behind the place that was taken.
-use Rattle.std.proofs.Common.{◌≡◌, ◌⊎◌, ◌∷◌, ℕ, ◌<◌, ◌≤◌, List, [], min, length, set, ap, refl, sym, subst, ◌∙◌, arith, Option, Some, None, inl, inr}
+use Rattle.std.proofs.Common.{◌≡◌, ◌⊎◌, ◌∷◌, ℕ, ◌<◌, ◌≤◌, [], min, length, set, ap, sym, subst, ◌∙◌, arith, Some, None, inl, inr}
 use Rattle.std.specs.Prelude.{suc, zero}
 use Rattle.std.proofs.lemmas.Bool.{cases_lt, cases_eq}
 use Rattle.std.proofs.lemmas.List.{length-set, get_or-set_same, get_or-set_other, set-set, set_comm, set-get_or}
@@ -9,7 +9,7 @@ use Rattle.bit_merge.specs.Merge.{CanJoin, join}
 use Rattle.bit_merge.specs.Slots.{Slots, at, entries_of, LeadTo, AreDone, IsLeast, IsPartner, IsWord, IsFirstOfItsWord, IsJoining}
 use Rattle.bit_merge.proofs.Symmetric.{can-join-comm, join-comm}
 use Rattle.bit_merge.proofs.Nearness.{alike-partner}
-use Rattle.bit_merge.proofs.SlotSteps.{AreFirst, lead-step, lead-both, some-within}
+use Rattle.bit_merge.proofs.SlotSteps.{AreFirst, lead-step, lead-both}
 
 -- what is left after a word was taken stood there before
 pub at-without : (slots : Slots) (p k : ℕ) (a : Word) → at (set slots p None) k ≡ Some a → at slots k ≡ Some a

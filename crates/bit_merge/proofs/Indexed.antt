@@ -1,5 +1,5 @@
 -- The places of words stay known when a word is taken or put.
-use Rattle.std.proofs.Common.{◌≡◌, ◌⊎◌, ℕ, ◌<◌, ◌≤◌, List, Bool, true, false, length, set, get_or, ap, refl, sym, subst, ◌∙◌, arith, Option, Some, None, inl, inr, eq-eqb}
+use Rattle.std.proofs.Common.{◌≡◌, ◌⊎◌, ℕ, ◌<◌, ◌≤◌, List, Bool, true, false, length, set, ap, refl, sym, subst, ◌∙◌, arith, Option, Some, None, inl, inr, eq-eqb}
 use Rattle.std.specs.Prelude.{suc, cond, nat_eq, ◌&&◌, slice_index_or}
 use Rattle.std.proofs.lemmas.Bool.{cases_lt, cases_eq, eqb-true, true≢false}
 use Rattle.std.proofs.lemmas.List.{length-set, get_or-set_same, get_or-set_other}

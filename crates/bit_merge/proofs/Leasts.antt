@@ -1,11 +1,10 @@
 -- The least place of a word of some kind.
-use Rattle.std.proofs.Common.{◌≡◌, ◌⊎◌, ◌∷◌, ◌++◌, ℕ, ◌+◌, ◌^◌, ◌<◌, ◌≤◌, List, [], Bool, true, false, min, length, map, take, get_or, ap, refl, sym, subst, ◌∙◌, arith, Option, Some, None, inl, inr, eq-eqb}
-use Rattle.std.specs.Prelude.{bit_and, bit_xor, nat_eq, ◌&&◌}
-use Rattle.std.proofs.lemmas.Bool.{cases_lt, eqb-true, true≢false}
+use Rattle.std.proofs.Common.{◌≡◌, ◌⊎◌, ℕ, ◌+◌, ◌^◌, ◌≤◌, min, subst, arith, Option, Some, None, inl, inr}
+use Rattle.std.specs.Prelude.{bit_and, bit_xor}
+use Rattle.std.proofs.lemmas.Bool.{cases_lt}
 use Rattle.ternary_words.specs.declared.word.Word.{Word}
 use Rattle.bit_merge.specs.Near.{IsNear}
 use Rattle.bit_merge.specs.Slots.{Slots, at, IsLeast, IsPartner, IsWord, IsFirstOfItsWord, lesser_of}
-use Rattle.bit_merge.proofs.SlotSteps.{some-within}
 use Rattle.bit_merge.proofs.Nearness.{IsLast, near-up, near-down, near-last, near-none, near-start, start-near, near-partner, partner-near, alike-too}
 
 pub least-iff : (slots : Slots) (P Q : Word → Type 0) (found : Option ℕ) → ((b : Word) → P b → Q b) → ((b : Word) → Q b → P b) → IsLeast slots P found → IsLeast slots Q found

@@ -1,9 +1,9 @@
 -- Each table has one merged table.
-use Rattle.std.proofs.Common.{◌≡◌, ◌∷◌, ◌++◌, ◌⊎◌, ◌≤◌, ◌<◌, ◌+◌, ℕ, List, [], length, ap, refl, sym, ◌∙◌, subst, arith, Bool, inl, inr}
+use Rattle.std.proofs.Common.{◌≡◌, ◌∷◌, ◌++◌, ◌⊎◌, ◌≤◌, ◌<◌, ◌+◌, ℕ, List, [], length, ap, refl, sym, ◌∙◌, subst, arith, inl, inr}
 use Rattle.std.specs.Prelude.{suc, zero}
 use Rattle.std.proofs.lemmas.List.{length-append}
 use Rattle.ternary_words.specs.Table.{Entry, answer}
-use Rattle.bit_merge.specs.Merge.{Pair, IsPair, IsClosed, IsFirstPair, joint, joined, MergedIn, IsMerged}
+use Rattle.bit_merge.specs.Merge.{Pair, IsPair, IsClosed, IsFirstPair, joined, MergedIn, IsMerged}
 use Rattle.bit_merge.proofs.Joined.{joined-alike}
 use Rattle.bit_merge.proofs.Tight.{IsTight, joined-tight}
 use Rattle.bit_merge.proofs.First.{first_or, one-first}

@@ -1,5 +1,5 @@
 -- What the merged table of the code is like.
-use Rattle.std.proofs.Common.{◌≡◌, List, map, subst, sym}
+use Rattle.std.proofs.Common.{◌≡◌, List, map, subst}
 use Rattle.std.specs.Prelude.{ℕ}
 use Rattle.ternary_words.specs.Table.{answer}
 use Rattle.ternary_words.specs.Views.{entry_of}

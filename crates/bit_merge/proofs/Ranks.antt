@@ -1,5 +1,5 @@
 -- The entries of words at places, of which some are empty: how many stand before a place.
-use Rattle.std.proofs.Common.{◌≡◌, ◌∷◌, ℕ, ◌<◌, ◌≤◌, List, [], length, get_or, set, ap, refl, sym, ◌∙◌, arith, Option, Some, None}
+use Rattle.std.proofs.Common.{◌≡◌, ◌∷◌, ℕ, ◌<◌, ◌≤◌, List, [], length, get_or, set, ap, refl, arith, Option, Some, None}
 use Rattle.std.specs.Prelude.{suc, zero}
 use Rattle.std.specs.List.{remove}
 use Rattle.ternary_words.specs.Table.{Entry}

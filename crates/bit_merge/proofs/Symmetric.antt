@@ -1,8 +1,8 @@
 -- Which of two words comes first doesn't matter to their join.
-use Rattle.std.proofs.Common.{◌≡◌, ◌∷◌, ℕ, List, [], ◌≤◌, arith, ap, refl, sym, ◌∙◌, subst, Bool, true, false, Some, None}
+use Rattle.std.proofs.Common.{◌≡◌, ◌∷◌, List, [], arith, ap, refl, sym, ◌∙◌, true, false, Some, None}
 use Rattle.std.specs.Prelude.{suc, cond}
 use Rattle.ternary_words.specs.Word.{Trit}
-use Rattle.bit_merge.specs.Merge.{same_trit, is_star, HaveSameStars, differing, CanJoin, join}
+use Rattle.bit_merge.specs.Merge.{same_trit, HaveSameStars, differing, CanJoin, join}
 
 same_trit_comm : (s t : Trit) → same_trit s t ≡ same_trit t s
 same_trit_comm None None = refl

@@ -1,6 +1,5 @@
 -- Runs of neighbouring entries of one decision, in the tables of the code.
-use Rattle.std.specs.Prelude.{◌≡◌, ◌≢◌, ℕ, suc, zero, ◌<◌, ◌≤◌, List, [], ◌∷◌, length, map, slice_index_or}
-use Rattle.field_boxes.specs.Names.{AreDistinct}
+use Rattle.std.specs.Prelude.{◌≡◌, ◌≢◌, ℕ, suc, zero, ◌<◌, ◌≤◌, List, [], ◌∷◌, length, map}
 use Rattle.ternary_words.specs.Limits.{AreNumbered}
 use Rattle.ternary_words.specs.Views.{entry_of}
 use Rattle.ternary_words.specs.declared.entry.Entry.{Entry}

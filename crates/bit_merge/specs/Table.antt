@@ -1,5 +1,5 @@
 -- Tables of which no entry can go, and the tables of the code under names.
-use Rattle.std.specs.Prelude.{◌≡◌, ◌≢◌, ℕ, ◌<◌, List, length}
+use Rattle.std.specs.Prelude.{◌≢◌, ℕ, ◌<◌, List, length}
 use Rattle.std.specs.List.{remove}
 use Rattle.field_boxes.specs.Fields.{IsHeader}
 use Rattle.field_boxes.specs.Names.{AreDistinct}

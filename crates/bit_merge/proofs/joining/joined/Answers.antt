@@ -1,4 +1,4 @@
-use Rattle.std.specs.Prelude.{bit_and, bit_xor}
+use Rattle.std.specs.Prelude.{bit_xor}
 use Rattle.bit_merge.proofs.WordBits.{join-is, join-fits, join-masked}
 use Rattle.bit_merge.proofs.joining.joined.Goals as goal
 

@@ -1,4 +1,4 @@
-use Rattle.std.proofs.Common.{◌≡◌, set, subst, sym, Some}
+use Rattle.std.proofs.Common.{set, subst, sym, Some}
 use Rattle.std.proofs.lemmas.Result.{on_ok_weaker}
 use Rattle.bit_merge.specs.Slots.{IsJoined}
 use Rattle.bit_merge.proofs.Held.{IsHeld, held-start, held-next, joining-fewer, stands-nowhere, settled-done, settled-leads}

@@ -1,7 +1,7 @@
-use Rattle.std.proofs.Common.{◌≡◌, ◌*◌, ◌%◌, ◌^◌, ap, sym, subst, ◌∙◌, arith, Option}
-use Rattle.std.specs.Prelude.{ℕ, bit_and, bit_xor}
+use Rattle.std.proofs.Common.{ap, sym, subst, ◌∙◌, arith}
+use Rattle.std.specs.Prelude.{bit_and, bit_xor}
 use Rattle.std.proofs.lemmas.Nat.{one_shl}
-use Rattle.bit_merge.specs.Slots.{IsLeast, IsWord, lesser_of}
+use Rattle.bit_merge.specs.Slots.{IsLeast, IsWord}
 use Rattle.bit_merge.proofs.Nearness.{has-bit}
 use Rattle.bit_merge.proofs.Leasts.{least-skip, least-next}
 use Rattle.bit_merge.proofs.partner.nearer.Goals as goal

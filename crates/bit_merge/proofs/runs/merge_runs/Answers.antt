@@ -1,4 +1,4 @@
-use Rattle.std.proofs.Common.{◌≡◌, ◌++◌, ap, sym, subst, ◌∙◌, List}
+use Rattle.std.proofs.Common.{◌++◌, ap, sym, subst, ◌∙◌, List}
 use Rattle.ternary_words.specs.declared.entry.Entry.{Entry}
 use Rattle.bit_merge.proofs.Parts.{ArePartly, decision-is, run-has, partly-next}
 use Rattle.bit_merge.proofs.runs.merge_runs.Goals as goal

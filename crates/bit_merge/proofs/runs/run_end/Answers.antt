@@ -1,6 +1,5 @@
-use Rattle.std.proofs.Common.{◌≡◌, ℕ, ◌+◌, ◌<◌, ◌≤◌, arith, ap, sym, ◌∙◌}
+use Rattle.std.proofs.Common.{arith, ap, sym, ◌∙◌}
 use Rattle.ternary_words.specs.declared.entry.Entry.{Entry}
-use Rattle.bit_merge.specs.Runs.{decision_at}
 use Rattle.bit_merge.proofs.Parts.{decision-is, one-more}
 use Rattle.bit_merge.proofs.runs.run_end.Goals as goal
 

@@ -1,4 +1,4 @@
-use Rattle.std.proofs.Common.{◌≡◌, ◌<◌, List, Option, None, Some, length, set, subst, sym}
+use Rattle.std.proofs.Common.{◌≡◌, ◌<◌, Option, None, Some, length, set, subst, sym}
 use Rattle.std.specs.Prelude.{ℕ}
 use Rattle.std.specs.HashMap.{get}
 use Rattle.bit_merge.specs.Index.{same_key, IsIndexed}
