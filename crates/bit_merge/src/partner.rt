@@ -1,7 +1,7 @@
 //! The least partner of a word: the words that it can be joined with are itself, and itself with another
 //! value of one bit of its mask, so there are at most 105 to be looked up.
 
-ghost use Rattle.std.specs.Prelude.{◌≡◌, ◌<◌, ◌+◌};
+ghost use Rattle.std.specs.Prelude.{◌≡◌, ◌<◌, ◌+◌, ◌^◌};
 ghost use Rattle.bit_merge.specs.Near.{IsNear};
 ghost use Rattle.bit_merge.specs.Slots.{IsLeast, IsPartner, lesser_of};
 
@@ -26,11 +26,20 @@ fn nearer(places: &Places, word: &Word, bit: u8, found: Option<usize>) -> Option
     requires found { IsLeast places.now (λ b. IsNear bit word.now.mask word.now.value b.mask b.value) found }
     ensures { IsLeast places.now (λ b. IsNear (bit + 1) word.now.mask word.now.value b.mask b.value) result }
 {
-    let one = 1u128 << bit;
+    let one = only(bit);
     if word.mask & one == 0 {
         return found;
     }
     lesser(found, places.least_place(word.mask, word.value ^ one))
+}
+
+/// The number of which only this bit is 1.
+#[tactic(auto, using(std::proofs::lemmas::Nat::one_shl))]
+fn only(bit: u8) -> u128
+    requires { bit < 104 }
+    ensures { result ≡ 2 ^ bit }
+{
+    1 << bit
 }
 
 /// The lesser of two places, where there are two.
