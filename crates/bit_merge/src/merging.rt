@@ -8,7 +8,7 @@
 //! taken. So the pair with the least places is the word in hand with its least partner: a partner before
 //! it is the first of the pair, and one behind it the second.
 
-ghost use Rattle.std.specs.Prelude.{◌≡◌, ◌<◌, suc, None, Some, IfOk, OnOk, length, slice_set};
+ghost use Rattle.std.specs.Prelude.{◌≡◌, ◌<◌, suc, None, Some, IfOk, OnOk, length, min, slice_set};
 ghost use Rattle.bit_merge.specs.Slots.{AreDone, IsJoined, LeadTo, at};
 
 use crate::joining::joined;
@@ -55,9 +55,16 @@ fn settle(places: &mut Places, taken: usize, word: Word) -> Result<(), Memory>
     let mut place = taken;
     while let Some((join, partner)) = join_next(places, &hand)? {
         hand = join;
-        place = place.min(partner);
+        place = lesser(place, partner);
     }
     places.put(place, hand)
+}
+
+/// The lesser of two places.
+fn lesser(one: usize, other: usize) -> usize
+    ensures { result ≡ min one other }
+{
+    one.min(other)
 }
 
 /// Takes the least partner of the word, if it has one: their join, and where the partner stood.

@@ -13,7 +13,7 @@ loop-join-preserved c =
     let start = set c.args.places.now c.args.taken (Some c.args.word) in
     let new = c.join_next.new.places in
     let made = subst (IsJoined l.places new l.hand) c.in-Some.is c.in_ok-join.ensures in
-    subst (λ k. IsHeld start c.args.taken new k c.in-Some.join) (sym c.min-place.ensures)
+    subst (λ k. IsHeld start c.args.taken new k c.in-Some.join) (sym c.lesser-place.ensures)
     (held-next start c.args.taken l.places new l.place l.hand c.in-Some.join c.in-Some.partner l.invariant made)
 
 pub loop-join-smaller : goal.loop-join-smaller
