@@ -1,5 +1,4 @@
 -- Bit merging: entries of one run whose words differ in at most one bit become one entry.
--- After bit weaving (Meiners, Liu, Torng).
 use Rattle.std.specs.Prelude.{◌≡◌, ◌⊎◌, ℕ, zero, suc, ◌+◌, ◌<◌, ◌≤◌, Bool, true, false, cond, List, [], ◌∷◌, ◌++◌, length, Option, Some, None}
 use Rattle.std.specs.Bool.{beq}
 use Rattle.ternary_words.specs.Word.{Trit}
