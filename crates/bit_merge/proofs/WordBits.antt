@@ -1,0 +1,247 @@
+-- Words as two numbers: which can be joined, and what their join is.
+use Rattle.std.proofs.Common.{◌≡◌, ◌∷◌, ◌⊎◌, ℕ, zero, suc, ◌+◌, ◌*◌, ◌%◌, ◌^◌, ◌<◌, ◌≤◌, List, min, length, ap, refl, sym, subst, ◌∙◌, arith, inl, inr}
+use Rattle.std.specs.Prelude.{nat_eq, ◌&&◌, not, cond, bit_and, bit_xor}
+use Rattle.std.specs.Bool.{beq}
+use Rattle.std.specs.Int.{bit_at}
+use Rattle.std.specs.Int.Bits.{xor_self, xor_zero_l, xor_assoc, and_self}
+use Rattle.std.proofs.lemmas.Nat.{and_comm, and_assoc, and_le_r, xor_lt, mod-pow-add}
+use Rattle.std.proofs.lemmas.Nat.Bits.{bit_at_and, bit_at_xor, bit_at-lt, bit_at-zero, bit_at-pow_same, bit_at-pow_other, same_from_bits, same_from_bits_below}
+use Rattle.std.proofs.Math.Nat.{mod-eq_of_lt}
+use Rattle.std.proofs.Math.Numerals.{one-add}
+use Rattle.std.proofs.lemmas.Bool.Decides.{eqb_tells}
+use Rattle.std.proofs.lemmas.Bool.{cases_lt}
+use Rattle.field_boxes.specs.Bits.{bits}
+use Rattle.field_boxes.proofs.Bits.{length-bits}
+use Rattle.ternary_words.specs.Word.{Trit, trits}
+use Rattle.bit_merge.specs.Merge.{CanJoin, join}
+use Rattle.bit_merge.specs.Near.{IsNear}
+use Rattle.bit_merge.proofs.Masks.{unlike_bits, without_bits, both_bits, ones, can-join-masks, masks-can-join, join-masks, clear-masks}
+
+-- one bit of each
+both_bit : (a b : ℕ) → a < 2 → b < 2 → (nat_eq a 1 && nat_eq b 1) ≡ nat_eq (min a b) 1
+both_bit zero zero h k = refl
+both_bit zero (suc zero) h k = refl
+both_bit (suc zero) zero h k = refl
+both_bit (suc zero) (suc zero) h k = refl
+both_bit (suc (suc a)) b h k = absurd (omega arith)
+both_bit zero (suc (suc b)) h k = absurd (omega arith)
+both_bit (suc zero) (suc (suc b)) h k = absurd (omega arith)
+
+unlike_bit : (a b : ℕ) → a < 2 → b < 2 → not (beq (nat_eq a 1) (nat_eq b 1)) ≡ nat_eq ((a + b) % 2) 1
+unlike_bit zero zero h k = refl
+unlike_bit zero (suc zero) h k = refl
+unlike_bit (suc zero) zero h k = refl
+unlike_bit (suc zero) (suc zero) h k = refl
+unlike_bit (suc (suc a)) b h k = absurd (omega arith)
+unlike_bit zero (suc (suc b)) h k = absurd (omega arith)
+unlike_bit (suc zero) (suc (suc b)) h k = absurd (omega arith)
+
+without_bit : (m u : ℕ) → m < 2 → u < 2 → min m u ≡ u → (nat_eq m 1 && not (nat_eq u 1)) ≡ nat_eq ((m + u) % 2) 1
+without_bit zero zero h k e = refl
+without_bit zero (suc zero) h k e = absurd (omega arith)
+without_bit (suc zero) zero h k e = refl
+without_bit (suc zero) (suc zero) h k e = refl
+without_bit (suc (suc m)) u h k e = absurd (omega arith)
+without_bit zero (suc (suc u)) h k e = absurd (omega arith)
+without_bit (suc zero) (suc (suc u)) h k e = absurd (omega arith)
+
+same_bit : (a b : ℕ) → a < 2 → b < 2 → nat_eq a 1 ≡ nat_eq b 1 → a ≡ b
+same_bit zero zero h k e = refl
+same_bit zero (suc zero) h k e = absurd (cc e)
+same_bit (suc zero) zero h k e = absurd (cc e)
+same_bit (suc zero) (suc zero) h k e = refl
+same_bit (suc (suc a)) b h k e = absurd (omega (arith, h))
+same_bit zero (suc (suc b)) h k e = absurd (omega (arith, k))
+same_bit (suc zero) (suc (suc b)) h k e = absurd (omega (arith, k))
+
+-- the bits of a & b
+both-number : (n a b : ℕ) → both_bits (bits n a) (bits n b) ≡ bits n (bit_and a b)
+both-number zero a b = refl
+both-number (suc n) a b =
+    let e = both_bit (bit_at a n) (bit_at b n) (bit_at-lt a n) (bit_at-lt b n) ∙ ap (λ x. nat_eq x 1) (sym (bit_at_and a b n)) in
+    ap (λ t. t ∷ both_bits (bits n a) (bits n b)) e ∙ ap (λ l. nat_eq (bit_at (bit_and a b) n) 1 ∷ l) (both-number n a b)
+
+-- the bits of m & (a ^ b)
+unlike-number : (n m a b : ℕ) → unlike_bits (bits n m) (bits n a) (bits n b) ≡ bits n (bit_and m (bit_xor a b))
+unlike-number zero m a b = refl
+unlike-number (suc n) m a b =
+    let u = bit_and m (bit_xor a b) in
+    let d = unlike_bit (bit_at a n) (bit_at b n) (bit_at-lt a n) (bit_at-lt b n) ∙ ap (λ x. nat_eq x 1) (sym (bit_at_xor a b n)) in
+    let e = ap (λ t. nat_eq (bit_at m n) 1 && t) d ∙ both_bit (bit_at m n) (bit_at (bit_xor a b) n) (bit_at-lt m n) (bit_at-lt (bit_xor a b) n)
+    ∙ ap (λ x. nat_eq x 1) (sym (bit_at_and m (bit_xor a b) n)) in
+    ap (λ t. t ∷ unlike_bits (bits n m) (bits n a) (bits n b)) e ∙ ap (λ l. nat_eq (bit_at u n) 1 ∷ l) (unlike-number n m a b)
+
+-- the bits of m ^ u, where u lies within m
+without-number : (n m u : ℕ) → bit_and m u ≡ u → without_bits (bits n m) (bits n u) ≡ bits n (bit_xor m u)
+without-number zero m u h = refl
+without-number (suc n) m u h =
+    let within : min (bit_at m n) (bit_at u n) ≡ bit_at u n = sym (bit_at_and m u n) ∙ ap (λ x. bit_at x n) h in
+    let e = without_bit (bit_at m n) (bit_at u n) (bit_at-lt m n) (bit_at-lt u n) within ∙ ap (λ x. nat_eq x 1) (sym (bit_at_xor m u n)) in
+    ap (λ t. t ∷ without_bits (bits n m) (bits n u)) e ∙ ap (λ l. nat_eq (bit_at (bit_xor m u) n) 1 ∷ l) (without-number n m u h)
+
+-- bits tell the number
+same-bits : (n a b : ℕ) → bits n a ≡ bits n b → (i : ℕ) → i < n → bit_at a i ≡ bit_at b i
+same-bits zero a b e i h = absurd (omega (arith, h))
+same-bits (suc n) a b e i h =
+    let top : nat_eq (bit_at a n) 1 ≡ nat_eq (bit_at b n) 1 = cc e in
+    let low : bits n a ≡ bits n b = cc e in
+    elim (cases_lt i n) [
+      | inl less ↦ same-bits n a b low i less
+      | inr more ↦
+          let at : n ≡ i = omega (arith, h, more) in
+          subst (λ k. bit_at a k ≡ bit_at b k) at (same_bit (bit_at a n) (bit_at b n) (bit_at-lt a n) (bit_at-lt b n) top)
+    ]
+
+same-number : (n a b : ℕ) → a < 2 ^ n → b < 2 ^ n → bits n a ≡ bits n b → a ≡ b
+same-number n a b h k e = same_from_bits_below n a b h k (same-bits n a b e)
+
+-- numbers of no one or of one one
+split_top : (n x : ℕ) → x % 2 ^ suc n ≡ bit_at x n * 2 ^ n + x % 2 ^ n
+split_top n x = ap (λ m. x % 2 ^ m) (sym (one-add n)) ∙ mod-pow-add x 1 n
+
+none_step : (n u t : ℕ) → t < 2 → bit_at u n ≡ t → cond (nat_eq t 1) (suc (ones (bits n u))) (ones (bits n u)) ≤ 0 → (ones (bits n u) ≤ 0 → u % 2 ^ n ≡ 0) → u % 2 ^ suc n ≡ 0
+none_step n u zero small e h f = let s = split_top n u in let r = f h in s ∙ ap (λ t. t * 2 ^ n + u % 2 ^ n) e ∙ (let z : 0 * 2 ^ n + u % 2 ^ n ≡ 0 = omega (arith, r) in z)
+none_step n u (suc zero) small e h f = absurd (omega (arith, h))
+none_step n u (suc (suc t)) small e h f = absurd (omega (arith, small))
+
+none : (n u : ℕ) → ones (bits n u) ≤ 0 → u % 2 ^ n ≡ 0
+none zero u h = omega arith
+none (suc n) u h = none_step n u (bit_at u n) (bit_at-lt u n) refl h (none n u)
+
+abbrev AtMostOne : ℕ → ℕ → Type 0
+AtMostOne n u = (u % 2 ^ n ≡ 0) ⊎ ((i : ℕ) × (i < n) × (u % 2 ^ n ≡ 2 ^ i))
+
+low_one : (n u : ℕ) → bit_at u n ≡ 0 → AtMostOne n u → AtMostOne (suc n) u
+low_one n u e (inl r) = inl (split_top n u ∙ ap (λ t. t * 2 ^ n + u % 2 ^ n) e ∙ (let z : 0 * 2 ^ n + u % 2 ^ n ≡ 0 = omega (arith, r) in z))
+low_one n u e (inr r) =
+    inr (r.0, omega (arith, r.1), split_top n u ∙ ap (λ t. t * 2 ^ n + u % 2 ^ n) e ∙ (let z : 0 * 2 ^ n + u % 2 ^ n ≡ u % 2 ^ n = omega arith in z) ∙ r.2)
+
+few_step : (n u t : ℕ) → t < 2 → bit_at u n ≡ t → cond (nat_eq t 1) (suc (ones (bits n u))) (ones (bits n u)) ≤ 1 → (ones (bits n u) ≤ 1 → AtMostOne n u) → AtMostOne (suc n) u
+few_step n u zero small e h f = low_one n u e (f h)
+few_step n u (suc zero) small e h f =
+    let r = none n u (omega (arith, h)) in
+    inr (n, omega arith, split_top n u ∙ ap (λ t. t * 2 ^ n + u % 2 ^ n) e ∙ (let z : 1 * 2 ^ n + u % 2 ^ n ≡ 2 ^ n = omega (arith, r) in z))
+few_step n u (suc (suc t)) small e h f = absurd (omega (arith, small))
+
+few : (n u : ℕ) → ones (bits n u) ≤ 1 → AtMostOne n u
+few zero u h = inl (omega arith)
+few (suc n) u h = few_step n u (bit_at u n) (bit_at-lt u n) refl h (few n u)
+
+zeros : (n u : ℕ) → ((k : ℕ) → k < n → bit_at u k ≡ 0) → ones (bits n u) ≡ 0
+zeros zero u h = refl
+zeros (suc n) u h =
+    ap (λ t. cond (nat_eq t 1) (suc (ones (bits n u))) (ones (bits n u))) (h n (omega arith)) ∙ zeros n u (λ k less. h k (omega (arith, less)))
+
+one_of : (n i : ℕ) → ones (bits n (2 ^ i)) ≤ 1
+one_of zero i = omega arith
+one_of (suc n) i =
+    elim (eqb_tells n i) [
+      | inl t ↦
+          let e = t.1 in
+          let rest : ones (bits n (2 ^ i)) ≡ 0 = zeros n (2 ^ i) (λ k less. let ne : k ≡ i → ⊥ = (λ h. omega (arith, h, e, less)) in bit_at-pow_other i k ne) in
+          let top : bit_at (2 ^ i) n ≡ 1 = ap (bit_at (2 ^ i)) e ∙ bit_at-pow_same i in
+          let all : ones (bits (suc n) (2 ^ i)) ≡ suc (ones (bits n (2 ^ i))) = ap (λ t. cond (nat_eq t 1) (suc (ones (bits n (2 ^ i)))) (ones (bits n (2 ^ i)))) top in
+          omega (arith, all, rest)
+      | inr t ↦
+          let top : bit_at (2 ^ i) n ≡ 0 = bit_at-pow_other i n t.1 in
+          let all : ones (bits (suc n) (2 ^ i)) ≡ ones (bits n (2 ^ i)) = ap (λ t. cond (nat_eq t 1) (suc (ones (bits n (2 ^ i)))) (ones (bits n (2 ^ i)))) top in
+          omega (arith, all, one_of n i)
+    ]
+
+-- what two values within a mask differ in lies within it
+within_bit : (m a b : ℕ) → m < 2 → a < 2 → b < 2 → min a m ≡ a → min b m ≡ b → min m ((a + b) % 2) ≡ (a + b) % 2
+within_bit m a b hm ha hb h k = omega arith
+
+pub differ-within : (m a b : ℕ) → bit_and a m ≡ a → bit_and b m ≡ b → bit_and m (bit_xor a b) ≡ bit_xor a b
+differ-within m a b h k =
+    same_from_bits (bit_and m (bit_xor a b)) (bit_xor a b) (λ i.
+    bit_at_and m (bit_xor a b) i ∙ ap (min (bit_at m i)) (bit_at_xor a b i)
+    ∙ within_bit (bit_at m i) (bit_at a i) (bit_at b i) (bit_at-lt m i) (bit_at-lt a i) (bit_at-lt b i)
+    (sym (bit_at_and a m i) ∙ ap (λ x. bit_at x i) h) (sym (bit_at_and b m i) ∙ ap (λ x. bit_at x i) k)
+    ∙ sym (bit_at_xor a b i))
+
+-- a ^ (a ^ u) is u
+pub twice : (a u : ℕ) → bit_xor a (bit_xor a u) ≡ u
+twice a u = sym (xor_assoc a a u) ∙ ap (λ x. bit_xor x u) (xor_self a) ∙ xor_zero_l u
+
+abbrev pub word : ℕ → ℕ → ℕ → List Trit
+word n m a = trits (bits n m) (bits n a)
+
+same_lengths : (n m a : ℕ) → length (bits n m) ≡ length (bits n a)
+same_lengths n m a = length-bits n m ∙ sym (length-bits n a)
+
+near_step : (n m a b u : ℕ) → u < 2 ^ n → bit_xor a b ≡ u → bit_and m u ≡ u → AtMostOne n u → (b ≡ a) ⊎ ((i : ℕ) × (i < n) × (bit_and m (2 ^ i) ≡ 2 ^ i) × (b ≡ bit_xor a (2 ^ i)))
+near_step n m a b u small e w (inl h) =
+    let z : u ≡ 0 = sym (mod-eq_of_lt small) ∙ h in
+    inl (sym (twice a b) ∙ ap (bit_xor a) (e ∙ z ∙ sym (xor_self a)) ∙ twice a a)
+near_step n m a b u small e w (inr h) =
+    let p : u ≡ 2 ^ h.0 = sym (mod-eq_of_lt small) ∙ h.2 in
+    inr (h.0, h.1, ap (bit_and m) (sym p) ∙ w ∙ p, sym (twice a b) ∙ ap (bit_xor a) (e ∙ p))
+
+-- words that can be joined are near
+pub join-near : (n m a k b : ℕ) → m < 2 ^ n → k < 2 ^ n → bit_and a m ≡ a → bit_and b k ≡ b → CanJoin (word n m a) (word n k b) → IsNear n m a k b
+join-near n m a k b hm hk ha hb h =
+    let j = can-join-masks (bits n m) (bits n k) (bits n a) (bits n b) (same_lengths n m a) (same_lengths n k b) h in
+    let e : m ≡ k = same-number n m k hm hk j.0 in
+    let b_in : bit_and b m ≡ b = ap (bit_and b) e ∙ hb in
+    let w = differ-within m a b ha b_in in
+    let one : ones (bits n (bit_xor a b)) ≤ 1 =
+    subst (λ x. ones (bits n x) ≤ 1) w (subst (λ l. ones l ≤ 1) (unlike-number n m a b) j.1) in
+    let small : bit_xor a b < 2 ^ n = omega (arith, and_le_r (bit_xor a b) m, and_comm m (bit_xor a b), w, hm) in
+    (sym e, near_step n m a b (bit_xor a b) small refl w (few n (bit_xor a b) one))
+
+can-by-ones : (n m a b : ℕ) → ones (bits n (bit_and m (bit_xor a b))) ≤ 1 → CanJoin (word n m a) (word n m b)
+can-by-ones n m a b h =
+    masks-can-join (bits n m) (bits n a) (bits n b) (same_lengths n m a) (same_lengths n m b) (subst (λ l. ones l ≤ 1) (sym (unlike-number n m a b)) h)
+
+-- and near words can be joined: a word with itself
+pub joins-itself : (n m a : ℕ) → CanJoin (word n m a) (word n m a)
+joins-itself n m a =
+    let u : bit_and m (bit_xor a a) ≡ 0 = ap (bit_and m) (xor_self a) ∙ (let le = and_le_r m 0 in omega (arith, le)) in
+    can-by-ones n m a a (subst (λ x. ones (bits n x) ≤ 1) (sym u) (let z = zeros n 0 (λ k less. bit_at-zero k) in omega (arith, z)))
+
+-- and with the word that has another bit at a place of the mask
+pub joins-flipped : (n m a i : ℕ) → bit_and m (2 ^ i) ≡ 2 ^ i → CanJoin (word n m a) (word n m (bit_xor a (2 ^ i)))
+joins-flipped n m a i h =
+    let u : bit_and m (bit_xor a (bit_xor a (2 ^ i))) ≡ 2 ^ i = ap (bit_and m) (twice a (2 ^ i)) ∙ h in
+    can-by-ones n m a (bit_xor a (2 ^ i)) (subst (λ x. ones (bits n x) ≤ 1) (sym u) (one_of n i))
+
+-- the mask of the join has no bit in which they differ
+pub join-number : (n m a b : ℕ) → bit_and a m ≡ a → bit_and b m ≡ b →
+    join (word n m a) (word n m b) ≡ word n (bit_xor m (bit_xor a b)) (bit_and a (bit_xor m (bit_xor a b)))
+join-number n m a b ha hb =
+    let u = bit_xor a b in
+    let w = differ-within m a b ha hb in
+    let k = bit_xor m u in
+    join-masks (bits n m) (bits n a) (bits n b) (same_lengths n m a) (same_lengths n m b)
+    ∙ ap (λ l. trits (without_bits (bits n m) l) (bits n a)) (unlike-number n m a b ∙ ap (bits n) w)
+    ∙ ap (λ l. trits l (bits n a)) (without-number n m u w)
+    ∙ clear-masks (bits n k) (bits n a)
+    ∙ ap (trits (bits n k)) (both-number n k a ∙ ap (bits n) (and_comm k a))
+
+-- the join as a word of the code
+pub join-small : (n m a b : ℕ) → m < 2 ^ n → bit_and a m ≡ a → bit_and b m ≡ b → bit_xor m (bit_xor a b) < 2 ^ n
+join-small n m a b small ha hb =
+    let la = and_le_r a m in
+    let lb = and_le_r b m in
+    xor_lt n m (bit_xor a b) small (xor_lt n a b (omega (arith, la, ha, small)) (omega (arith, lb, hb, small)))
+
+pub join-masked : (a k : ℕ) → bit_and (bit_and a k) k ≡ bit_and a k
+join-masked a k = and_assoc k a k ∙ ap (bit_and a) (and_self k)
+
+-- the second word of two that can be joined has the first one's mask
+pub one-mask : (n m a k b : ℕ) → m < 2 ^ n → k < 2 ^ n → bit_and a m ≡ a → bit_and b k ≡ b → CanJoin (word n m a) (word n k b) → k ≡ m
+one-mask n m a k b hm hk ha hb h = (join-near n m a k b hm hk ha hb h).0
+
+pub join-is : (n m a k b : ℕ) → m < 2 ^ n → k < 2 ^ n → bit_and a m ≡ a → bit_and b k ≡ b → CanJoin (word n m a) (word n k b) →
+    word n (bit_xor m (bit_xor a b)) (bit_and a (bit_xor m (bit_xor a b))) ≡ join (word n m a) (word n k b)
+join-is n m a k b hm hk ha hb h =
+    let e = one-mask n m a k b hm hk ha hb h in
+    let b_in : bit_and b m ≡ b = ap (bit_and b) (sym e) ∙ hb in
+    sym (join-number n m a b ha b_in) ∙ ap (λ x. join (word n m a) (word n x b)) (sym e)
+
+pub join-fits : (n m a k b : ℕ) → m < 2 ^ n → k < 2 ^ n → bit_and a m ≡ a → bit_and b k ≡ b → CanJoin (word n m a) (word n k b) → bit_xor m (bit_xor a b) < 2 ^ n
+join-fits n m a k b hm hk ha hb h =
+    let e = one-mask n m a k b hm hk ha hb h in
+    let b_in : bit_and b m ≡ b = ap (bit_and b) (sym e) ∙ hb in
+    join-small n m a b hm ha b_in

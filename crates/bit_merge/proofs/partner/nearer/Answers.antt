@@ -1,0 +1,19 @@
+use Rattle.std.proofs.Common.{ap, subst, sym, ◌∙◌}
+use Rattle.std.specs.Prelude.{bit_and, bit_xor}
+use Rattle.bit_merge.specs.Slots.{IsLeast, IsWord}
+use Rattle.bit_merge.proofs.Nearness.{has-bit}
+use Rattle.bit_merge.proofs.Leasts.{least-skip, least-next}
+use Rattle.bit_merge.proofs.partner.nearer.Goals as goal
+
+pub returns-then-word-one-eq0 : goal.returns-then-word-one-eq0
+returns-then-word-one-eq0 c =
+    let w = c.args.word.now in
+    least-skip c.args.places.now w c.args.bit c.args.found (ap (bit_and w.mask) (sym c.only-one.ensures) ∙ c.if-word-one-eq0.true) c.requires.found
+
+pub returns : goal.returns
+returns c =
+    let bit = c.args.bit in
+    let w = c.args.word.now in
+    let has = has-bit w.mask bit (λ e. c.if-word-one-eq0.false (ap (bit_and w.mask) c.only-one.ensures ∙ e)) in
+    let found = subst (λ x. IsLeast c.args.places.now (IsWord w.mask (bit_xor w.value x)) c.least_place.result) c.only-one.ensures c.least_place.ensures in
+    subst (IsLeast c.args.places.now _) (sym c.lesser.ensures) (least-next c.args.places.now w bit c.args.found c.least_place.result has c.requires.found found)
