@@ -12,3 +12,4 @@ pub mod CheckEnding
 pub mod SelfRun
 pub mod SpelledNames
 mod Unread
+pub mod Headlines

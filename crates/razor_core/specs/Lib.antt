@@ -22,3 +22,4 @@ pub mod Runs
 pub mod Says
 pub mod Verdicts
 pub mod Promise
+pub mod Headlines

@@ -6,6 +6,7 @@ mod certifying;
 mod comparison;
 mod ending;
 mod input;
+pub mod laws;
 mod line_reason;
 mod load;
 mod making;

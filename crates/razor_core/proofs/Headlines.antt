@@ -1,0 +1,221 @@
+-- What status 0 of a command means, over bytes.
+use Rattle.std.proofs.Common.{◌≡◌, ℕ, List, [], ◌∷◌, Some, ap, inl, inr, refl, subst, sym, ◌∙◌}
+use Rattle.std.specs.Prelude.{Bool, true, false, Option, Ok, Err, Result, IsSome, length, map, unwrap_or, if◌then◌else◌}
+use Rattle.filter_reader.specs.FilterList as lists
+use Rattle.filter_reader.specs.FilterList.{FilterList, list_of}
+use Rattle.table_text.specs.Reading as tables
+use Rattle.bank_update.specs.Script as scripts
+use Rattle.table_text.specs.Reading.{table_in_text}
+use Rattle.ternary_words.specs.Table.{Table}
+use Rattle.field_boxes.specs.Classifier.{Rule}
+use Rattle.filter_reader.specs.ListText.{list_text}
+use Rattle.list_generator.specs.DrawnRules.{generated}
+use Rattle.razor_core.specs.SelfRuns.{Summarises}
+use Rattle.razor_core.specs.Traced.{answers_text, taken_of}
+use Rattle.razor_core.specs.Written.{IsCertificateOf}
+use Rattle.command_words.specs.declared.command.Method.{Method}
+use Rattle.command_words.specs.declared.command.Method.TheVariants.{Compile, Expand}
+use Rattle.razor_core.specs.Certified.{AnswerAlike}
+use Rattle.razor_core.specs.Command.{Command, Cert, Check, Drive, Equiv, Gen, Make, Migrate, Selfrun, Sizes, Trace}
+use Rattle.razor_core.specs.Comparison.{DecideAlike}
+use Rattle.razor_core.specs.Headlines.{Adds, AreAlike, AreEqualLists, IsAnswered, IsCertified, IsCompiledText, IsDriven, IsExpandedText, IsMigrated}
+use Rattle.razor_core.specs.Making.{IsMade}
+use Rattle.razor_core.specs.Inputs.{Input, Value, as_list, as_script, as_table, certificate_input, lines_value, is_too_long, list_input, list_value, script_input, script_value, table_input, table_value, trace_input, text_of_list, text_of_script, text_of_table}
+use Rattle.razor_core.specs.Outcome.{Certifies, Compares, Gives, IsTextOf, Outcome, Writes}
+use Rattle.razor_core.specs.Outside.{Outside, Tells, bytes_at}
+use Rattle.razor_core.specs.Turns.{Stop, before_others, stopped_by, turn, turns_of}
+use Rattle.razor_core.specs.Promise.{KeepsPromise}
+
+-- turns that pass, one by one
+pub record IsFirst (turned : Result Value Stop) (others : Result (List Value) Stop) (values : List Value) : Type 0 where
+  pub value : Value
+  pub rest : List Value
+  pub turned_is : turned ≡ Ok value
+  pub others_are : others ≡ Ok rest
+  pub values_are : values ≡ value ∷ rest
+
+pub first_of : (turned : Result Value Stop) (others : Result (List Value) Stop) (values : List Value) → before_others turned others ≡ Ok values → IsFirst turned others values
+first_of (Err stop) others values h = absurd cc
+first_of (Ok value) (Err stop) values h = absurd cc
+first_of (Ok value) (Ok rest) values h = record { value = value; rest = rest; turned_is = refl; others_are = refl; values_are = cc }
+
+in_front : (values rest known : List Value) (a x : Value) → values ≡ a ∷ rest → a ≡ x → rest ≡ known → values ≡ x ∷ known
+in_front values rest known a x first is later = cc
+
+two_are : (values rest more : List Value) (a b x y : Value) → values ≡ a ∷ rest → a ≡ x → rest ≡ b ∷ more → b ≡ y → values ≡ x ∷ y ∷ more
+two_are values rest more a b x y first is second also = cc
+
+-- a list whose turn passes
+listed_by : (long : Bool) (read : Result FilterList lists.BadLine) (name : List ℕ) (stop : Stop) (value : Value) → (if long then Err stop else stopped_by name (as_list read)) ≡ Ok value →
+    (list : FilterList) × (read ≡ Ok list) × (value ≡ list_value list)
+listed_by true read name stop value h = absurd cc
+listed_by false (Ok list) name stop value h = (list, refl, cc)
+listed_by false (Err bad) name stop value h = absurd cc
+
+pub listed : (name text : List ℕ) (value : Value) → turn (list_input name) text ≡ Ok value → (list : FilterList) × (list_of text ≡ Ok list) × (value ≡ list_value list)
+listed name text value h = listed_by (is_too_long text_of_list (length text)) (list_of text) name _ value h
+
+-- a table whose turn passes
+tabled_by : (long : Bool) (read : Result Table tables.BadLine) (name : List ℕ) (stop : Stop) (value : Value) → (if long then Err stop else stopped_by name (as_table read)) ≡ Ok value →
+    (table : Table) × (read ≡ Ok table) × (value ≡ table_value table)
+tabled_by true read name stop value h = absurd cc
+tabled_by false (Ok table) name stop value h = (table, refl, cc)
+tabled_by false (Err bad) name stop value h = absurd cc
+
+pub tabled : (name text : List ℕ) (value : Value) → turn (table_input name) text ≡ Ok value → (table : Table) × (table_in_text text ≡ Ok table) × (value ≡ table_value table)
+tabled name text value h = tabled_by (is_too_long text_of_table (length text)) (table_in_text text) name _ value h
+
+-- a script whose turn passes
+scripted_by : (long : Bool) (read : Result (List scripts.Event) scripts.BadLine) (name : List ℕ) (stop : Stop) (value : Value) → (if long then Err stop else stopped_by name (as_script read)) ≡ Ok value →
+    (events : List scripts.Event) × (read ≡ Ok events) × (value ≡ script_value events)
+scripted_by true read name stop value h = absurd cc
+scripted_by false (Ok events) name stop value h = (events, refl, cc)
+scripted_by false (Err bad) name stop value h = absurd cc
+
+scripted : (tables : ℕ) (name text : List ℕ) (value : Value) → turn (script_input tables name) text ≡ Ok value → (events : List scripts.Event) × (scripts.script_of tables text ≡ Ok events) × (value ≡ script_value events)
+scripted tables name text value h = scripted_by (is_too_long (text_of_script tables) (length text)) (scripts.script_of tables text) name _ value h
+
+-- the bytes that are told
+pub told : (known : Option (List ℕ)) (text : List ℕ) → known ≡ Some text → IsSome known
+told known text is = rw is refl
+
+pub bytes_are : (known : Option (List ℕ)) (text : List ℕ) → known ≡ Some text → unwrap_or known [] ≡ text
+bytes_are known text is = rw is refl
+
+-- a text that is taken line by line
+lined : (text : List ℕ) (value : Value) (turned : Result Value Stop) → turned ≡ Ok (lines_value text) → turned ≡ Ok value → value ≡ lines_value text
+lined text value turned taken h = cc
+
+-- the turn of an input that is told
+pub turn_told : (before : Outside) (input : Input) (text : List ℕ) (value : Value) → before.remaining input.name ≡ Some text → turn input (bytes_at before input.name) ≡ Ok value → turn input text ≡ Ok value
+turn_told before input text value known h = subst (λ (t : List ℕ). turn input t ≡ Ok value) (bytes_are (before.remaining input.name) text known) h
+
+module _ (before after : Outside) (line : List ℕ) where
+  -- a table that was made of a list
+  pub made : (method : Method) (sizes : Sizes) (file text : List ℕ) → KeepsPromise (Make method sizes file) before after line 0 → before.remaining file ≡ Some text →
+      (list : FilterList) × (list_of text ≡ Ok list) × Adds before after (λ written. (table : Table) × IsMade method list.rules sizes.slot table × IsTextOf table written)
+  made method sizes file text is known =
+      let command : Command = Make method sizes file in
+      let done = is.done refl (told (before.remaining file) text known, tt) in
+      let first = first_of (turn (list_input file) (bytes_at before file)) (Ok []) done.values done.pass.turns in
+      let read = listed file text first.value (turn_told before (list_input file) text first.value known first.turned_is) in
+      let gives = subst (λ (v : Value). Gives command (v ∷ first.rest) done.outcome) read.2 (subst (λ (vs : List Value). Gives command vs done.outcome) first.values_are done.gives) in
+      (read.0, read.1, (done.outcome.text, done.written, (gives.table, gives.meets, gives.text)))
+
+  pub compiled : (sizes : Sizes) (file text : List ℕ) → KeepsPromise (Make Compile sizes file) before after line 0 → before.remaining file ≡ Some text → Adds before after (IsCompiledText sizes.slot text)
+  compiled sizes file text is known =
+      let h = made Compile sizes file text is known in
+      let table = h.2.2.0 in
+      let meets = h.2.2.1 in
+      (h.2.0, h.2.1, record { list = h.0; table = table; spelled = h.1; reads_back = h.2.2.2.spells; slot = meets.slot; answers = meets.answers; least = meets.composed; few = meets.few; tight = meets.tight })
+
+  pub expanded : (sizes : Sizes) (file text : List ℕ) → KeepsPromise (Make Expand sizes file) before after line 0 → before.remaining file ≡ Some text → Adds before after (IsExpandedText sizes.slot text)
+  expanded sizes file text is known =
+      let h = made Expand sizes file text is known in
+      let table = h.2.2.0 in
+      let meets = h.2.2.1 in
+      (h.2.0, h.2.1, record { list = h.0; table = table; spelled = h.1; reads_back = h.2.2.2.spells; slot = meets.slot; answers = meets.answers; entries = meets.entries; count = meets.composed })
+
+  alike_by : (left right : List (Rule (List ℕ))) (outcome : Outcome) → Compares left right outcome → outcome.yes ≡ true → DecideAlike left right
+  alike_by left right outcome (inl h) agreed = h.0
+  alike_by left right outcome (inr h) agreed = let same : false ≡ true = sym (ap (λ (o : Outcome). o.yes) h.2) ∙ agreed in absurd cc
+
+  pub equal : (left right first second : List ℕ) → KeepsPromise (Equiv left right) before after line 0 → before.remaining left ≡ Some first → before.remaining right ≡ Some second → AreEqualLists first second
+  equal left right first second is known also =
+      let command : Command = Equiv left right in
+      let done = is.done refl (told (before.remaining left) first known, (told (before.remaining right) second also, tt)) in
+      let one = first_of (turn (list_input left) (bytes_at before left)) (turns_of before (list_input right ∷ [])) done.values done.pass.turns in
+      let two = first_of (turn (list_input right) (bytes_at before right)) (Ok []) one.rest one.others_are in
+      let read = listed left first one.value (turn_told before (list_input left) first one.value known one.turned_is) in
+      let also_read = listed right second two.value (turn_told before (list_input right) second two.value also two.turned_is) in
+      let values = two_are done.values one.rest two.rest one.value two.value (list_value read.0) (list_value also_read.0) one.values_are read.2 two.values_are also_read.2 in
+      let gives = subst (λ (vs : List Value). Gives command vs done.outcome) values done.gives in
+      record { left = read.0; right = also_read.0; left_spelled = read.1; right_spelled = also_read.1; alike = alike_by read.0.rules also_read.0.rules done.outcome gives done.answered }
+
+  shown_by : (rules : FilterList) (entries : Table) (text : List ℕ) (outcome : Outcome) → Certifies rules entries text outcome → outcome.yes ≡ true → AnswerAlike rules entries
+  shown_by rules entries text outcome (inl h) agreed = h.1.alike
+  shown_by rules entries text outcome (inr h) agreed = let same : false ≡ true = sym (ap (λ (o : Outcome). o.yes) h.3) ∙ agreed in absurd cc
+
+  pub shown : (list table certificate first second third : List ℕ) → KeepsPromise (Check list table certificate) before after line 0 →
+      before.remaining list ≡ Some first → before.remaining table ≡ Some second → before.remaining certificate ≡ Some third → AreAlike first second
+  shown list table certificate first second third is known also last =
+      let command : Command = Check list table certificate in
+      let tells : Tells before command = (told (before.remaining list) first known, (told (before.remaining table) second also, (told (before.remaining certificate) third last, tt))) in
+      let done = is.done refl tells in
+      let one = first_of (turn (list_input list) (bytes_at before list)) (turns_of before (table_input table ∷ certificate_input certificate ∷ [])) done.values done.pass.turns in
+      let two = first_of (turn (table_input table) (bytes_at before table)) (turns_of before (certificate_input certificate ∷ [])) one.rest one.others_are in
+      let three = first_of (turn (certificate_input certificate) (bytes_at before certificate)) (Ok []) two.rest two.others_are in
+      let read = listed list first one.value (turn_told before (list_input list) first one.value known one.turned_is) in
+      let also_read = tabled table second two.value (turn_told before (table_input table) second two.value also two.turned_is) in
+      let lines : three.value ≡ lines_value (bytes_at before certificate) = lined (bytes_at before certificate) three.value (turn (certificate_input certificate) (bytes_at before certificate)) refl three.turned_is in
+      let last_two = two_are one.rest two.rest three.rest two.value three.value (table_value also_read.0) (lines_value (bytes_at before certificate)) two.values_are also_read.2 three.values_are lines in
+      let values = in_front done.values one.rest (table_value also_read.0 ∷ lines_value (bytes_at before certificate) ∷ three.rest) one.value (list_value read.0) one.values_are read.2 last_two in
+      let gives = subst (λ (vs : List Value). Gives command vs done.outcome) values done.gives in
+      record { list = read.0; table = also_read.0; list_spelled = read.1; table_spelled = also_read.1; alike = shown_by read.0 also_read.0 (bytes_at before certificate) done.outcome gives done.answered }
+
+  certificate_by : (rules : FilterList) (entries : Table) (outcome : Outcome) → Writes rules entries outcome → outcome.yes ≡ true → IsCertificateOf rules entries outcome.text
+  certificate_by rules entries outcome (inl h) agreed = subst (IsCertificateOf rules entries) (sym (ap (λ (o : Outcome). o.text) h.2)) h.1
+  certificate_by rules entries outcome (inr h) agreed = let same : false ≡ true = sym (ap (λ (o : Outcome). o.yes) h.2) ∙ agreed in absurd cc
+
+  pub certified : (list table first second : List ℕ) → KeepsPromise (Cert list table) before after line 0 → before.remaining list ≡ Some first → before.remaining table ≡ Some second → Adds before after (IsCertified first second)
+  certified list table first second is known also =
+      let command : Command = Cert list table in
+      let done = is.done refl (told (before.remaining list) first known, (told (before.remaining table) second also, tt)) in
+      let one = first_of (turn (list_input list) (bytes_at before list)) (turns_of before (table_input table ∷ [])) done.values done.pass.turns in
+      let two = first_of (turn (table_input table) (bytes_at before table)) (Ok []) one.rest one.others_are in
+      let read = listed list first one.value (turn_told before (list_input list) first one.value known one.turned_is) in
+      let also_read = tabled table second two.value (turn_told before (table_input table) second two.value also two.turned_is) in
+      let values = two_are done.values one.rest two.rest one.value two.value (list_value read.0) (table_value also_read.0) one.values_are read.2 two.values_are also_read.2 in
+      let gives = subst (λ (vs : List Value). Gives command vs done.outcome) values done.gives in
+      (done.outcome.text, done.written, record { list = read.0; table = also_read.0; list_spelled = read.1; table_spelled = also_read.1; certificate = certificate_by read.0 also_read.0 done.outcome gives done.answered })
+
+  pub answered : (table trace first second : List ℕ) → KeepsPromise (Trace table trace) before after line 0 → before.remaining table ≡ Some first → before.remaining trace ≡ Some second → Adds before after (IsAnswered first second)
+  answered table trace first second is known also =
+      let command : Command = Trace table trace in
+      let done = is.done refl (told (before.remaining table) first known, (told (before.remaining trace) second also, tt)) in
+      let one = first_of (turn (table_input table) (bytes_at before table)) (turns_of before (trace_input trace ∷ [])) done.values done.pass.turns in
+      let two = first_of (turn (trace_input trace) (bytes_at before trace)) (Ok []) one.rest one.others_are in
+      let read = tabled table first one.value (turn_told before (table_input table) first one.value known one.turned_is) in
+      let lines : two.value ≡ lines_value (bytes_at before trace) = lined (bytes_at before trace) two.value (turn (trace_input trace) (bytes_at before trace)) refl two.turned_is in
+      let values = two_are done.values one.rest two.rest one.value two.value (table_value read.0) (lines_value (bytes_at before trace)) one.values_are read.2 two.values_are lines in
+      let gives = subst (λ (vs : List Value). Gives command vs done.outcome) values done.gives in
+      let text = ap (λ (o : Outcome). o.text) gives ∙ ap (λ (bytes : List ℕ). answers_text read.0 (taken_of bytes).headers) (bytes_are (before.remaining trace) second also) in
+      (done.outcome.text, done.written, record { table = read.0; table_spelled = read.1; answers = text })
+
+  pub migrated : (file text : List ℕ) → KeepsPromise (Migrate file) before after line 0 → before.remaining file ≡ Some text → Adds before after (IsMigrated text)
+  migrated file text is known =
+      let command : Command = Migrate file in
+      let done = is.done refl (told (before.remaining file) text known, tt) in
+      let first = first_of (turn (table_input file) (bytes_at before file)) (Ok []) done.values done.pass.turns in
+      let read = tabled file text first.value (turn_told before (table_input file) text first.value known first.turned_is) in
+      let gives = subst (λ (v : Value). Gives command (v ∷ first.rest) done.outcome) read.2 (subst (λ (vs : List Value). Gives command vs done.outcome) first.values_are done.gives) in
+      (done.outcome.text, done.written, record { table = read.0; table_spelled = read.1; compact = gives.0.written; reads_back = gives.0.spells })
+
+  pub drawn : (seed rules : ℕ) → KeepsPromise (Gen seed rules) before after line 0 → Adds before after (λ written. written ≡ list_text (generated seed rules).rules)
+  drawn seed rules is =
+      let done = is.done refl tt in
+      (done.outcome.text, done.written, ap (λ (o : Outcome). o.text) done.gives)
+
+  pub summed_up : (seed rules : ℕ) → KeepsPromise (Selfrun seed rules) before after line 0 → Adds before after (Summarises seed rules)
+  summed_up seed rules is =
+      let done = is.done refl tt in
+      (done.outcome.text, done.written, done.gives.0)
+
+  pub driven : (slots : ℕ) (script : List ℕ) (tables : List (List ℕ)) (text : List ℕ) → KeepsPromise (Drive slots script tables) before after line 0 → Tells before (Drive slots script tables) → before.remaining script ≡ Some text →
+      Adds before after (IsDriven slots before tables text)
+  driven slots script tables text is tells known =
+      let command : Command = Drive slots script tables in
+      let done = is.done refl tells in
+      let first = first_of (turn (script_input (length tables) script) (bytes_at before script)) (turns_of before (map table_input tables)) done.values done.pass.turns in
+      let read = scripted (length tables) script text first.value (turn_told before (script_input (length tables) script) text first.value known first.turned_is) in
+      let gives = subst (λ (v : Value). Gives command (v ∷ first.rest) done.outcome) read.2 (subst (λ (vs : List Value). Gives command vs done.outcome) first.values_are done.gives) in (
+        done.outcome.text,
+        done.written,
+        record {
+          events = read.0;
+          tables = gives.tables;
+          script_spelled = read.1;
+          tables_spelled = first.others_are ∙ ap (λ (vs : List Value). let r : Result (List Value) Stop = Ok vs in r) (sym gives.values_are);
+          lines = ap (λ (o : Outcome). o.text) gives.says;
+        },
+      )

@@ -1,0 +1,100 @@
+-- What status 0 of a command means, over the bytes of its inputs and of its output.
+use Rattle.std.specs.Prelude.{◌≡◌, ◌≤◌, ℕ, List, length, map, Ok}
+use Rattle.std.specs.Io.KnownBytes.{Appends}
+use Rattle.std.specs.List.{concat}
+use Rattle.bank_update.specs.Machine.{unsettled}
+use Rattle.bank_update.specs.Runs.{session}
+use Rattle.bank_update.specs.Script.{Event, script_of}
+use Rattle.field_boxes.specs.Classifier.{source}
+use Rattle.field_boxes.specs.Fields.{IsHeader, stated}
+use Rattle.filter_reader.specs.FilterList.{FilterList, list_of}
+use Rattle.rule_compilation.specs.Compiled.{IsTight}
+use Rattle.rule_expansion.specs.Expansion.{expanded_count, expansion}
+use Rattle.table_compose.specs.LeastCost.{IsLeastCost}
+use Rattle.table_text.specs.Reading.{table_in_text}
+use Rattle.ternary_words.specs.Table.{Table, answer}
+use Rattle.ternary_words.specs.TableText.{table_text}
+use Rattle.ternary_words.specs.declared.table.Table as code
+use Rattle.razor_core.specs.Certified.{AnswerAlike}
+use Rattle.razor_core.specs.Comparison.{DecideAlike}
+use Rattle.razor_core.specs.Inputs.{table_input}
+use Rattle.razor_core.specs.Outcome.{value_of_table}
+use Rattle.razor_core.specs.Outside.{Outside}
+use Rattle.razor_core.specs.Traced.{answers_text, taken_of}
+use Rattle.razor_core.specs.Turns.{turns_of}
+use Rattle.razor_core.specs.Written.{IsCertificateOf}
+
+-- the output is the text of a table whose first match gives every header the decision of the list's first match; its
+-- number is the list's field-by-field least cost, it has at most so many entries, and none of them can go
+pub record IsCompiledText (width : ℕ) (list_bytes written : List ℕ) : Type 0 where
+  pub list : FilterList
+  pub table : Table
+  pub spelled : list_of list_bytes ≡ Ok list
+  pub reads_back : table_in_text written ≡ Ok table
+  pub slot : table.slot ≡ width
+  pub answers : (header : List ℕ) → IsHeader header → answer table.entries header ≡ source stated header list.rules
+  pub least : IsLeastCost stated list.rules table.composed
+  pub few : length table.entries ≤ table.composed
+  pub tight : IsTight table.entries
+
+-- the output is the text of the direct expansion, whose first match gives every header the decision of the list's first
+-- match
+pub record IsExpandedText (width : ℕ) (list_bytes written : List ℕ) : Type 0 where
+  pub list : FilterList
+  pub table : Table
+  pub spelled : list_of list_bytes ≡ Ok list
+  pub reads_back : table_in_text written ≡ Ok table
+  pub slot : table.slot ≡ width
+  pub answers : (header : List ℕ) → IsHeader header → answer table.entries header ≡ source stated header list.rules
+  pub entries : table.entries ≡ expansion list.rules
+  pub count : table.composed ≡ expanded_count list.rules
+
+-- both lists give every header one decision, by name
+pub record AreEqualLists (left_bytes right_bytes : List ℕ) : Type 0 where
+  pub left : FilterList
+  pub right : FilterList
+  pub left_spelled : list_of left_bytes ≡ Ok left
+  pub right_spelled : list_of right_bytes ≡ Ok right
+  pub alike : DecideAlike left.rules right.rules
+
+-- list and table give every header one decision, by name
+pub record AreAlike (list_bytes table_bytes : List ℕ) : Type 0 where
+  pub list : FilterList
+  pub table : Table
+  pub list_spelled : list_of list_bytes ≡ Ok list
+  pub table_spelled : table_in_text table_bytes ≡ Ok table
+  pub alike : AnswerAlike list table
+
+-- the output is the one good and coarsest certificate of list and table
+pub record IsCertified (list_bytes table_bytes written : List ℕ) : Type 0 where
+  pub list : FilterList
+  pub table : Table
+  pub list_spelled : list_of list_bytes ≡ Ok list
+  pub table_spelled : table_in_text table_bytes ≡ Ok table
+  pub certificate : IsCertificateOf list table written
+
+-- the output is what the table answers to each header of the trace in order
+pub record IsAnswered (table_bytes trace_bytes written : List ℕ) : Type 0 where
+  pub table : Table
+  pub table_spelled : table_in_text table_bytes ≡ Ok table
+  pub answers : written ≡ answers_text table (taken_of trace_bytes).headers
+
+-- the output is the compact text of the table that the input spells
+pub record IsMigrated (table_bytes written : List ℕ) : Type 0 where
+  pub table : Table
+  pub table_spelled : table_in_text table_bytes ≡ Ok table
+  pub compact : written ≡ table_text table
+  pub reads_back : table_in_text written ≡ Ok table
+
+-- the output is what the commands of the script print in turn over the tables, in a memory of so many slots that never
+-- fails
+pub record IsDriven (slots : ℕ) (before : Outside) (files : List (List ℕ)) (script_bytes written : List ℕ) : Type 0 where
+  pub events : List Event
+  pub tables : List code.Table
+  pub script_spelled : script_of (length files) script_bytes ≡ Ok events
+  pub tables_spelled : turns_of before (map table_input files) ≡ Ok (map value_of_table tables)
+  pub lines : written ≡ concat (session tables (unsettled slots) events)
+
+-- what was added to the output is so
+abbrev pub Adds : Outside → Outside → (List ℕ → Type 0) → Type 0
+Adds before after Is = (written : List ℕ) × Appends before.written after.written written × Is written

@@ -1,0 +1,82 @@
+//! What status 0 of each command means over bytes, from what the top call promises of the command alone. The functions do
+//! nothing.
+ghost use Rattle.std.specs.Prelude.{◌≡◌, ℕ, List, Some};
+ghost use Rattle.command_words.specs.declared.command.Method.TheVariants.{Expand, Compile};
+ghost use Rattle.razor_core.specs.Command.{Cert, Check, Drive, Equiv, Gen, Make, Migrate, Selfrun, Sizes, Trace};
+ghost use Rattle.razor_core.specs.Headlines.{Adds, AreAlike, AreEqualLists, IsAnswered, IsCertified, IsCompiledText, IsDriven, IsExpandedText, IsMigrated};
+ghost use Rattle.razor_core.specs.Outside.{Outside, Tells};
+ghost use Rattle.razor_core.specs.Promise.{KeepsPromise};
+ghost use Rattle.razor_core.specs.SelfRuns.{Summarises};
+ghost use Rattle.list_generator.specs.DrawnRules.{generated};
+ghost use Rattle.filter_reader.specs.ListText.{list_text};
+
+/// What `compile` has written is a table that decides as the list, of the least cost, with no entry to spare.
+pub fn compiled_tables_decide_as_their_lists()
+    ensures { (before after : Outside) (line : List ℕ) (sizes : Sizes) (file text : List ℕ) →
+        KeepsPromise (Make Compile sizes file) before after line 0 → before.remaining file ≡ Some text →
+        Adds before after (IsCompiledText sizes.slot text) }
+{}
+
+/// What `expand` has written is the direct expansion, which decides as the list.
+pub fn expanded_tables_decide_as_their_lists()
+    ensures { (before after : Outside) (line : List ℕ) (sizes : Sizes) (file text : List ℕ) →
+        KeepsPromise (Make Expand sizes file) before after line 0 → before.remaining file ≡ Some text →
+        Adds before after (IsExpandedText sizes.slot text) }
+{}
+
+/// Where `equiv` says that two lists are equal, they decide every header alike.
+pub fn equal_lists_decide_alike()
+    ensures { (before after : Outside) (line : List ℕ) (left right first second : List ℕ) →
+        KeepsPromise (Equiv left right) before after line 0 → before.remaining left ≡ Some first → before.remaining right ≡ Some second →
+        AreEqualLists first second }
+{}
+
+/// Where `check` says that a certificate is valid, list and table decide every header alike, whoever made it.
+pub fn valid_certificates_show_agreement()
+    ensures { (before after : Outside) (line : List ℕ) (list table certificate first second third : List ℕ) →
+        KeepsPromise (Check list table certificate) before after line 0 →
+        before.remaining list ≡ Some first → before.remaining table ≡ Some second → before.remaining certificate ≡ Some third →
+        AreAlike first second }
+{}
+
+/// What `cert` has written is the one good and coarsest certificate of the list and the table.
+pub fn certificates_are_those_of_list_and_table()
+    ensures { (before after : Outside) (line : List ℕ) (list table first second : List ℕ) →
+        KeepsPromise (Cert list table) before after line 0 → before.remaining list ≡ Some first → before.remaining table ≡ Some second →
+        Adds before after (IsCertified first second) }
+{}
+
+/// What `trace` has written is what the table answers to each header in order.
+pub fn traces_are_answered_by_the_table()
+    ensures { (before after : Outside) (line : List ℕ) (table trace first second : List ℕ) →
+        KeepsPromise (Trace table trace) before after line 0 → before.remaining table ≡ Some first → before.remaining trace ≡ Some second →
+        Adds before after (IsAnswered first second) }
+{}
+
+/// What `drive` has written is the line of each command of the script, run over the tables.
+pub fn scripts_print_their_sessions()
+    ensures { (before after : Outside) (line : List ℕ) (slots : ℕ) (script : List ℕ) (tables : List (List ℕ)) (text : List ℕ) →
+        KeepsPromise (Drive slots script tables) before after line 0 → Tells before (Drive slots script tables) → before.remaining script ≡ Some text →
+        Adds before after (IsDriven slots before tables text) }
+{}
+
+/// What `migrate` has written spells the table that was read, compactly.
+pub fn migrated_tables_are_those_read()
+    ensures { (before after : Outside) (line : List ℕ) (file text : List ℕ) →
+        KeepsPromise (Migrate file) before after line 0 → before.remaining file ≡ Some text →
+        Adds before after (IsMigrated text) }
+{}
+
+/// What `gen` has written is the list that the seed gives.
+pub fn lists_are_those_of_the_seed()
+    ensures { (before after : Outside) (line : List ℕ) (seed rules : ℕ) →
+        KeepsPromise (Gen seed rules) before after line 0 →
+        Adds before after (λ written. written ≡ list_text (generated seed rules).rules) }
+{}
+
+/// What `selfrun` has written sums up the load that the seed gives.
+pub fn loads_are_summed_up()
+    ensures { (before after : Outside) (line : List ℕ) (seed rules : ℕ) →
+        KeepsPromise (Selfrun seed rules) before after line 0 →
+        Adds before after (Summarises seed rules) }
+{}
