@@ -17,21 +17,22 @@ use Rattle.partition_check.specs.Good.{certificate_text}
 use Rattle.partition_check.specs.PrefixWords.{ArePrefixes, IsFirstOther}
 use Rattle.box_partition.specs.Difference.{IsFirstDifference}
 use Rattle.box_partition.specs.Outcome.{IsCut, IsWritten}
+use Rattle.command_words.specs.Command.{Command, Cert}
 use Rattle.razor_core.specs.declared.ending.Ending.{Ending}
 use Rattle.razor_core.specs.declared.ending.Ending.TheVariants.{Done, No, BadLine as Bad, TooLong, TooMany, ReadFault, WriteFault, Memory}
 use Rattle.razor_core.specs.declared.ending.Summary.{Summary}
 use Rattle.razor_core.specs.declared.ending.Summary.TheVariants.{Nothing}
 use Rattle.razor_core.specs.declared.line_reason.LineReason.TheVariants.{NotPrefix}
-use Rattle.razor_core.specs.CertEnds.{IsEndOfCert, SaysDifference}
-use Rattle.razor_core.specs.Command.{Command, Cert}
-use Rattle.razor_core.specs.Comparison.{differ_line}
+use Rattle.razor_core.specs.Cert.{IsEndOfCert, SaysDifference, IsFirstOtherWord}
+use Rattle.razor_core.specs.Equiv.{differ_line}
 use Rattle.razor_core.specs.Inputs.{BadLine, Value, inputs, list_input, table_input}
-use Rattle.razor_core.specs.Outcome.{Outcome, Gives}
+use Rattle.razor_core.specs.Outcome.{Outcome}
+use Rattle.razor_core.specs.Gives.{Gives}
 use Rattle.razor_core.specs.Outside.{Outside, Tells}
 use Rattle.razor_core.specs.Standing.{IsCutOff}
 use Rattle.razor_core.specs.Taking.{TakesTurn, table_value_of, value_of}
-use Rattle.razor_core.specs.Turns.{IsFree, bad_line, too_long, too_many}
-use Rattle.razor_core.specs.Written.{IsFirstOtherWord}
+use Rattle.razor_core.specs.Stopping.{IsFree}
+use Rattle.razor_core.specs.Turns.{bad_line, too_long, too_many}
 use Rattle.razor_core.specs.Ending.{Ends, Stops}
 use Rattle.razor_core.proofs.Ended.{done_ends}
 use Rattle.razor_core.proofs.Turns.{AllRead, Passed, ends_in_turn, passed_taken, read_taken, turns_pass}

@@ -14,18 +14,19 @@ use Rattle.partition_check.specs.Agreement.{Agree}
 use Rattle.partition_check.specs.Checking.{Checking, begun}
 use Rattle.partition_check.specs.Streams.{ReadsTooMuch, ReadsUpTo, ReadsValid, ReadsWrong}
 use Rattle.partition_check.specs.declared.row.Wrong.{Wrong}
+use Rattle.command_words.specs.Command.{Command, Check}
 use Rattle.razor_core.specs.declared.ending.Ending.{Ending}
 use Rattle.razor_core.specs.declared.ending.Ending.TheVariants.{Done, No, BadLine as Bad, TooLong, TooMany, ReadFault, WriteFault, Memory}
 use Rattle.razor_core.specs.declared.ending.Summary.{Summary}
-use Rattle.razor_core.specs.Certified.{Checks, valid_line, wrong_line}
-use Rattle.razor_core.specs.CheckEnds.{IsEndOfCheck, SaysValid, SaysWrong}
-use Rattle.razor_core.specs.Command.{Command, Check}
+use Rattle.razor_core.specs.Check.{Checks, valid_line, wrong_line, IsEndOfCheck, SaysValid, SaysWrong, IsRightSoFar}
 use Rattle.razor_core.specs.Inputs.{Input, Value, inputs, certificate_input, lines_value, list_input, list_value, most_bytes, table_input, table_value, text_of_certificate}
-use Rattle.razor_core.specs.Outcome.{Outcome, Gives}
+use Rattle.razor_core.specs.Outcome.{Outcome}
+use Rattle.razor_core.specs.Gives.{Gives}
 use Rattle.razor_core.specs.Outside.{Outside, Tells, bytes_at}
-use Rattle.razor_core.specs.Standing.{IsCutOff, IsRightSoFar}
+use Rattle.razor_core.specs.Standing.{IsCutOff}
 use Rattle.razor_core.specs.Taking.{table_value_of, value_of}
-use Rattle.razor_core.specs.Turns.{Stop, IsFree, too_long}
+use Rattle.razor_core.specs.Turns.{Stop, too_long}
+use Rattle.razor_core.specs.Stopping.{IsFree}
 use Rattle.razor_core.specs.Deciding.{EndsInTurn, IsFaultUnder, IsReadFault}
 use Rattle.razor_core.specs.Ending.{Ends, IsDone}
 use Rattle.razor_core.proofs.CertEnding.{BothRead, both_read, passed}

@@ -4,7 +4,7 @@ use Rattle.std.specs.Prelude.{Option, codes}
 use Rattle.std.specs.List.{flat_map}
 use Rattle.std.specs.Fmt.{decimal}
 use Rattle.field_boxes.specs.Names.{text_of}
-use Rattle.razor_core.specs.Comparison.{differ_line, spaced}
+use Rattle.razor_core.specs.Equiv.{differ_line, spaced}
 
 -- the parts of the line, one after another
 abbrev pub line_of_parts : ℕ → ℕ → ℕ → ℕ → ℕ → List ℕ → List ℕ → List ℕ

@@ -4,21 +4,21 @@ use Rattle.std.specs.Prelude.{Bool, Option, Ok, Err, Result, ◌⊎◌}
 use Rattle.std.specs.Io.KnownBytes.{Appends, Keeps}
 use Rattle.razor_base.specs.Faults.{Rose}
 use Rattle.razor_base.specs.Output.{AppendsFront}
+use Rattle.command_words.specs.declared.command.Method.{Method}
+use Rattle.command_words.specs.Command.{Command, Make, Sizes}
+use Rattle.filter_reader.specs.FilterList.{FilterList}
 use Rattle.razor_core.specs.declared.ending.Ending.{Ending}
 use Rattle.razor_core.specs.declared.ending.Ending.TheVariants.{Done, No, BadLine as Bad, TooLong, TooMany, ReadFault, WriteFault, Memory}
-use Rattle.razor_core.specs.declared.making.CompileError.{CompileError}
-use Rattle.razor_core.specs.declared.making.CompileError.TheVariants as errors
-use Rattle.command_words.specs.declared.command.Method.{Method}
-use Rattle.razor_core.specs.Command.{Command, Make, Sizes}
 use Rattle.razor_core.specs.Inputs.{Input, Value, inputs, list_input, list_value, most_bytes, read_by}
-use Rattle.filter_reader.specs.FilterList.{FilterList}
-use Rattle.razor_core.specs.Making.{IsNeeded, IsRefused}
-use Rattle.razor_core.specs.Outcome.{Outcome, Gives}
+use Rattle.razor_core.specs.Make.{IsNeeded, IsNotMade}
+use Rattle.razor_core.specs.Outcome.{Outcome}
+use Rattle.razor_core.specs.Gives.{Gives}
 use Rattle.razor_core.specs.Outside.{Outside, AreKept, Tells}
 use Rattle.razor_core.specs.Standing.{StandsCut, StandsShort, WritesInTurn}
 use Rattle.razor_core.specs.Taking.{EndsTurn}
-use Rattle.razor_core.specs.Turns.{Stop, IsFree, bad_line, too_long, too_many, turns_of}
-use Rattle.razor_core.specs.Ending.{Ends, IsDone, IsEndingOf, Stops}
+use Rattle.razor_core.specs.Turns.{Stop, bad_line, too_long, too_many, turns_of}
+use Rattle.razor_core.specs.Stopping.{IsFree}
+use Rattle.razor_core.specs.Ending.{Ends, IsDone, Stops}
 use Rattle.razor_core.specs.Deciding.{EndsInTurn, IsFaultUnder, IsStopOf}
 use Rattle.razor_core.proofs.Turns.{AllRead, AllTold, Passed, StopsWith, ends_in_turn, fault_later, turns_pass, turns_stop}
 
@@ -138,12 +138,13 @@ make_free method sizes file list room (too_many needed limit) later =
     omega arith
 
 -- no table was made
-pub not_made_ends : (method : Method) (sizes : Sizes) (file : List ℕ) (before after : Outside) (list : FilterList) (error : CompileError) (ending : Ending) → Passed before (list_input file ∷ []) (list_value list ∷ []) →
-    IsRefused (IsNeeded method list.rules) sizes.limit error → IsEndingOf error ending → Keeps before.written after.written → after.write_faults ≡ before.write_faults → Ends (Make method sizes file) before after ending
-not_made_ends method sizes file before after list errors.Memory ending passed refused same keeps calm = subst (Ends (Make method sizes file) before after) (sym same) (calm, keeps)
-not_made_ends method sizes file before after list (errors.TooMany needed limit) ending passed refused same keeps calm = subst (Ends (Make method sizes file) before after) (sym same) (record {
+pub not_made_ends : (method : Method) (sizes : Sizes) (file : List ℕ) (before after : Outside) (list : FilterList) (ending : Ending) → Passed before (list_input file ∷ []) (list_value list ∷ []) → IsNotMade (IsNeeded method list.rules) sizes.limit ending →
+    Keeps before.written after.written → after.write_faults ≡ before.write_faults → Ends (Make method sizes file) before after ending
+not_made_ends method sizes file before after list Memory passed refused keeps calm = (calm, keeps)
+not_made_ends method sizes file before after list (TooMany needed limit) passed refused keeps calm = record {
   unchanged = λ last. keeps;
   named = (refused.1, let limited = refused.1 in let above = refused.2 in omega arith);
   stopped = λ tells. inr (record { values = list_value list ∷ []; turns = turns_pass before (list_input file ∷ []) (list_value list ∷ []) passed tells; later = (refused.0, refused.1, let limited = refused.1 in let above = refused.2 in omega arith) });
   stands = λ tells. record { in_turn = λ s e. keeps; later = λ vs e. keeps };
-})
+}
+not_made_ends method sizes file before after list ending passed refused keeps calm = absurd refused

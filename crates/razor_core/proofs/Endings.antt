@@ -2,21 +2,22 @@
 use Rattle.std.proofs.Common.{◌≡◌, ◌≢◌, ◌≤◌, ℕ, List, [], ◌∷◌, Some, None, refl, ap, arith, subst, inl, inr}
 use Rattle.std.specs.Prelude.{◌⊎◌, Ok, Err, Option, Result, option_map, true, false}
 use Rattle.std.specs.Io.KnownBytes.{Keeps}
-use Rattle.razor_core.specs.declared.ending.Ending.{Ending}
-use Rattle.razor_core.specs.declared.ending.Ending.TheVariants.{Done, No, BadLine as Bad, TooLong, TooMany, ReadFault, WriteFault, Memory}
 use Rattle.trace_run.specs.Outcome.{GoesOn}
 use Rattle.trace_run.specs.Trace as traces
 use Rattle.trace_run.specs.Trace.{trace_within}
-use Rattle.razor_core.specs.Command.{Command, Make, Equiv, Cert, Check, Trace, Drive, Gen, Selfrun, Migrate}
+use Rattle.command_words.specs.Command.{Command, Make, Equiv, Cert, Check, Trace, Drive, Gen, Selfrun, Migrate}
+use Rattle.razor_base.specs.Faults.{Rose}
+use Rattle.razor_core.specs.declared.ending.Ending.{Ending}
+use Rattle.razor_core.specs.declared.ending.Ending.TheVariants.{Done, No, BadLine as Bad, TooLong, TooMany, ReadFault, WriteFault, Memory}
 use Rattle.razor_core.specs.Inputs.{BadLine, Value, list_value, table_value, lines_value, inputs, most_bytes, text_of_trace}
 use Rattle.razor_core.specs.Outside.{Outside, Tells}
-use Rattle.razor_core.specs.Standing.{IsCutOff, Stands, StandsCut, StandsShort, WritesInTurn, WritesNothing}
-use Rattle.razor_core.specs.Traced.{HasBadLine, bad_line_of, taken_of}
-use Rattle.razor_core.specs.Turns.{Stop, bad_line, too_long, too_many, stop_status, turns_of, Pass, IsFree, IsStopped, StopsLater}
+use Rattle.razor_core.specs.Standing.{IsCutOff, StandsCut, StandsShort, WritesInTurn, WritesNothing}
+use Rattle.razor_core.specs.Trace.{HasBadLine, bad_line_of, taken_of}
+use Rattle.razor_core.specs.Turns.{Stop, bad_line, too_long, too_many, stop_status, turns_of}
+use Rattle.razor_core.specs.Stopping.{Pass, IsFree, IsStopped, StopsLater}
 use Rattle.razor_core.specs.Ending.{status_of, ending_line, IsDone, IsDoneLine, Ends, Stops}
 use Rattle.razor_core.proofs.Ended.{passed_or_stopped, same_values}
 use Rattle.razor_core.specs.Messages.{stop_line, write_fault_line, memory_line}
-use Rattle.razor_base.specs.Faults.{Rose}
 use Rattle.razor_core.specs.Promise.{IsEnded, IsStatusOfPass, IsStatusOfStop, IsUnread, KeepsPromise}
 
 same_stop : (turns : Result (List Value) Stop) (a b : Stop) → turns ≡ Err a → turns ≡ Err b → a ≡ b

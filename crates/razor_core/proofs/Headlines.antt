@@ -10,18 +10,19 @@ use Rattle.ternary_words.specs.Table.{Table}
 use Rattle.field_boxes.specs.Classifier.{Rule}
 use Rattle.filter_reader.specs.ListText.{list_text}
 use Rattle.list_generator.specs.DrawnRules.{generated}
-use Rattle.razor_core.specs.SelfRuns.{Summarises}
-use Rattle.razor_core.specs.Traced.{answers_text, taken_of}
-use Rattle.razor_core.specs.Written.{IsCertificateOf}
 use Rattle.command_words.specs.declared.command.Method.{Method}
 use Rattle.command_words.specs.declared.command.Method.TheVariants.{Compile, Expand}
-use Rattle.razor_core.specs.Certified.{AnswerAlike}
-use Rattle.razor_core.specs.Command.{Command, Cert, Check, Drive, Equiv, Gen, Make, Migrate, Selfrun, Sizes, Trace}
-use Rattle.razor_core.specs.Comparison.{DecideAlike}
+use Rattle.command_words.specs.Command.{Command, Cert, Check, Drive, Equiv, Gen, Make, Migrate, Selfrun, Sizes, Trace}
+use Rattle.razor_core.specs.Selfrun.{Summarises}
+use Rattle.razor_core.specs.Trace.{answers_text, taken_of}
+use Rattle.razor_core.specs.Cert.{IsCertificateOf, Writes}
+use Rattle.razor_core.specs.Check.{AnswerAlike, Certifies}
+use Rattle.razor_core.specs.Equiv.{DecideAlike, Compares}
 use Rattle.razor_core.specs.Headlines.{Adds, AreAlike, AreEqualLists, IsAnswered, IsCertified, IsCompiledText, IsDriven, IsExpandedText, IsMigrated}
-use Rattle.razor_core.specs.Making.{IsMade}
+use Rattle.razor_core.specs.Make.{IsMade}
 use Rattle.razor_core.specs.Inputs.{Input, Value, as_list, as_script, as_table, certificate_input, lines_value, is_too_long, list_input, list_value, script_input, script_value, table_input, table_value, trace_input, text_of_list, text_of_script, text_of_table}
-use Rattle.razor_core.specs.Outcome.{Certifies, Compares, Gives, IsTextOf, Outcome, Writes}
+use Rattle.razor_core.specs.Gives.{Gives}
+use Rattle.razor_core.specs.Outcome.{IsTextOf, Outcome}
 use Rattle.razor_core.specs.Outside.{Outside, Tells, bytes_at}
 use Rattle.razor_core.specs.Turns.{Stop, before_others, stopped_by, turn, turns_of}
 use Rattle.razor_core.specs.Promise.{KeepsPromise}

@@ -1,15 +1,14 @@
-pub mod Compared
+pub mod EquivEnding
 pub mod ScriptWords
 pub mod DifferText
-pub mod Driven
+pub mod DriveEnding
 pub mod Ended
 pub mod Endings
 pub mod Tables
-pub mod Traced
+pub mod TraceEnding
 pub mod Turns
 pub mod CertEnding
 pub mod CheckEnding
-pub mod SelfRun
+pub mod SelfrunEnding
 pub mod SpelledNames
-mod Unread
 pub mod Headlines

@@ -1,6 +1,6 @@
 -- The names of a list that was read can be spelled in a table.
-use Rattle.std.proofs.Common.{◌≡◌, ◌∷◌, ◌++◌, ℕ, ◌+◌, ◌≤◌, ◌<◌, List, Bool, true, false, cond, [], inl, inr, refl, subst, sym, ap, arith, fold, get_or, length, ◌∙◌, Some}
-use Rattle.std.specs.Prelude.{All, IsTrue, ◌&&◌, ◌||◌, not, is_some}
+use Rattle.std.proofs.Common.{◌≡◌, ◌∷◌, ◌++◌, ℕ, ◌+◌, ◌≤◌, ◌<◌, List, Bool, true, false, cond, [], inl, inr, refl, subst, sym, ap, arith, fold, get_or, length, ◌∙◌}
+use Rattle.std.specs.Prelude.{All, IsTrue, not, is_some}
 use Rattle.std.specs.Fmt.{decimal}
 use Rattle.std.specs.List.{list_any}
 use Rattle.std.specs.Str.{bytes_eq}

@@ -9,8 +9,8 @@ use Rattle.std.proofs.lemmas.List.{take_all}
 use Rattle.std.proofs.lemmas.Slice.Eq.{bytes_eq-Decides}
 use Rattle.command_words.specs.Naming.{all_differ}
 use Rattle.ternary_words.specs.declared.table.Table.{Table}
+use Rattle.command_words.specs.Command.{Command}
 use Rattle.razor_core.specs.declared.ending.Ending.{Ending}
-use Rattle.razor_core.specs.Command.{Command}
 use Rattle.razor_core.specs.Inputs.{Input, Value, inputs, table_input}
 use Rattle.razor_core.specs.Outside.{Outside, AreKept}
 use Rattle.razor_core.specs.Tables.{AreAdded, AreTaken, Bytes, FailsAmong, IsNone, StayAt}

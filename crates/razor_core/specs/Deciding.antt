@@ -2,7 +2,7 @@
 use Rattle.std.specs.Prelude.{◌≡◌, ℕ, ◌≤◌, ◌<◌, ◌⊎◌, List, [], ◌∷◌, length, Option, Some, Ok}
 use Rattle.std.specs.Io.KnownBytes.{Consumes}
 use Rattle.razor_base.specs.Faults.{Rose}
-use Rattle.razor_core.specs.Command.{Command, Make, Selfrun}
+use Rattle.command_words.specs.Command.{Command, Make, Selfrun}
 use Rattle.razor_core.specs.Inputs.{Input, Kind, Value, inputs, most_bytes}
 use Rattle.razor_core.specs.Outside.{Outside, AreKept}
 use Rattle.razor_core.specs.Turns.{Stop, bad_line, too_long, too_many, turn}

@@ -2,19 +2,19 @@
 use Rattle.std.specs.Prelude.{◌≡◌, ℕ, Bool, true, false, List, [], Some}
 use Rattle.std.specs.Io.KnownBytes.{Appends, Keeps}
 use Rattle.razor_base.specs.Faults.{Rose}
+use Rattle.command_words.specs.Command.{Command, Make}
 use Rattle.razor_core.specs.declared.ending.Ending.{Ending}
 use Rattle.razor_core.specs.declared.ending.Ending.TheVariants.{Done, No, BadLine as Bad, TooLong, TooMany, ReadFault, WriteFault, Memory}
 use Rattle.razor_core.specs.declared.ending.Summary.{Summary}
 use Rattle.razor_core.specs.declared.ending.Summary.TheVariants.{Nothing, Rules}
-use Rattle.razor_core.specs.declared.making.CompileError.{CompileError}
-use Rattle.razor_core.specs.declared.making.CompileError.TheVariants as errors
-use Rattle.razor_core.specs.Command.{Command, Make}
 use Rattle.razor_core.specs.Inputs.{Value, read_by}
 use Rattle.razor_core.specs.Outside.{Outside, Tells, AreReadThrough}
 use Rattle.razor_core.specs.Standing.{IsCutOff, Stands, StandsCut, StandsShort, WritesNothing}
-use Rattle.razor_core.specs.Turns.{Stop, Pass, IsStopped, bad_line, too_long, too_many, stop_status}
+use Rattle.razor_core.specs.Turns.{Stop, bad_line, too_long, too_many, stop_status}
+use Rattle.razor_core.specs.Stopping.{Pass, IsStopped}
 use Rattle.razor_core.specs.Deciding.{FailsToRead, IsStopOf}
-use Rattle.razor_core.specs.Outcome.{Outcome, Gives}
+use Rattle.razor_core.specs.Outcome.{Outcome}
+use Rattle.razor_core.specs.Gives.{Gives}
 use Rattle.razor_core.specs.Messages.{rules_line, bad_line_line, too_long_line, too_many_line, read_fault_line, write_fault_line, memory_line}
 
 -- all turns passed, all that the command defines was written, and its inputs were read to their end
@@ -75,8 +75,3 @@ Ends command before after (TooMany needed limit) = Stops command before after (t
 Ends command before after (ReadFault file) = FailsToRead command before after file.now × StandsCut command before after file.now
 Ends command before after WriteFault = Rose before.write_faults after.write_faults × (Tells before command → IsCutOff command before after)
 Ends command before after Memory = (after.write_faults ≡ before.write_faults) × StandsShort command before after
-
--- the ending of a command whose table wasn't made for this reason
-abbrev pub IsEndingOf : CompileError → Ending → Type 0
-IsEndingOf errors.Memory ending = ending ≡ Memory
-IsEndingOf (errors.TooMany needed limit) ending = ending ≡ TooMany needed limit

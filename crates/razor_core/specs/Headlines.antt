@@ -15,14 +15,14 @@ use Rattle.table_text.specs.Reading.{table_in_text}
 use Rattle.ternary_words.specs.Table.{Table, answer}
 use Rattle.ternary_words.specs.TableText.{table_text}
 use Rattle.ternary_words.specs.declared.table.Table as code
-use Rattle.razor_core.specs.Certified.{AnswerAlike}
-use Rattle.razor_core.specs.Comparison.{DecideAlike}
+use Rattle.razor_core.specs.Check.{AnswerAlike}
+use Rattle.razor_core.specs.Equiv.{DecideAlike}
 use Rattle.razor_core.specs.Inputs.{table_input}
-use Rattle.razor_core.specs.Outcome.{value_of_table}
+use Rattle.razor_core.specs.Drive.{value_of_table}
 use Rattle.razor_core.specs.Outside.{Outside}
-use Rattle.razor_core.specs.Traced.{answers_text, taken_of}
+use Rattle.razor_core.specs.Trace.{answers_text, taken_of}
 use Rattle.razor_core.specs.Turns.{turns_of}
-use Rattle.razor_core.specs.Written.{IsCertificateOf}
+use Rattle.razor_core.specs.Cert.{IsCertificateOf}
 
 -- the output is the text of a table whose first match gives every header the decision of the list's first match; its
 -- number is the list's field-by-field least cost, it has at most so many entries, and none of them can go

@@ -4,7 +4,7 @@ use Rattle.filter_reader.specs.FilterList as lists
 use Rattle.table_text.specs.Reading as tables
 use Rattle.bank_update.specs.Script as scripts
 use Rattle.ternary_words.specs.Table.{Table}
-use Rattle.razor_core.specs.Command.{Command, Make, Equiv, Cert, Check, Trace, Drive, Gen, Selfrun, Migrate}
+use Rattle.command_words.specs.Command.{Command, Make, Equiv, Cert, Check, Trace, Drive, Gen, Selfrun, Migrate}
 use Rattle.razor_core.specs.declared.line_reason.LineReason.{LineReason}
 use Rattle.razor_core.specs.declared.line_reason.LineReason.TheVariants.{OfList, OfTable, OfScript}
 
@@ -21,6 +21,10 @@ pub data Kind : Type 0 where
 pub record Input : Type 0 where
   pub name : List ℕ
   pub kind : Kind
+
+-- an input of this kind under this name
+abbrev pub input_of : Kind → List ℕ → Input
+input_of kind name = record { name = name; kind = kind }
 
 -- a list under this name
 abbrev pub list_input : List ℕ → Input

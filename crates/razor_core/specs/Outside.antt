@@ -2,7 +2,7 @@
 use Rattle.std.specs.Prelude.{◌≡◌, ◌≢◌, ℕ, List, [], Option, Some, None, IsSome, unwrap_or}
 use Rattle.std.specs.Io.KnownBytes.{Keeps}
 use Rattle.std.specs.List.{AllByRecursion}
-use Rattle.razor_core.specs.Command.{Command}
+use Rattle.command_words.specs.Command.{Command}
 use Rattle.razor_core.specs.Inputs.{Input, inputs}
 
 -- the bytes left under each name and the bytes written, where they are told, and the counts of faults

@@ -2,10 +2,12 @@
 use Rattle.std.specs.Prelude.{◌≡◌, ◌≢◌, ◌≤◌, ℕ, ◌⊎◌, true, false, List, [], Option, Some, None}
 use Rattle.std.specs.Io.KnownBytes.{Keeps}
 use Rattle.razor_base.specs.Faults.{Rose}
-use Rattle.razor_core.specs.Command.{Command, command_of}
+use Rattle.command_words.specs.Command.{Command}
+use Rattle.command_words.specs.Spelling.{command_of}
 use Rattle.razor_core.specs.Inputs.{Value}
 use Rattle.razor_core.specs.Outside.{Outside, Tells, IsNoInput}
-use Rattle.razor_core.specs.Turns.{Stop, stop_status, Pass, IsStopped}
+use Rattle.razor_core.specs.Turns.{Stop, stop_status}
+use Rattle.razor_core.specs.Stopping.{Pass, IsStopped}
 use Rattle.razor_core.specs.Deciding.{FailsToRead, IsStopOf}
 use Rattle.razor_core.specs.Ending.{IsDone, IsDoneLine}
 use Rattle.razor_core.specs.Standing.{IsCutOff, Stands, StandsCut, StandsShort, WritesInTurn, WritesNothing}

@@ -2,16 +2,15 @@
 use Rattle.std.specs.Prelude.{◌≡◌, ◌≢◌, ℕ, ◌⊎◌, List, Option, Some, Ok, Err}
 use Rattle.std.specs.Io.KnownBytes.{Appends, Keeps}
 use Rattle.razor_base.specs.Output.{AppendsFront}
-use Rattle.filter_reader.specs.FilterList.{FilterList}
-use Rattle.ternary_words.specs.Table.{Table}
-use Rattle.trace_run.specs.Outcome.{IsCut}
-use Rattle.razor_core.specs.Command.{Command, Cert, Check, Trace, Drive}
-use Rattle.razor_core.specs.Inputs.{Value, list_input, list_value, table_input, table_value, inputs, most_bytes, text_of_trace}
-use Rattle.razor_core.specs.Outside.{Outside, Tells, bytes_at}
-use Rattle.razor_core.specs.Outcome.{Outcome, Gives}
-use Rattle.razor_core.specs.Certified.{GoesRight}
-use Rattle.razor_core.specs.Traced.{answers_text, taken_before}
-use Rattle.razor_core.specs.Turns.{Stop, IsFree, turn, turns_of}
+use Rattle.command_words.specs.Command.{Command, Cert, Check, Trace, Drive}
+use Rattle.razor_core.specs.Inputs.{Value, inputs}
+use Rattle.razor_core.specs.Outside.{Outside, Tells}
+use Rattle.razor_core.specs.Outcome.{Outcome}
+use Rattle.razor_core.specs.Gives.{Gives}
+use Rattle.razor_core.specs.Turns.{Stop, turns_of}
+use Rattle.razor_core.specs.Stopping.{IsFree}
+use Rattle.razor_core.specs.Trace.{AnswersCut}
+use Rattle.razor_core.specs.Check.{IsRightSoFar}
 
 -- the command writes while it takes its last input, and not only after all that may end it
 abbrev pub WritesInTurn : Command → Type 0
@@ -43,20 +42,6 @@ pub record IsCutOff (command : Command) (before after : Outside) : Type 0 where
   pub free : IsFree command values ⊎ WritesInTurn command
   pub gives : Gives command values outcome
   pub written : AppendsFront before.written after.written outcome.text
-
--- the answers to all headers whose lines were read before a read under the trace's name failed; none where it failed
--- under the table's name
-pub record AnswersCut (table trace file : List ℕ) (before after : Outside) : Type 0 where
-  pub in_table : file ≡ table → Keeps before.written after.written
-  pub in_trace : file ≡ trace → (entries : Table) → turn (table_input table) (bytes_at before table) ≡ Ok (table_value entries) →
-      (seen : List ℕ) × IsCut (most_bytes text_of_trace) (before.remaining trace) (after.remaining trace) seen
-      × Appends before.written after.written (answers_text entries (taken_before seen).headers)
-
--- no line of the certificate is wrong that ends in what was read of it, where list and table passed
-abbrev pub IsRightSoFar : List ℕ → List ℕ → List ℕ → Outside → Outside → Type 0
-IsRightSoFar list table certificate before after = (rules : FilterList) (entries : Table) →
-    turn (list_input list) (bytes_at before list) ≡ Ok (list_value rules) → turn (table_input table) (bytes_at before table) ≡ Ok (table_value entries) →
-    GoesRight rules entries (bytes_at before certificate) (after.remaining certificate)
 
 -- what was written where a read under the file word failed, and that no line had ended the command before
 abbrev pub StandsCut : Command → Outside → Outside → List ℕ → Type 0

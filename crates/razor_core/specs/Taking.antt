@@ -1,21 +1,14 @@
 -- What taking the turn of one input comes to.
-use Rattle.std.specs.Prelude.{◌≡◌, ℕ, List, [], Option, Some, IfSome, Ok, Err}
+use Rattle.std.specs.Prelude.{nat_lt, ◌≡◌, ℕ, List, [], Option, Some, IfSome, Ok, Err}
 use Rattle.razor_base.specs.declared.read.ReadError.{ReadError}
 use Rattle.razor_base.specs.declared.read.ReadError.TheVariants as reads
-use Rattle.razor_core.specs.declared.ending.Ending.{Ending}
-use Rattle.razor_core.specs.declared.ending.Ending.TheVariants.{Done, No, BadLine as Bad, TooLong, TooMany, ReadFault, WriteFault, Memory}
-use Rattle.filter_reader.specs.declared.list.ListError.{ListError}
-use Rattle.filter_reader.specs.declared.list.ListError.TheVariants as errors
 use Rattle.filter_reader.specs.declared.list.RuleList.{RuleList}
 use Rattle.filter_reader.specs.Lists.{filter_list}
 use Rattle.ternary_words.specs.declared.table.Table.{Table}
 use Rattle.ternary_words.specs.Views.{table_of}
-use Rattle.table_text.specs.declared.error.TableError.{TableError}
-use Rattle.table_text.specs.declared.error.TableError.TheVariants as table_errors
-use Rattle.bank_update.specs.declared.read.ScriptError.{ScriptError}
-use Rattle.bank_update.specs.declared.read.ScriptError.TheVariants as script_errors
-use Rattle.razor_core.specs.declared.line_reason.LineReason.TheVariants.{OfList, OfScript, OfTable}
-use Rattle.razor_core.specs.Inputs.{Input, Value, list_value, most_bytes, table_value}
+use Rattle.razor_core.specs.declared.ending.Ending.{Ending}
+use Rattle.razor_core.specs.declared.ending.Ending.TheVariants.{Done, No, BadLine as Bad, TooLong, TooMany, ReadFault, WriteFault, Memory}
+use Rattle.razor_core.specs.Inputs.{Input, Kind, Value, is_too_long, spelled_by, list_value, most_bytes, table_value}
 use Rattle.razor_core.specs.Turns.{turn, bad_line, too_long}
 use Rattle.razor_core.specs.Deciding.{IsReadFault}
 
@@ -42,23 +35,16 @@ EndsTurn input before after faults_before faults_after (ReadFault file) = (file.
 EndsTurn input before after faults_before faults_after WriteFault = ⊥
 EndsTurn input before after faults_before faults_after Memory = Unit {0}
 
--- the ending of a command whose list was refused with this error
-abbrev pub IsRefusalOf : List ℕ → ListError → Ending → Type 0
-IsRefusalOf name errors.Memory ending = ending ≡ Memory
-IsRefusalOf name (errors.BadLine line reason) (Bad file at why) = (file.now ≡ name) × (at ≡ line) × (why ≡ OfList reason)
-IsRefusalOf name (errors.BadLine line reason) _ = ⊥
+-- a text of this kind is read whole: one of more bytes than its limit is too long
+abbrev pub IsReadWhole : Kind → Type 0
+IsReadWhole kind = (bytes : ℕ) → is_too_long kind bytes ≡ nat_lt (most_bytes kind) bytes
 
--- the ending of a command whose table was refused with this error
-abbrev pub IsTableRefusalOf : List ℕ → TableError → Ending → Type 0
-IsTableRefusalOf name table_errors.Memory ending = ending ≡ Memory
-IsTableRefusalOf name (table_errors.BadLine line reason) (Bad file at why) = (file.now ≡ name) × (at ≡ line) × (why ≡ OfTable reason)
-IsTableRefusalOf name (table_errors.BadLine line reason) _ = ⊥
-
--- the ending of a command whose script was refused with this error
-abbrev pub IsScriptRefusalOf : List ℕ → ScriptError → Ending → Type 0
-IsScriptRefusalOf name script_errors.Memory ending = ending ≡ Memory
-IsScriptRefusalOf name (script_errors.BadLine line reason) (Bad file at why) = (file.now ≡ name) × (at ≡ line) × (why ≡ OfScript reason)
-IsScriptRefusalOf name (script_errors.BadLine line reason) _ = ⊥
+-- the ending of a command where the bytes of the file spell nothing of this kind: their first bad line, or memory was
+-- refused
+abbrev pub IsUnspelled : Kind → List ℕ → List ℕ → Ending → Type 0
+IsUnspelled kind name text (Bad file line reason) = (file.now ≡ name) × (spelled_by kind text ≡ Err (record { line = line; reason = reason }))
+IsUnspelled kind name text Memory = Unit {0}
+IsUnspelled kind name text ending = ⊥
 
 -- the ending of a command whose input couldn't be read whole, with this error
 abbrev pub IsFaultOf : List ℕ → ℕ → ReadError → Ending → Type 0

@@ -2,11 +2,11 @@
 //! nothing.
 ghost use Rattle.std.specs.Prelude.{◌≡◌, ℕ, List, Some};
 ghost use Rattle.command_words.specs.declared.command.Method.TheVariants.{Expand, Compile};
-ghost use Rattle.razor_core.specs.Command.{Cert, Check, Drive, Equiv, Gen, Make, Migrate, Selfrun, Sizes, Trace};
+ghost use Rattle.command_words.specs.Command.{Cert, Check, Drive, Equiv, Gen, Make, Migrate, Selfrun, Sizes, Trace};
 ghost use Rattle.razor_core.specs.Headlines.{Adds, AreAlike, AreEqualLists, IsAnswered, IsCertified, IsCompiledText, IsDriven, IsExpandedText, IsMigrated};
 ghost use Rattle.razor_core.specs.Outside.{Outside, Tells};
 ghost use Rattle.razor_core.specs.Promise.{KeepsPromise};
-ghost use Rattle.razor_core.specs.SelfRuns.{Summarises};
+ghost use Rattle.razor_core.specs.Selfrun.{Summarises};
 ghost use Rattle.list_generator.specs.DrawnRules.{generated};
 ghost use Rattle.filter_reader.specs.ListText.{list_text};
 

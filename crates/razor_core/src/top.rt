@@ -2,9 +2,9 @@ ghost use Rattle.razor_core.specs.Outside.{seen};
 ghost use Rattle.razor_core.specs.Says.{Says};
 ghost use Rattle.razor_core.specs.Promise.{Promise};
 
+use crate::commands::run;
 use crate::ending::status;
 use crate::message::{say_ending, say_usage};
-use crate::run::run;
 use command_words::{Words, spelled_command};
 use razor_base::{Desk, Sink};
 use std::alloc::Global;

@@ -1,7 +1,8 @@
 use Rattle.std.proofs.Common.{◌≡◌, ◌≢◌, ℕ, List, Some, sym, subst}
 use Rattle.std.specs.Prelude.{Option}
 use Rattle.std.specs.Io.KnownBytes.{Keeps}
-use Rattle.razor_core.specs.Command.{Command, command_of}
+use Rattle.command_words.specs.Command.{Command}
+use Rattle.command_words.specs.Spelling.{command_of}
 use Rattle.command_words.specs.Asked.{meant}
 use Rattle.razor_core.specs.Outside.{seen, IsNoInput}
 use Rattle.razor_core.specs.Ending.{ending_line}

@@ -1,4 +1,0 @@
-use Rattle.razor_core.proofs.certificate.write_reason.Goals as goal
-
-pub returns : goal.returns
-returns g c = rw (← c.from.ensures) c.write_parts.ensures

@@ -1,4 +1,0 @@
-use Rattle.razor_core.proofs.load.write_summary.Goals as goal
-
-pub returns : goal.returns
-returns g c = rw (c.from.ensures, c.from-2.ensures, c.from-3.ensures, c.from-4.ensures, c.from-5.ensures, c.from-6.ensures, c.from-7.ensures) at c.write_parts.ensures

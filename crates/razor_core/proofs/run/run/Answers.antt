@@ -1,7 +1,0 @@
-use Rattle.razor_core.proofs.run.run.Goals as goal
-
-pub returns-in-Gen-clause-ends : goal.returns-in-Gen-clause-ends
-returns-in-Gen-clause-ends g c = rw c.in-Gen.is (c.draw_list.ensures (g.D.Desk.remaining c.args.desk.now) (g.D.Desk.faults c.args.desk.now))
-
-pub returns-in-Selfrun-clause-ends : goal.returns-in-Selfrun-clause-ends
-returns-in-Selfrun-clause-ends g c = rw c.in-Selfrun.is (c.run_load.ensures (g.D.Desk.remaining c.args.desk.now) (g.D.Desk.faults c.args.desk.now))

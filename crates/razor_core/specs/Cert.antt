@@ -1,0 +1,79 @@
+-- What `cert` defines: the certificate of a list and a table, and the word that isn't a prefix and ends it.
+use Rattle.std.specs.Prelude.{◌≡◌, ◌≢◌, ℕ, ◌<◌, ◌+◌, List, Some, slice_get, ◌⊎◌, true, false, [], Option}
+use Rattle.std.specs.Io.KnownBytes.{Appends, Keeps}
+use Rattle.field_boxes.specs.Classifier.{source}
+use Rattle.field_boxes.specs.Fields.{stated, IsHeader, ComesBefore}
+use Rattle.filter_reader.specs.FilterList.{FilterList}
+use Rattle.ternary_words.specs.Prefixes.{IsPrefixInEach}
+use Rattle.ternary_words.specs.Table.{Entry, Table, answer}
+use Rattle.partition_check.specs.Checking.{Statement}
+use Rattle.partition_check.specs.Good.{certificate_text}
+use Rattle.box_partition.specs.Certificate.{IsCertificate}
+use Rattle.razor_base.specs.Faults.{Rose}
+use Rattle.razor_base.specs.Output.{AppendsFront}
+use Rattle.filter_reader.specs.declared.list.RuleList.{RuleList}
+use Rattle.ternary_words.specs.declared.table.Table as code
+use Rattle.partition_check.specs.Agreement.{name_answered, name_decided}
+use Rattle.partition_check.specs.PrefixWords.{ArePrefixes, IsFirstOther}
+use Rattle.box_partition.specs.Difference.{IsFirstDifference}
+use Rattle.box_partition.specs.Outcome.{IsCut, IsWritten}
+use Rattle.razor_core.specs.Outcome.{Outcome}
+use Rattle.razor_core.specs.Equiv.{differ_line}
+use Rattle.razor_core.specs.Turns.{Stop, bad_line}
+use Rattle.razor_core.specs.Check.{Checks}
+use Rattle.razor_core.specs.Inputs.{BadLine}
+use Rattle.razor_core.specs.declared.line_reason.LineReason.TheVariants.{NotPrefix}
+use Rattle.razor_core.specs.declared.ending.Ending.{Ending}
+use Rattle.razor_core.specs.declared.ending.Ending.TheVariants.{Done, No, BadLine as Bad, WriteFault, Memory}
+use Rattle.razor_core.specs.declared.ending.Summary.TheVariants.{Nothing}
+
+-- the text of the coarsest good certificate of a list and a table that have these rules and entries
+pub record IsCertificateOf (rules : FilterList) (entries : Table) (text : List ℕ) : Type 0 where
+  pub checks : Checks rules entries
+  pub rows : List Statement
+  pub certificate : IsCertificate checks.list checks.table rows
+  pub spelled : text ≡ certificate_text rows
+
+-- the least header on which list and table decide differently, by name
+pub record IsTableDifference (rules : FilterList) (entries : Table) (header : List ℕ) : Type 0 where
+  pub in_fields : IsHeader header
+  pub differ : source stated header rules.rules ≢ answer entries.entries header
+  pub least : (values : List ℕ) → IsHeader values → ComesBefore values header → source stated values rules.rules ≡ answer entries.entries values
+
+-- the rules and the table decide alike and this is their certificate, or else the least header on which they don't, with
+-- what each decides
+abbrev pub Writes : FilterList → Table → Outcome → Type 0
+Writes rules entries outcome =
+    ((text : List ℕ) × IsCertificateOf rules entries text × (outcome ≡ record { yes = true; text = text; line = [] }))
+    ⊎ ((header : List ℕ) × IsTableDifference rules entries header
+    × (outcome ≡ record { yes = false; text = differ_line header (source stated header rules.rules) (answer entries.entries header); line = [] }))
+
+-- the entry at the place is the first whose word isn't a prefix in each field
+pub record IsFirstOtherWord (entries : List Entry) (place : ℕ) : Type 0 where
+  pub entry : Entry
+  pub at : slice_get entries place ≡ Some entry
+  pub other : ¬ IsPrefixInEach entry.word
+  pub first : (k : ℕ) (e : Entry) → k < place → slice_get entries k ≡ Some e → IsPrefixInEach e.word
+
+-- the line of that entry, which is the second one for the first entry
+abbrev pub IsOtherLine : Table → BadLine → Type 0
+IsOtherLine table bad = (place : ℕ) × IsFirstOtherWord table.entries place × (bad ≡ record { line = place + 2; reason = NotPrefix })
+
+-- the line of that entry in the table with this name ends the command
+abbrev pub HasOther : List ℕ → Table → Stop → Type 0
+HasOther name entries (bad_line file bad) = (file ≡ name) × IsOtherLine entries bad
+HasOther name entries stop = ⊥
+
+-- the line on the least header on which list and table differ is written, so far as this says
+abbrev pub SaysDifference : RuleList → code.Table → (List ℕ → Type 0) → Type 0
+SaysDifference list table Has = (header : List ℕ) × IsFirstDifference list table header × Has (differ_line header (name_decided list header) (name_answered table header))
+
+-- the table is named so; this was written before, and this is written after, with these counts of faults
+abbrev pub IsEndOfCert : RuleList → code.Table → List ℕ → Option (List ℕ) → Option (List ℕ) → ℕ → ℕ → Ending → Type 0
+IsEndOfCert list table name before after old new (Done summary) = (summary ≡ Nothing) × ArePrefixes table.entries.items × (rows : ℕ) × IsWritten list table before after rows
+IsEndOfCert list table name before after old new No = ArePrefixes table.entries.items × SaysDifference list table (Appends before after)
+IsEndOfCert list table name before after old new (Bad file line reason) =
+    (file.now ≡ name) × (reason ≡ NotPrefix) × Keeps before after × (place : ℕ) × IsFirstOther table.entries.items place × (line ≡ place + 2)
+IsEndOfCert list table name before after old new WriteFault = Rose old new × ArePrefixes table.entries.items × (IsCut list table before after ⊎ SaysDifference list table (AppendsFront before after))
+IsEndOfCert list table name before after old new Memory = (new ≡ old) × (Keeps before after ⊎ (ArePrefixes table.entries.items × IsCut list table before after))
+IsEndOfCert list table name before after old new ending = ⊥

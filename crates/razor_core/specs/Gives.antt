@@ -1,0 +1,27 @@
+-- What each command defines for what its inputs come to.
+use Rattle.std.specs.Prelude.{List, ◌∷◌}
+use Rattle.command_words.specs.Command.{Command, Make, Equiv, Cert, Check, Trace, Drive, Gen, Selfrun, Migrate}
+use Rattle.razor_core.specs.Outcome.{Outcome}
+use Rattle.razor_core.specs.Make.{IsMade, IsTableOf}
+use Rattle.razor_core.specs.Equiv.{Compares}
+use Rattle.razor_core.specs.Cert.{Writes}
+use Rattle.razor_core.specs.Check.{Certifies}
+use Rattle.razor_core.specs.Trace.{Answers}
+use Rattle.razor_core.specs.Drive.{Drives}
+use Rattle.razor_core.specs.Gen.{Draws}
+use Rattle.razor_core.specs.Selfrun.{SumsUp}
+use Rattle.razor_core.specs.Migrate.{Migrates}
+use Rattle.razor_core.specs.Inputs.{Value, list_value, table_value, script_value, lines_value, inputs}
+
+-- the outcome is one that the command defines for these values
+abbrev pub Gives : Command → List Value → Outcome → Type 0
+Gives (Make method sizes file) (list_value list ∷ values) outcome = IsTableOf list (IsMade method list.rules sizes.slot) outcome
+Gives (Equiv left right) (list_value first ∷ list_value second ∷ values) outcome = Compares first.rules second.rules outcome
+Gives (Cert list table) (list_value rules ∷ table_value entries ∷ values) outcome = Writes rules entries outcome
+Gives (Check list table certificate) (list_value rules ∷ table_value entries ∷ lines_value text ∷ values) outcome = Certifies rules entries text outcome
+Gives (Trace table trace) (table_value entries ∷ lines_value text ∷ values) outcome = Answers entries text outcome
+Gives (Drive slots script tables) (script_value events ∷ values) outcome = Drives slots events values outcome
+Gives (Gen seed rules) values outcome = Draws seed rules outcome
+Gives (Selfrun seed rules) values outcome = SumsUp seed rules outcome
+Gives (Migrate file) (table_value table ∷ values) outcome = Migrates table outcome
+Gives command values outcome = ⊥

@@ -1,0 +1,71 @@
+-- What `trace` defines: what a table answers to the headers of a trace, and what of the trace ends it.
+use Rattle.std.specs.Prelude.{true, ◌≡◌, ℕ, List, [], ◌∷◌, ◌++◌, Some, option_map, Ok, Result, Err}
+use Rattle.std.specs.List.{flat_map}
+use Rattle.std.specs.Io.KnownBytes.{Appends, Keeps}
+use Rattle.field_boxes.specs.Names.{text_of}
+use Rattle.ternary_words.specs.Table.{Table, answer}
+use Rattle.trace_run.specs.Trace as traces
+use Rattle.trace_run.specs.Trace.{trace_of, trace_within, whole_lines}
+use Rattle.command_words.specs.Command.{Trace}
+use Rattle.trace_run.specs.declared.error.TraceError.{TraceError}
+use Rattle.trace_run.specs.declared.error.TraceError.TheVariants as errors
+use Rattle.trace_run.specs.Outcome.{IsCut, GoesOn}
+use Rattle.razor_core.specs.Turns.{Stop, bad_line, too_long, turn}
+use Rattle.razor_core.specs.Outcome.{Outcome}
+use Rattle.razor_core.specs.Inputs.{BadLine, most_bytes, text_of_trace, table_value, table_input}
+use Rattle.razor_core.specs.declared.line_reason.LineReason.TheVariants.{OfTrace}
+use Rattle.razor_core.specs.declared.ending.Ending.{Ending}
+use Rattle.razor_core.specs.declared.ending.Ending.TheVariants.{Done, BadLine as Bad, TooLong, ReadFault, WriteFault, Memory}
+use Rattle.razor_core.specs.declared.ending.Summary.TheVariants.{Nothing}
+use Rattle.razor_core.specs.Outside.{Outside, bytes_at}
+
+-- the name of what the table answers on the header, or the word for no decision
+abbrev pub answer_line : Table → List ℕ → List ℕ
+answer_line table header = text_of (answer table.entries header) ++ 10 ∷ []
+
+-- a line for each header
+abbrev pub answers_text : Table → List (List ℕ) → List ℕ
+answers_text table headers = flat_map (answer_line table) headers
+
+-- what is taken of the trace: its lines up to the first bad one, or to the limit
+abbrev pub taken_of : List ℕ → traces.Trace
+taken_of text = trace_within (most_bytes text_of_trace) text
+
+-- what is taken of a trace of which no more than these bytes are read
+abbrev pub taken_before : List ℕ → traces.Trace
+taken_before seen = trace_of (whole_lines seen)
+
+-- the answers to the headers of what is taken of the trace
+abbrev pub Answers : Table → List ℕ → Outcome → Type 0
+Answers entries text outcome = outcome ≡ record { yes = true; text = answers_text entries (taken_of text).headers; line = [] }
+
+abbrev pub bad_line_of : traces.BadLine → BadLine
+bad_line_of bad = record { line = bad.line; reason = OfTrace bad.reason }
+
+-- a line of what is taken is bad
+abbrev pub HasBadLine : List ℕ → BadLine → Type 0
+HasBadLine text bad = option_map bad_line_of (taken_of text).bad ≡ Some bad
+
+-- a bad line of the trace with this name ends the command, or a byte after its limit
+abbrev pub EndsTrace : List ℕ → List ℕ → Stop → Type 0
+EndsTrace name text (bad_line file bad) = (file ≡ name) × HasBadLine text bad
+EndsTrace name text (too_long file limit) = (file ≡ name) × (limit ≡ most_bytes text_of_trace) × GoesOn limit text
+EndsTrace name text stop = ⊥
+
+-- the answers to all headers whose lines were read before a read under the trace's name failed; none where it failed
+-- under the table's name
+pub record AnswersCut (table trace file : List ℕ) (before after : Outside) : Type 0 where
+  pub in_table : file ≡ table → Keeps before.written after.written
+  pub in_trace : file ≡ trace → (entries : Table) → turn (table_input table) (bytes_at before table) ≡ Ok (table_value entries) →
+      (seen : List ℕ) × IsCut (most_bytes text_of_trace) (before.remaining trace) (after.remaining trace) seen
+      × Appends before.written after.written (answers_text entries (taken_before seen).headers)
+
+-- the ending of a command whose run over the trace with this name ended so
+abbrev pub IsEndOfRun : List ℕ → Result ℕ TraceError → Ending → Type 0
+IsEndOfRun name (Ok headers) ending = ending ≡ Done Nothing
+IsEndOfRun name (Err (errors.BadLine line reason)) (Bad file at why) = (file.now ≡ name) × (at ≡ line) × (why ≡ OfTrace reason)
+IsEndOfRun name (Err errors.TooLong) (TooLong file limit) = (file.now ≡ name) × (limit ≡ most_bytes text_of_trace)
+IsEndOfRun name (Err errors.ReadFault) (ReadFault file) = file.now ≡ name
+IsEndOfRun name (Err errors.WriteFault) ending = ending ≡ WriteFault
+IsEndOfRun name (Err errors.Memory) ending = ending ≡ Memory
+IsEndOfRun name ended ending = ⊥

@@ -1,0 +1,66 @@
+//! What each command does: a file a command, named as it (`gen` is a keyword, so its file is `generate`).
+//!
+//! A command takes the turns of its inputs, one after another, works on what they come to, and writes. It answers how it
+//! ended.
+ghost use Rattle.std.specs.Prelude.{ℕ, List, Some};
+ghost use Rattle.std.specs.Io.KnownBytes.{Keeps};
+ghost use Rattle.command_words.specs.Asked.{meant};
+ghost use Rattle.razor_core.specs.Outside.{seen, IsNoInput};
+ghost use Rattle.razor_core.specs.Ending.{Ends};
+
+mod cert;
+mod check;
+mod compile;
+mod difference;
+mod drive;
+mod equiv;
+mod expand;
+mod generate;
+mod make;
+mod migrate;
+mod selfrun;
+mod trace;
+
+use crate::ending::Ending;
+use cert::certify;
+use check::check_certificate;
+use command_words::{Asked, Command};
+use drive::run_script;
+use equiv::compare_lists;
+use generate::draw_list;
+use make::make_table;
+use migrate::migrate_table;
+use razor_base::{Desk, Sink};
+use selfrun::run_load;
+use std::alloc::Global;
+use trace::answer_trace;
+
+/// Does what the command says.
+pub fn run<'a, D: Desk, K: Sink>(
+    alloc: Global,
+    asked: Asked<'a>,
+    desk: &mut D,
+    out: &mut K,
+) -> Ending<'a>
+    ensures ends { Ends (meant asked.entry)
+        (seen D.remaining D.faults K.written K.faults desk.old out.old)
+        (seen D.remaining D.faults K.written K.faults desk.new out.new)
+        result }
+    ensures others { (other : List ℕ) → IsNoInput (Some (meant asked.entry)) other → Keeps (D.remaining desk.old other) (D.remaining desk.new other) }
+{
+    match asked.command {
+        Command::Make {
+            method,
+            sizes,
+            list,
+        } => make_table(alloc, method, sizes, list, desk, out),
+        Command::Equiv(files) => compare_lists(alloc, files, desk, out),
+        Command::Cert(files) => certify(alloc, files, desk, out),
+        Command::Check(files) => check_certificate(alloc, files, desk, out),
+        Command::Trace(files) => answer_trace(alloc, files, desk, out),
+        Command::Drive(slots) => run_script(alloc, slots, asked.words.as_slice(), desk, out),
+        Command::Gen(drawing) => draw_list(alloc, drawing, out),
+        Command::Selfrun(drawing) => run_load(alloc, drawing, out),
+        Command::Migrate(file) => migrate_table(alloc, file, desk, out),
+    }
+}

@@ -1,0 +1,80 @@
+//! `cert`: the certificate that a list and a table decide every header alike.
+ghost use Rattle.std.specs.Prelude.{◌≢◌, ℕ, List};
+ghost use Rattle.std.specs.Io.KnownBytes.{Keeps};
+ghost use Rattle.razor_core.specs.Cert.{IsEndOfCert};
+ghost use Rattle.command_words.specs.Command.{Cert};
+ghost use Rattle.razor_core.specs.Outside.{seen};
+ghost use Rattle.razor_core.specs.Ending.{Ends};
+
+use crate::commands::difference::write_difference;
+use crate::ending::{Ending, Summary};
+use crate::line_reason::LineReason;
+use crate::taking::take;
+use crate::texts::{ListText, TableText};
+use box_partition::{CertError, write_certificate};
+use command_words::TwoFiles;
+use filter_reader::RuleList;
+use razor_base::{Desk, Sink};
+use std::alloc::Global;
+use ternary_words::Table;
+
+/// Writes the certificate of the list and the table, or the least header on which they differ, and says how the
+/// command ends.
+fn certify_both<'a, K: Sink>(
+    alloc: Global,
+    list: &RuleList,
+    table: &Table,
+    file: &'a str,
+    out: &mut K,
+) -> Ending<'a>
+    ensures { IsEndOfCert list.now table.now file.now (K.written out.old) (K.written out.new) (K.faults out.old) (K.faults out.new) result }
+{
+    match write_certificate(alloc, list, table, out) {
+        Ok(_) => Ending::Done(Summary::Nothing),
+        Err(CertError::NotPrefix { entry }) => Ending::BadLine {
+            file,
+            line: u64::from(entry) + 2,
+            reason: LineReason::NotPrefix,
+        },
+        Err(
+            CertError::Differs {
+                header,
+                left,
+                right,
+            },
+        ) => {
+            let left = list.names.name(left);
+            let right = table.names.name(right);
+            match write_difference(&header, left, right, out) {
+                Ok(()) => Ending::No,
+                Err(_) => Ending::WriteFault,
+            }
+        }
+        Err(CertError::Fault) => Ending::WriteFault,
+        Err(CertError::Memory) => Ending::Memory,
+    }
+}
+
+/// Writes the certificate that list and table decide every header alike, or the least header on which they differ.
+pub fn certify<'a, D: Desk, K: Sink>(
+    alloc: Global,
+    files: TwoFiles<'a>,
+    desk: &mut D,
+    out: &mut K,
+) -> Ending<'a>
+    ensures ends { Ends (Cert files.entry.first.now files.entry.second.now)
+        (seen D.remaining D.faults K.written K.faults desk.old out.old)
+        (seen D.remaining D.faults K.written K.faults desk.new out.new)
+        result }
+    ensures others { (other : List ℕ) → other ≢ files.entry.first.now → other ≢ files.entry.second.now → Keeps (D.remaining desk.old other) (D.remaining desk.new other) }
+{
+    let list = match take(alloc, &ListText, files.first, desk) {
+        Ok(list) => list,
+        Err(ending) => return ending,
+    };
+    let table = match take(alloc, &TableText, files.second, desk) {
+        Ok(table) => table,
+        Err(ending) => return ending,
+    };
+    certify_both(alloc, &list, &table, files.second, out)
+}

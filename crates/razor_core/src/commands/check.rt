@@ -1,0 +1,158 @@
+//! `check`: whether a certificate shows that a list and a table decide every header alike.
+ghost use Rattle.std.specs.Prelude.{◌≡◌, ◌≢◌, ◌∷◌, ◌++◌, [], ℕ, List};
+ghost use Rattle.std.specs.Io.KnownBytes.{Keeps};
+ghost use Rattle.razor_base.specs.Output.{Writes};
+ghost use Rattle.partition_check.specs.Agreement.{HaveNames};
+ghost use Rattle.razor_core.specs.Check.{row_line, valid_line, wrong_line, IsEndOfCheck};
+ghost use Rattle.command_words.specs.Command.{Check};
+ghost use Rattle.razor_core.specs.Outside.{seen};
+ghost use Rattle.razor_core.specs.Ending.{Ends};
+
+use crate::ending::{Ending, Summary};
+use crate::taking::take;
+use crate::texts::{ListText, TableText};
+use command_words::ThreeFiles;
+use filter_reader::RuleList;
+use partition_check::laws::equal_lists_have_one_verdict;
+use partition_check::{Checker, Stop, Why, Wrong, check_stream};
+use razor_base::{Desk, Failed, Part, Sink, write_parts};
+use std::alloc::Global;
+use ternary_words::Table;
+
+/// The greatest number of bytes of a certificate.
+const MOST_CERTIFICATE_BYTES: u64 = 268_435_456;
+
+/// As many bytes of a certificate as are read at once.
+const PIECE: usize = 65_536;
+
+/// Writes how many rows a valid certificate has.
+fn write_valid<K: Sink>(rows: u64, out: &mut K) -> Result<(), Failed>
+    ensures { Writes K.written K.faults out.old out.new (valid_line rows) result }
+{
+    write_parts(
+        out,
+        &[
+            Part::Text("valid rows="),
+            Part::Number(u128::from(rows)),
+            Part::Text("\n"),
+        ],
+    )
+}
+
+/// Writes which row is wrong, and why.
+fn write_wrong<'a, K: Sink>(
+    list: &'a RuleList,
+    table: &'a Table,
+    wrong: Wrong,
+    out: &mut K,
+) -> Result<(), Failed>
+    requires { HaveNames list.now table.now wrong.why }
+    ensures { Writes K.written K.faults out.old out.new (wrong_line list.now table.now wrong) result }
+{
+    match wrong.why {
+        Why::Form => write_reason(wrong.row, "form", out),
+        Why::NotNext => write_reason(wrong.row, "not the next box", out),
+        Why::RuleClaim => write_reason(wrong.row, "rule claim", out),
+        Why::EntryClaim => write_reason(wrong.row, "entry claim", out),
+        Why::EndsEarly => write_reason(wrong.row, "ends early", out),
+        Why::Decisions { left, right } => write_parts(
+            out,
+            &[
+                Part::Text("wrong row "),
+                Part::Number(u128::from(wrong.row)),
+                Part::Text(": decisions differ, "),
+                Part::Text(list.names.name(left)),
+                Part::Text(" "),
+                Part::Text(table.names.name(right)),
+                Part::Text("\n"),
+            ],
+        ),
+        Why::Count { stated, found } => write_parts(
+            out,
+            &[
+                Part::Text("wrong row "),
+                Part::Number(u128::from(wrong.row)),
+                Part::Text(": count differs, stated "),
+                Part::Number(u128::from(stated)),
+                Part::Text(" found "),
+                Part::Number(u128::from(found)),
+                Part::Text("\n"),
+            ],
+        ),
+    }
+}
+
+/// Writes that the row is wrong for a reason of these words.
+fn write_reason<K: Sink>(row: u64, words: &'static str, out: &mut K) -> Result<(), Failed>
+    ensures { Writes K.written K.faults out.old out.new (row_line row (words.now ++ 10 ∷ [])) result }
+{
+    write_parts(
+        out,
+        &[
+            Part::Text("wrong row "),
+            Part::Number(u128::from(row)),
+            Part::Text(": "),
+            Part::Text(words),
+            Part::Text("\n"),
+        ],
+    )
+}
+
+/// Checks the certificate of the list and the table, writes how many rows it has or which row is wrong, and says how
+/// the command ends.
+fn check_rows<'a, D: Desk, K: Sink>(
+    list: &RuleList,
+    table: &Table,
+    file: &'a str,
+    desk: &mut D,
+    out: &mut K,
+) -> Ending<'a>
+    ensures ends { IsEndOfCheck list.now table.now file.now
+        (seen D.remaining D.faults K.written K.faults desk.old out.old)
+        (seen D.remaining D.faults K.written K.faults desk.new out.new)
+        result }
+    ensures others { (other : List ℕ) → other ≢ file.now → Keeps (D.remaining desk.old other) (D.remaining desk.new other) }
+{
+    let mut buffer = [0; PIECE];
+    let checker = Checker::any(list, table);
+    match check_stream(checker, desk, file, &mut buffer) {
+        Ok(rows) => match write_valid(rows, out) {
+            Ok(()) => Ending::Done(Summary::Nothing),
+            Err(_) => Ending::WriteFault,
+        },
+        Err(Stop::Wrong(wrong)) => match write_wrong(list, table, wrong, out) {
+            Ok(()) => Ending::No,
+            Err(_) => Ending::WriteFault,
+        },
+        Err(Stop::ReadFault) => Ending::ReadFault { file },
+        Err(Stop::TooLong) => Ending::TooLong {
+            file,
+            limit: MOST_CERTIFICATE_BYTES,
+        },
+    }
+}
+
+/// Says whether the certificate shows that list and table decide every header alike.
+pub fn check_certificate<'a, D: Desk, K: Sink>(
+    alloc: Global,
+    files: ThreeFiles<'a>,
+    desk: &mut D,
+    out: &mut K,
+) -> Ending<'a>
+    ensures ends { Ends (Check files.entry.first.now files.entry.second.now files.entry.third.now)
+        (seen D.remaining D.faults K.written K.faults desk.old out.old)
+        (seen D.remaining D.faults K.written K.faults desk.new out.new)
+        result }
+    ensures others { (other : List ℕ) → other ≢ files.entry.first.now → other ≢ files.entry.second.now → other ≢ files.entry.third.now → Keeps (D.remaining desk.old other) (D.remaining desk.new other) }
+{
+    let list = match take(alloc, &ListText, files.first, desk) {
+        Ok(list) => list,
+        Err(ending) => return ending,
+    };
+    let table = match take(alloc, &TableText, files.second, desk) {
+        Ok(table) => table,
+        Err(ending) => return ending,
+    };
+    equal_lists_have_one_verdict();
+    check_rows(&list, &table, files.third, desk, out)
+}

@@ -1,0 +1,95 @@
+//! `drive`: a script of updates, run over tables in a memory.
+ghost use Rattle.std.specs.Prelude.{◌≡◌, ◌≢◌, ◌≤◌, ◌<◌, ◌++◌, ℕ, List, IfErr, IsTrue, OnOk, Some, length, map};
+ghost use Rattle.std.specs.Io.KnownBytes.{Keeps};
+ghost use Rattle.command_words.specs.Naming.{all_differ, driving};
+ghost use Rattle.razor_core.specs.Outside.{seen, IsNoInput};
+ghost use Rattle.razor_core.specs.Ending.{Ends};
+ghost use Rattle.razor_core.specs.Drive.{IsEndOfDrive};
+ghost use Rattle.razor_core.specs.Tables.{AreAdded, IsNone, FailsAmong};
+
+use crate::ending::{Ending, Summary};
+use crate::taking::take;
+use crate::texts::{ScriptText, TableText};
+use bank_update::laws::a_run_without_faults_is_the_session;
+use bank_update::{DriveError, Swapper, drive_on};
+use command_words::Slots;
+use razor_base::{Desk, Sink};
+use std::alloc::Global;
+use tcam_sim::Bank;
+use ternary_words::Table;
+
+/// Takes the turns of the tables: puts them behind the others, or says how the command ends.
+fn take_tables<'a, D: Desk>(
+    alloc: Global,
+    files: &[&'a str],
+    desk: &mut D,
+    tables: &mut Vec<Table>,
+) -> Result<(), Ending<'a>>
+    requires { IsTrue (all_differ (map (λ word. word.now) files.now)) }
+    ensures taken { OnOk result (AreAdded (map (λ word. word.now) files.now) (D.remaining desk.old) (D.remaining desk.new) tables.old.items tables.new.items) }
+    ensures ended { IfErr result (λ ending. FailsAmong (map (λ word. word.now) files.now) (D.remaining desk.old) (D.remaining desk.new) (D.faults desk.old) (D.faults desk.new) ending) }
+    ensures counts { (other : List ℕ) → D.faults desk.old other ≤ D.faults desk.new other }
+    ensures others { (other : List ℕ) → IsNone other (map (λ word. word.now) files.now) → Keeps (D.remaining desk.old other) (D.remaining desk.new other) }
+{
+    let [file, rest @ ..] = files else {
+        return Ok(());
+    };
+    let table = match take(alloc, &TableText, file, desk) {
+        Ok(table) => table,
+        Err(ending) => return Err(ending),
+    };
+    if tables.push(table).is_err() {
+        return Err(Ending::Memory);
+    }
+    take_tables(alloc, rest, desk, tables)
+}
+
+/// The ending of a command whose script ended so.
+fn drive_ended<'a>(ended: Result<u64, DriveError>) -> Ending<'a>
+    ensures { IsEndOfDrive ended result }
+{
+    match ended {
+        Ok(_) => Ending::Done(Summary::Nothing),
+        Err(DriveError::WriteFault) => Ending::WriteFault,
+        Err(DriveError::Memory) => Ending::Memory,
+    }
+}
+
+/// Writes the line of each command of the script, run over the tables in a memory of so many slots.
+pub fn run_script<'a, D: Desk, K: Sink>(
+    alloc: Global,
+    slots: Slots,
+    files: &[&'a str],
+    desk: &mut D,
+    out: &mut K,
+) -> Ending<'a>
+    requires some { 0 < length files.now }
+    requires few { length files.now ≤ 9 }
+    requires apart { IsTrue (all_differ (map (λ word. word.now) files.now)) }
+    ensures ends { Ends (driving slots.count (map (λ word. word.now) files.now))
+        (seen D.remaining D.faults K.written K.faults desk.old out.old)
+        (seen D.remaining D.faults K.written K.faults desk.new out.new)
+        result }
+    ensures others { (other : List ℕ) → IsNoInput (Some (driving slots.count (map (λ word. word.now) files.now))) other → Keeps (D.remaining desk.old other) (D.remaining desk.new other) }
+{
+    let [script, table_files @ ..] = files else {
+        unreachable!()
+    };
+    let tables = table_files.len() as u32;
+    let script = match take(alloc, &ScriptText { tables }, script, desk) {
+        Ok(script) => script,
+        Err(ending) => return ending,
+    };
+    let mut tables = Vec::new(alloc);
+    if let Err(ending) = take_tables(alloc, table_files, desk, &mut tables) {
+        return ending;
+    }
+    let bank = match Bank::new(alloc, slots.count) {
+        Ok(bank) => bank,
+        Err(_) => return Ending::Memory,
+    };
+    a_run_without_faults_is_the_session();
+    let mut swapper = Swapper::new(bank);
+    let ended = drive_on(alloc, &script, &tables, &mut swapper, out);
+    drive_ended(ended)
+}

@@ -1,0 +1,86 @@
+//! `equiv`: whether two lists decide every header alike, or on which they first differ.
+ghost use Rattle.std.specs.Prelude.{◌≢◌, ℕ, List};
+ghost use Rattle.std.specs.Io.KnownBytes.{Keeps};
+ghost use Rattle.command_words.specs.Command.{Equiv};
+ghost use Rattle.filter_reader.specs.Lists.{filter_list};
+ghost use Rattle.list_equiv.specs.Verdict.{IsVerdict};
+ghost use Rattle.razor_base.specs.Output.{Writes};
+ghost use Rattle.razor_core.specs.Ending.{Ends};
+ghost use Rattle.razor_core.specs.Equiv.{verdict_text, IsAnswer};
+ghost use Rattle.razor_core.specs.Outside.{seen};
+
+use crate::commands::difference::write_difference;
+use crate::ending::{Ending, Summary};
+use crate::taking::take;
+use crate::texts::ListText;
+use command_words::TwoFiles;
+use filter_reader::RuleList;
+use list_equiv::{Verdict, equal};
+use razor_base::{Desk, Failed, Part, Sink, write_parts};
+use std::alloc::Global;
+
+/// Says whether the lists decide every header alike, or on which they first differ.
+pub fn compare_lists<'a, D: Desk, K: Sink>(
+    alloc: Global,
+    files: TwoFiles<'a>,
+    desk: &mut D,
+    out: &mut K,
+) -> Ending<'a>
+    ensures ends { Ends (Equiv files.entry.first.now files.entry.second.now)
+        (seen D.remaining D.faults K.written K.faults desk.old out.old)
+        (seen D.remaining D.faults K.written K.faults desk.new out.new)
+        result }
+    ensures others { (other : List ℕ) → other ≢ files.entry.first.now → other ≢ files.entry.second.now → Keeps (D.remaining desk.old other) (D.remaining desk.new other) }
+{
+    let left = match take(alloc, &ListText, files.first, desk) {
+        Ok(list) => list,
+        Err(ending) => return ending,
+    };
+    let right = match take(alloc, &ListText, files.second, desk) {
+        Ok(list) => list,
+        Err(ending) => return ending,
+    };
+    let verdict = match equal(alloc, &left, &right) {
+        Ok(verdict) => verdict,
+        Err(_) => return Ending::Memory,
+    };
+    match write_verdict(verdict, &left, &right, out) {
+        Ok(()) => answered(verdict),
+        Err(_) => Ending::WriteFault,
+    }
+}
+
+/// Writes what comparing the lists came to.
+fn write_verdict<'a, K: Sink>(
+    verdict: Verdict,
+    left: &'a RuleList,
+    right: &'a RuleList,
+    out: &mut K,
+) -> Result<(), Failed>
+    requires { IsVerdict left.now right.now verdict }
+    ensures { Writes K.written K.faults out.old out.new (verdict_text verdict (filter_list left.now).rules (filter_list right.now).rules) result }
+{
+    match verdict {
+        Verdict::Equal => write_parts(out, &[Part::Text("equal\n")]),
+        Verdict::Differ {
+            header,
+            left: first,
+            right: second,
+        } => write_difference(
+            &header,
+            left.names.name(first),
+            right.names.name(second),
+            out,
+        ),
+    }
+}
+
+/// The ending of a command whose verdict was written.
+fn answered<'a>(verdict: Verdict) -> Ending<'a>
+    ensures { IsAnswer verdict result }
+{
+    match verdict {
+        Verdict::Equal => Ending::Done(Summary::Nothing),
+        Verdict::Differ { .. } => Ending::No,
+    }
+}

@@ -1,0 +1,39 @@
+//! `expand`: the direct expansion of a list.
+ghost use Rattle.std.specs.Prelude.{◌≡◌, ◌≤◌, IfOk, MatchResult};
+ghost use Rattle.filter_reader.specs.Lists.{filter_list};
+ghost use Rattle.rule_expansion.specs.Expansion.{expanded_count};
+ghost use Rattle.rule_expansion.specs.Tables.{IsExpansion};
+ghost use Rattle.ternary_words.specs.Limits.{IsSlotWidth};
+ghost use Rattle.ternary_words.specs.Views.{table_of};
+ghost use Rattle.razor_core.specs.Make.{IsNotMade};
+
+use crate::ending::Ending;
+use filter_reader::RuleList;
+use rule_expansion::{ExpandError, expand};
+use std::alloc::Global;
+use ternary_words::Table;
+
+/// The direct expansion of the list: rule by rule one entry for each combination of the shortest covers
+/// of its five sets by prefixes, the source slowest and the protocol fastest.
+///
+/// `limit` is the greatest number of entries, 1 to 262,144, and `slot` the width of the table's slots: 104, 144 or 288.
+pub fn expand_list<'a>(
+    alloc: Global,
+    list: &RuleList,
+    limit: u32,
+    slot: u16,
+) -> Result<Table, Ending<'a>>
+    requires limit { limit ≤ 262144 }
+    requires slot { ∥ IsSlotWidth slot ∥₁ }
+    ensures table { MatchResult result
+        (λ table. IsExpansion (filter_list list.now).rules slot (table_of table))
+        (λ ending. IsNotMade (λ needed. needed ≡ expanded_count (filter_list list.now).rules) limit ending) }
+    ensures names { IfOk result (λ table. table.names ≡ list.now.names) }
+    ensures room { IfOk result (λ table. expanded_count (filter_list list.now).rules ≤ limit) }
+{
+    match expand(alloc, &list.rules, &list.names, limit, slot) {
+        Ok(table) => Ok(table),
+        Err(ExpandError::TooMany { needed, limit }) => Err(Ending::TooMany { needed, limit }),
+        Err(ExpandError::Memory) => Err(Ending::Memory),
+    }
+}

@@ -1,0 +1,36 @@
+//! `migrate`: a table of either version in the compact text.
+ghost use Rattle.std.specs.Prelude.{◌≢◌, ℕ, List};
+ghost use Rattle.std.specs.Io.KnownBytes.{Keeps};
+ghost use Rattle.command_words.specs.Command.{Migrate};
+ghost use Rattle.razor_core.specs.Ending.{Ends};
+ghost use Rattle.razor_core.specs.Outside.{seen};
+
+use crate::ending::{Ending, Summary};
+use crate::taking::take;
+use crate::texts::TableText;
+use razor_base::{Desk, Sink};
+use std::alloc::Global;
+use ternary_words::write_table;
+
+/// Writes a table of either version in the compact text.
+pub fn migrate_table<'a, D: Desk, K: Sink>(
+    alloc: Global,
+    file: &'a str,
+    desk: &mut D,
+    out: &mut K,
+) -> Ending<'a>
+    ensures ends { Ends (Migrate file.now)
+        (seen D.remaining D.faults K.written K.faults desk.old out.old)
+        (seen D.remaining D.faults K.written K.faults desk.new out.new)
+        result }
+    ensures others { (other : List ℕ) → other ≢ file.now → Keeps (D.remaining desk.old other) (D.remaining desk.new other) }
+{
+    let table = match take(alloc, &TableText, file, desk) {
+        Ok(table) => table,
+        Err(ending) => return ending,
+    };
+    match write_table(&table, out) {
+        Ok(()) => Ending::Done(Summary::Nothing),
+        Err(_) => Ending::WriteFault,
+    }
+}

@@ -1,0 +1,69 @@
+//! `trace`: what a table answers to the headers of a trace.
+ghost use Rattle.std.specs.Prelude.{◌≢◌, ℕ, List};
+ghost use Rattle.std.specs.Io.KnownBytes.{Keeps};
+ghost use Rattle.command_words.specs.Command.{Trace};
+ghost use Rattle.razor_core.specs.Outside.{seen};
+ghost use Rattle.razor_core.specs.Ending.{Ends};
+ghost use Rattle.razor_core.specs.Trace.{IsEndOfRun};
+
+use crate::ending::{Ending, Summary};
+use crate::line_reason::LineReason;
+use crate::taking::take;
+use crate::texts::TableText;
+use command_words::TwoFiles;
+use razor_base::{Desk, Sink};
+use std::alloc::Global;
+use tcam_sim::loaded;
+use trace_run::laws::{loaded_entries_answer, loaded_entries_have_names};
+use trace_run::{TraceError, run};
+
+/// The greatest number of bytes of a trace.
+const MOST_TRACE_BYTES: u64 = 67_108_864;
+
+/// The ending of a command whose run over the trace ended so.
+fn run_ended(file: &str, ended: Result<u64, TraceError>) -> Ending<'_>
+    ensures { IsEndOfRun file.now ended result }
+{
+    match ended {
+        Ok(_) => Ending::Done(Summary::Nothing),
+        Err(TraceError::BadLine { line, reason }) => Ending::BadLine {
+            file,
+            line,
+            reason: LineReason::OfTrace(reason),
+        },
+        Err(TraceError::ReadFault) => Ending::ReadFault { file },
+        Err(TraceError::TooLong) => Ending::TooLong {
+            file,
+            limit: MOST_TRACE_BYTES,
+        },
+        Err(TraceError::WriteFault) => Ending::WriteFault,
+        Err(TraceError::Memory) => Ending::Memory,
+    }
+}
+
+/// Writes what the table answers to each header of the trace.
+pub fn answer_trace<'a, D: Desk, K: Sink>(
+    alloc: Global,
+    files: TwoFiles<'a>,
+    desk: &mut D,
+    out: &mut K,
+) -> Ending<'a>
+    ensures ends { Ends (Trace files.entry.first.now files.entry.second.now)
+        (seen D.remaining D.faults K.written K.faults desk.old out.old)
+        (seen D.remaining D.faults K.written K.faults desk.new out.new)
+        result }
+    ensures others { (other : List ℕ) → other ≢ files.entry.first.now → other ≢ files.entry.second.now → Keeps (D.remaining desk.old other) (D.remaining desk.new other) }
+{
+    let table = match take(alloc, &TableText, files.first, desk) {
+        Ok(table) => table,
+        Err(ending) => return ending,
+    };
+    let bank = match loaded(alloc, &table) {
+        Ok(bank) => bank,
+        Err(_) => return Ending::Memory,
+    };
+    loaded_entries_answer();
+    loaded_entries_have_names();
+    let ended = run(alloc, &bank, &table.names, desk, files.second, out);
+    run_ended(files.second, ended)
+}

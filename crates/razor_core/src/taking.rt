@@ -1,0 +1,77 @@
+//! Taking the turn of an input that is read whole.
+ghost use Rattle.std.specs.Prelude.{◌≡◌, ◌≢◌, ◌≤◌, ℕ, List, IfOk, MatchResult, Ok};
+ghost use Rattle.std.specs.Io.KnownBytes.{Keeps};
+ghost use Rattle.razor_core.specs.Inputs.{Kind, Value, input_of, most_bytes, spelled_by};
+ghost use Rattle.razor_core.specs.Taking.{EndsTurn, IsFaultOf, IsReadWhole, IsUnspelled, TakesTurn};
+
+use crate::ending::Ending;
+use razor_base::{Desk, ReadError, read_all};
+use std::alloc::Global;
+
+/// A kind of text that is read whole before anything of it is taken.
+pub trait WholeText {
+    /// What a text without a bad line spells.
+    type Spelled;
+
+    /// The kind.
+    ghost kind: { Self → Kind };
+
+    /// What the spelled is a value of.
+    ghost value: { Self.Spelled → Value };
+
+    /// What is known of all that is spelled.
+    ghost holds: { Self → Self.Spelled → Type 0 };
+
+    /// The greatest number of bytes of such a text.
+    fn most(&self) -> u64
+        ensures most { result ≡ most_bytes (kind self.now) }
+        ensures within { result ≤ 268435456 };
+
+    /// What the bytes of the file spell, or how the command ends on their first bad line.
+    fn read<'a>(
+        &self,
+        alloc: Global,
+        file: &'a str,
+        text: &[u8],
+    ) -> Result<Self::Spelled, Ending<'a>>
+        ensures spelled { MatchResult result
+            (λ spelled. spelled_by (kind self.now) text.now ≡ Ok (value spelled))
+            (λ ending. IsUnspelled (kind self.now) file.now text.now ending) }
+        ensures holds { IfOk result (λ spelled. holds self.now spelled) };
+
+    /// A text of more bytes is too long.
+    ghost whole: { (self : Self) → IsReadWhole (kind self) };
+}
+
+/// The ending of a command whose input couldn't be read whole.
+fn not_read(file: &str, limit: u64, error: ReadError) -> Ending<'_>
+    ensures { IsFaultOf file.now limit error result }
+{
+    match error {
+        ReadError::Fault => Ending::ReadFault { file },
+        ReadError::TooLong => Ending::TooLong { file, limit },
+        ReadError::Memory => Ending::Memory,
+    }
+}
+
+/// Takes the turn of an input: reads it whole and takes what it spells, or says how the command ends.
+pub fn take<'a, T: WholeText, D: Desk>(
+    alloc: Global,
+    kind: &T,
+    file: &'a str,
+    desk: &mut D,
+) -> Result<T::Spelled, Ending<'a>>
+    ensures turn { MatchResult result
+        (λ spelled. TakesTurn (input_of (T.kind kind.now) file.now) (D.remaining desk.old file.now) (D.remaining desk.new file.now) (T.value spelled))
+        (λ ending. EndsTurn (input_of (T.kind kind.now) file.now) (D.remaining desk.old file.now) (D.remaining desk.new file.now) (D.faults desk.old file.now) (D.faults desk.new file.now) ending) }
+    ensures holds { IfOk result (λ spelled. T.holds kind.now spelled) }
+    ensures counts { (other : List ℕ) → D.faults desk.old other ≤ D.faults desk.new other }
+    ensures others { (other : List ℕ) → other ≢ file.now → Keeps (D.remaining desk.old other) (D.remaining desk.new other) }
+{
+    let limit = kind.most();
+    let mut text = Vec::new(alloc);
+    if let Err(error) = read_all(desk, file, limit, &mut text) {
+        return Err(not_read(file, limit, error));
+    }
+    kind.read(alloc, file, &text)
+}
