@@ -37,6 +37,7 @@ COMMANDS = {
     "gen": Command(("seed", "count")),
     "selfrun": Command(("seed", "count"), counts_entries=True),
     "migrate": Command(("table",)),
+    "merge": Command(("table",)),
 }
 
 

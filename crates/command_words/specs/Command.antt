@@ -18,3 +18,4 @@ pub data Command : Type 0 where
   Gen : ℕ → ℕ → Command
   Selfrun : ℕ → ℕ → Command
   Migrate : List ℕ → Command
+  Merge : List ℕ → Command

@@ -1,7 +1,7 @@
 -- How the commands are spelled: their names, their options, and what their other words are called.
 use Rattle.std.specs.Prelude.{ℕ, List, [], ◌∷◌, codes}
 use Rattle.command_words.specs.declared.form.CommandName.{CommandName}
-use Rattle.command_words.specs.declared.form.CommandName.TheVariants.{Expand, Compile, Equiv, Cert, Check, Trace, Drive, Gen, Selfrun, Migrate}
+use Rattle.command_words.specs.declared.form.CommandName.TheVariants.{Expand, Compile, Equiv, Cert, Check, Trace, Drive, Gen, Selfrun, Migrate, Merge}
 use Rattle.command_words.specs.declared.form.Need.{Need}
 use Rattle.command_words.specs.declared.form.Need.TheVariants.{Never, Maybe, Always}
 
@@ -39,4 +39,5 @@ forms =
     ∷ plain_form Gen (codes "gen") (codes "SEED N")
     ∷ plain_form Selfrun (codes "selfrun") (codes "SEED N")
     ∷ plain_form Migrate (codes "migrate") (codes "TABLE")
+    ∷ plain_form Merge (codes "merge") (codes "TABLE")
     ∷ []

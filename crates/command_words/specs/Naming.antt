@@ -5,7 +5,7 @@ use Rattle.std.specs.Str.{bytes_eq}
 use Rattle.command_words.specs.declared.command.Method.TheVariants as methods
 use Rattle.command_words.specs.declared.form.CommandName.{CommandName}
 use Rattle.command_words.specs.declared.form.CommandName.TheVariants as names
-use Rattle.command_words.specs.Command.{Command, Sizes, Make, Equiv, Cert, Check, Trace, Drive, Gen, Selfrun, Migrate}
+use Rattle.command_words.specs.Command.{Command, Sizes, Make, Equiv, Cert, Check, Trace, Drive, Gen, Selfrun, Migrate, Merge}
 use Rattle.command_words.specs.Numbers.{number_between}
 use Rattle.command_words.specs.Steps.{◌>>=◌}
 
@@ -67,3 +67,4 @@ command_named names.Drive settings words = over_script settings.slots words
 command_named names.Gen settings words = drawing Gen words
 command_named names.Selfrun settings words = drawing Selfrun words
 command_named names.Migrate settings words = over_one Migrate words
+command_named names.Merge settings words = over_one Merge words

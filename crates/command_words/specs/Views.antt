@@ -7,7 +7,7 @@ use Rattle.command_words.specs.declared.reading.WordKind.{WordKind}
 use Rattle.command_words.specs.declared.reading.WordKind.TheVariants as code
 use Rattle.command_words.specs.declared.settings.Settings as code_settings
 use Rattle.command_words.specs.declared.sizes.Sizes as code_sizes
-use Rattle.command_words.specs.Command.{Command, Sizes, Make, Equiv, Cert, Check, Trace, Gen, Selfrun, Migrate}
+use Rattle.command_words.specs.Command.{Command, Sizes, Make, Equiv, Cert, Check, Trace, Gen, Selfrun, Migrate, Merge}
 use Rattle.command_words.specs.Forms.{Form}
 use Rattle.command_words.specs.Items.{Reading, Ends, Awaits, Gives, Stands, Fails}
 use Rattle.command_words.specs.Naming.{Settings, driving, is_script_run}
@@ -55,3 +55,4 @@ spelled_over words (asked.Drive slots) = driving slots.count words
 spelled_over words (asked.Gen drawing) = Gen drawing.seed drawing.rules
 spelled_over words (asked.Selfrun drawing) = Selfrun drawing.seed drawing.rules
 spelled_over words (asked.Migrate table) = Migrate table.now
+spelled_over words (asked.Merge table) = Merge table.now

@@ -38,4 +38,6 @@ pub enum Command<'a> {
     Selfrun(Drawing),
     /// Writes a table of either version in the compact text.
     Migrate(&'a str),
+    /// Writes a table with its entries merged.
+    Merge(&'a str),
 }

@@ -18,6 +18,7 @@ pub(crate) enum CommandName {
     Gen,
     Selfrun,
     Migrate,
+    Merge,
 }
 
 /// Whether a command takes an option: never, if it is there, or it has to be there.
@@ -84,7 +85,7 @@ fn script_form(command: CommandName, name: &'static str) -> CommandForm
 
 /// The forms of the commands that are built, in the order of the usage text.
 #[tactic(auto, unfolding(crate::specs::Forms::forms))]
-pub(crate) fn forms() -> [CommandForm; 10]
+pub(crate) fn forms() -> [CommandForm; 11]
     ensures { map form_seen result ≡ forms }
 {
     [
@@ -98,6 +99,7 @@ pub(crate) fn forms() -> [CommandForm; 10]
         plain_form(CommandName::Gen, "gen", "SEED N"),
         plain_form(CommandName::Selfrun, "selfrun", "SEED N"),
         plain_form(CommandName::Migrate, "migrate", "TABLE"),
+        plain_form(CommandName::Merge, "merge", "TABLE"),
     ]
 }
 

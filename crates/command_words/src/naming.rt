@@ -57,5 +57,6 @@ pub(crate) fn named<'a>(
         CommandName::Gen => Some(Command::Gen(seed_and_rules(words)?)),
         CommandName::Selfrun => Some(Command::Selfrun(seed_and_rules(words)?)),
         CommandName::Migrate => Some(Command::Migrate(one_file(words)?)),
+        CommandName::Merge => Some(Command::Merge(one_file(words)?)),
     }
 }

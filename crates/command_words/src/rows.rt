@@ -115,5 +115,6 @@ pub fn worked_usage()
         ∷ codes "  gen SEED N"
         ∷ codes "  selfrun SEED N"
         ∷ codes "  migrate TABLE"
+        ∷ codes "  merge TABLE"
         ∷ []) }
 {}

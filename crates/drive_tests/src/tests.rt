@@ -3,6 +3,7 @@ mod bank;
 mod drawing;
 mod driving;
 mod expected;
+mod merging;
 mod random;
 mod reading;
 mod refusing;

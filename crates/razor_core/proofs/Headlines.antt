@@ -10,15 +10,16 @@ use Rattle.ternary_words.specs.Table.{Table}
 use Rattle.field_boxes.specs.Classifier.{Rule}
 use Rattle.filter_reader.specs.ListText.{list_text}
 use Rattle.list_generator.specs.DrawnRules.{generated}
+use Rattle.bit_merge.proofs.Merged.{is_alike, is_fewer, is_tight}
 use Rattle.command_words.specs.declared.command.Method.{Method}
 use Rattle.command_words.specs.declared.command.Method.TheVariants.{Compile, Expand}
-use Rattle.command_words.specs.Command.{Command, Cert, Check, Drive, Equiv, Gen, Make, Migrate, Selfrun, Sizes, Trace}
+use Rattle.command_words.specs.Command.{Command, Cert, Check, Drive, Equiv, Gen, Make, Migrate, Merge, Selfrun, Sizes, Trace}
 use Rattle.razor_core.specs.Selfrun.{Summarises}
 use Rattle.razor_core.specs.Trace.{answers_text, taken_of}
 use Rattle.razor_core.specs.Cert.{IsCertificateOf, Writes}
 use Rattle.razor_core.specs.Check.{AnswerAlike, Certifies}
 use Rattle.razor_core.specs.Equiv.{DecideAlike, Compares}
-use Rattle.razor_core.specs.Headlines.{Adds, AreAlike, AreEqualLists, IsAnswered, IsCertified, IsCompiledText, IsDriven, IsExpandedText, IsMigrated}
+use Rattle.razor_core.specs.Headlines.{Adds, AreAlike, AreEqualLists, IsAnswered, IsCertified, IsCompiledText, IsDriven, IsExpandedText, IsMigrated, IsMergedText}
 use Rattle.razor_core.specs.Make.{IsMade}
 use Rattle.razor_core.specs.Inputs.{Input, Value, as_list, as_script, as_table, certificate_input, lines_value, is_too_long, list_input, list_value, script_input, script_value, table_input, table_value, trace_input, text_of_list, text_of_script, text_of_table}
 use Rattle.razor_core.specs.Gives.{Gives}
@@ -191,6 +192,30 @@ module _ (before after : Outside) (line : List ℕ) where
       let read = tabled file text first.value (turn_told before (table_input file) text first.value known first.turned_is) in
       let gives = subst (λ (v : Value). Gives command (v ∷ first.rest) done.outcome) read.2 (subst (λ (vs : List Value). Gives command vs done.outcome) first.values_are done.gives) in
       (done.outcome.text, done.written, record { table = read.0; table_spelled = read.1; compact = gives.0.written; reads_back = gives.0.spells })
+
+  pub merged : (file text : List ℕ) → KeepsPromise (Merge file) before after line 0 → before.remaining file ≡ Some text → Adds before after (IsMergedText text)
+  merged file text is known =
+      let command : Command = Merge file in
+      let done = is.done refl (told (before.remaining file) text known, tt) in
+      let first = first_of (turn (table_input file) (bytes_at before file)) (Ok []) done.values done.pass.turns in
+      let read = tabled file text first.value (turn_told before (table_input file) text first.value known first.turned_is) in
+      let gives = subst (λ (v : Value). Gives command (v ∷ first.rest) done.outcome) read.2 (subst (λ (vs : List Value). Gives command vs done.outcome) first.values_are done.gives) in
+      let entries = read.0.entries in
+      let out = gives.0.entries in
+      let joined = gives.1.entries in (
+        done.outcome.text,
+        done.written,
+        record {
+          table = read.0;
+          merged = gives.0;
+          table_spelled = read.1;
+          reads_back = gives.2.spells;
+          is_merged = gives.1;
+          answers = λ header. is_alike entries out header joined;
+          few = is_fewer entries out joined;
+          tight = is_tight entries out joined;
+        },
+      )
 
   pub drawn : (seed rules : ℕ) → KeepsPromise (Gen seed rules) before after line 0 → Adds before after (λ written. written ≡ list_text (generated seed rules).rules)
   drawn seed rules is =

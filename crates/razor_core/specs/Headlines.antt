@@ -19,6 +19,7 @@ use Rattle.razor_core.specs.Check.{AnswerAlike}
 use Rattle.razor_core.specs.Equiv.{DecideAlike}
 use Rattle.razor_core.specs.Inputs.{table_input}
 use Rattle.razor_core.specs.Drive.{value_of_table}
+use Rattle.razor_core.specs.Merge.{IsMergedTable}
 use Rattle.razor_core.specs.Outside.{Outside}
 use Rattle.razor_core.specs.Trace.{answers_text, taken_of}
 use Rattle.razor_core.specs.Turns.{turns_of}
@@ -85,6 +86,18 @@ pub record IsMigrated (table_bytes written : List ℕ) : Type 0 where
   pub table_spelled : table_in_text table_bytes ≡ Ok table
   pub compact : written ≡ table_text table
   pub reads_back : table_in_text written ≡ Ok table
+
+-- the output is the text of the table that the input spells with its entries merged: every header gets what it got, there
+-- are at most as many entries, and where none could be left out none can be
+pub record IsMergedText (table_bytes written : List ℕ) : Type 0 where
+  pub table : Table
+  pub merged : Table
+  pub table_spelled : table_in_text table_bytes ≡ Ok table
+  pub reads_back : table_in_text written ≡ Ok merged
+  pub is_merged : IsMergedTable table merged
+  pub answers : (header : List ℕ) → answer merged.entries header ≡ answer table.entries header
+  pub few : length merged.entries ≤ length table.entries
+  pub tight : IsTight table.entries → IsTight merged.entries
 
 -- the output is what the commands of the script print in turn over the tables, in a memory of so many slots that never
 -- fails

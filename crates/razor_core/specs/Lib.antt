@@ -10,6 +10,7 @@ pub mod Drive
 pub mod Gen
 pub mod Selfrun
 pub mod Migrate
+pub mod Merge
 pub mod Gives
 pub mod Outside
 pub mod Stopping

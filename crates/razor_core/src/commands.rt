@@ -17,6 +17,7 @@ mod equiv;
 mod expand;
 mod generate;
 mod make;
+mod merge;
 mod migrate;
 mod selfrun;
 mod trace;
@@ -29,6 +30,7 @@ use drive::run_script;
 use equiv::compare_lists;
 use generate::draw_list;
 use make::make_table;
+use merge::merge_table;
 use migrate::migrate_table;
 use razor_base::{Desk, Sink};
 use selfrun::run_load;
@@ -62,5 +64,6 @@ pub fn run<'a, D: Desk, K: Sink>(
         Command::Gen(drawing) => draw_list(alloc, drawing, out),
         Command::Selfrun(drawing) => run_load(alloc, drawing, out),
         Command::Migrate(file) => migrate_table(alloc, file, desk, out),
+        Command::Merge(file) => merge_table(alloc, file, desk, out),
     }
 }

@@ -2,8 +2,8 @@
 //! nothing.
 ghost use Rattle.std.specs.Prelude.{◌≡◌, ℕ, List, Some};
 ghost use Rattle.command_words.specs.declared.command.Method.TheVariants.{Expand, Compile};
-ghost use Rattle.command_words.specs.Command.{Cert, Check, Drive, Equiv, Gen, Make, Migrate, Selfrun, Sizes, Trace};
-ghost use Rattle.razor_core.specs.Headlines.{Adds, AreAlike, AreEqualLists, IsAnswered, IsCertified, IsCompiledText, IsDriven, IsExpandedText, IsMigrated};
+ghost use Rattle.command_words.specs.Command.{Cert, Check, Drive, Equiv, Gen, Make, Merge, Migrate, Selfrun, Sizes, Trace};
+ghost use Rattle.razor_core.specs.Headlines.{Adds, AreAlike, AreEqualLists, IsAnswered, IsCertified, IsCompiledText, IsDriven, IsExpandedText, IsMergedText, IsMigrated};
 ghost use Rattle.razor_core.specs.Outside.{Outside, Tells};
 ghost use Rattle.razor_core.specs.Promise.{KeepsPromise};
 ghost use Rattle.razor_core.specs.Selfrun.{Summarises};
@@ -65,6 +65,13 @@ pub fn migrated_tables_are_those_read()
     ensures { (before after : Outside) (line : List ℕ) (file text : List ℕ) →
         KeepsPromise (Migrate file) before after line 0 → before.remaining file ≡ Some text →
         Adds before after (IsMigrated text) }
+{}
+
+/// What `merge` has written is the table that was read with its entries merged, which answers as it does.
+pub fn merged_tables_answer_alike()
+    ensures { (before after : Outside) (line : List ℕ) (file text : List ℕ) →
+        KeepsPromise (Merge file) before after line 0 → before.remaining file ≡ Some text →
+        Adds before after (IsMergedText text) }
 {}
 
 /// What `gen` has written is the list that the seed gives.

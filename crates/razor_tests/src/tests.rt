@@ -7,6 +7,7 @@ mod crossing;
 mod faults;
 mod generating;
 mod limits;
+mod merging;
 mod migrating;
 mod refused;
 mod running;

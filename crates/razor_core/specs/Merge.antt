@@ -1,0 +1,15 @@
+-- What `merge` defines: the text of a table whose entries are merged.
+use Rattle.std.specs.Prelude.{◌≡◌, true, []}
+use Rattle.ternary_words.specs.Table.{Table}
+use Rattle.bit_merge.specs.Merge.{IsMerged}
+use Rattle.razor_core.specs.Outcome.{Outcome, IsTextOf}
+
+-- the table with the merged entries in the place of its own
+pub record IsMergedTable (table merged : Table) : Type 0 where
+  pub slot : merged.slot ≡ table.slot
+  pub composed : merged.composed ≡ table.composed
+  pub entries : IsMerged table.entries merged.entries
+
+-- the text of that table
+abbrev pub Merges : Table → Outcome → Type 0
+Merges table outcome = (merged : Table) × IsMergedTable table merged × IsTextOf merged outcome.text × (outcome.yes ≡ true) × (outcome.line ≡ [])

@@ -1,0 +1,63 @@
+//! `merge`: a table whose entries are merged.
+ghost use Rattle.std.specs.Prelude.{◌≡◌, ◌≢◌, ℕ, List, IfOk};
+ghost use Rattle.std.specs.Io.KnownBytes.{Keeps};
+ghost use Rattle.command_words.specs.Command.{Merge};
+ghost use Rattle.ternary_words.specs.Views.{table_of};
+ghost use Rattle.razor_core.specs.Ending.{Ends};
+ghost use Rattle.razor_core.specs.Merge.{IsMergedTable};
+ghost use Rattle.razor_core.specs.Outside.{seen};
+
+use crate::ending::{Ending, Summary};
+use crate::taking::take;
+use crate::texts::TableText;
+use bit_merge::merge;
+use razor_base::{Desk, Memory, Sink};
+use std::alloc::Global;
+use ternary_words::{Table, write_table};
+
+/// Writes a table with its entries merged.
+pub fn merge_table<'a, D: Desk, K: Sink>(
+    alloc: Global,
+    file: &'a str,
+    desk: &mut D,
+    out: &mut K,
+) -> Ending<'a>
+    ensures ends { Ends (Merge file.now)
+        (seen D.remaining D.faults K.written K.faults desk.old out.old)
+        (seen D.remaining D.faults K.written K.faults desk.new out.new)
+        result }
+    ensures others { (other : List ℕ) → other ≢ file.now → Keeps (D.remaining desk.old other) (D.remaining desk.new other) }
+{
+    let table = match take(alloc, &TableText, file, desk) {
+        Ok(table) => table,
+        Err(ending) => return ending,
+    };
+    let table = match merged(alloc, table) {
+        Ok(table) => table,
+        Err(_) => return Ending::Memory,
+    };
+    match write_table(&table, out) {
+        Ok(()) => Ending::Done(Summary::Nothing),
+        Err(_) => Ending::WriteFault,
+    }
+}
+
+/// The table with the merged entries in the place of its own.
+fn merged(alloc: Global, table: Table) -> Result<Table, Memory>
+    ensures merged { IfOk result (λ merged. IsMergedTable (table_of table) (table_of merged)) }
+    ensures names { IfOk result (λ merged. merged.names ≡ table.names) }
+{
+    let Table {
+        slot,
+        composed,
+        entries,
+        names,
+    } = table;
+    names.are_names();
+    Ok(Table {
+        slot,
+        composed,
+        entries: merge(alloc, entries)?,
+        names,
+    })
+}
