@@ -8,7 +8,7 @@ use Rattle.std.proofs.lemmas.List.Quantifiers.{position-Some}
 use Rattle.field_boxes.specs.declared.rule.Rule.{Rule}
 use Rattle.field_boxes.specs.Boxes.{box_holds}
 use Rattle.field_boxes.specs.Classifier.{Interval, union_holds}
-use Rattle.field_boxes.specs.Fields.{IsHeader}
+use Rattle.field_boxes.specs.Fields.{stated, IsHeader}
 use Rattle.field_boxes.specs.Names.{name_at, AreNames}
 use Rattle.field_boxes.specs.Rules as rules
 use Rattle.filter_reader.specs.declared.list.RuleList.{RuleList}
@@ -127,7 +127,7 @@ entries-there items (Some k) = entry-there k (slice_get items k)
 
 -- the node answers common numbers of the first that passes
 abbrev pub AnswersNames : List Node → ℕ → List Rule → Type 0
-AnswersNames nodes id rs = (header : List ℕ) → IsHeader header → answer nodes id header ≡ or_none (decided rs header)
+AnswersNames nodes id rs = (header : List ℕ) → IsHeader header → answer nodes id header ≡ or_none (decided stated rs header)
 
 -- the two nodes answer alike exactly where list and table agree
 abbrev pub TellApart : List Node → ℕ → ℕ → RuleList → Table → Type 0

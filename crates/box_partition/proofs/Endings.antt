@@ -2,7 +2,7 @@
 use Rattle.std.proofs.Common.{◌≡◌, ℕ, List, [], Bool, Option, Result, Ok, Err, ap, ◌∙◌}
 use Rattle.std.specs.Prelude.{IsErrAnd, IfOk, position, length}
 use Rattle.field_boxes.specs.declared.rule.Rule.{Rule}
-use Rattle.field_boxes.specs.Fields.{IsHeader}
+use Rattle.field_boxes.specs.Fields.{stated, IsHeader}
 use Rattle.field_boxes.specs.Rules as rules
 use Rattle.filter_reader.specs.declared.list.RuleList.{RuleList}
 use Rattle.ternary_words.specs.declared.table.Table.{Table}
@@ -32,10 +32,10 @@ is-refused {r = Err e} rule entry list table agree h =
 
 -- a node of rules that stand for items answers the number of the first item that passes
 pub answers-first : {X : Type 0} (test : List ℕ → X → Bool) (nodes : List Node) (id : ℕ) (items whole : List X) (made rs : List Rule) → items ≡ whole → rs ≡ made → StandFor test counted items made →
-    ((header : List ℕ) → IsHeader header → answer nodes id header ≡ decided rs header) →
+    ((header : List ℕ) → IsHeader header → answer nodes id header ≡ decided stated rs header) →
     (header : List ℕ) → IsHeader header → number_answered (answer nodes id header) ≡ number_of_place (position (test header) whole)
 answers-first {X} test nodes id items whole made rs same from s answers header is =
-    ap number_answered (answers header is ∙ ap (λ (xs : List Rule). decided xs header) from) ∙ places-answer test items made s header is
+    ap number_answered (answers header is ∙ ap (λ (xs : List Rule). decided stated xs header) from) ∙ places-answer test items made s header is
     ∙ ap (λ (xs : List X). number_of_place (position (test header) xs)) same
 
 -- the rows of two nodes that answer the first rule and the first entry are being written

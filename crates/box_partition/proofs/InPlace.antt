@@ -94,13 +94,13 @@ there-later number x xs None = refl
 there-later number x xs (Some k) = ap (λ m. number_there number (x ∷ xs) (Some m)) (sym (add-one k))
 
 decided-step : {X : Type 0} (header : List ℕ) (number : ℕ → X → ℕ) (x : X) (xs : List X) (r : Rule) (rs : List Rule) (place : Option ℕ) (b : Bool) → matches stated header (rule_of r) ≡ b →
-    r.decision ≡ number 0 x → decided rs header ≡ number_there (λ k. number (suc k)) xs place →
-    decided (r ∷ rs) header ≡ number_there number (x ∷ xs) (cond b (Some 0) (option_map (λ k. k + 1) place))
-decided-step header number x xs r rs place true m d rest = decided_head header r rs true m ∙ d
-decided-step header number x xs r rs place false m d rest = decided_head header r rs false m ∙ rest ∙ there-later number x xs place
+    r.decision ≡ number 0 x → decided stated rs header ≡ number_there (λ k. number (suc k)) xs place →
+    decided stated (r ∷ rs) header ≡ number_there number (x ∷ xs) (cond b (Some 0) (option_map (λ k. k + 1) place))
+decided-step header number x xs r rs place true m d rest = decided_head stated header r rs true m ∙ d
+decided-step header number x xs r rs place false m d rest = decided_head stated header r rs false m ∙ rest ∙ there-later number x xs place
 
 decided-at : {X : Type 0} (header : List ℕ) (test : X → Bool) (number : ℕ → X → ℕ) (xs : List X) (rs : List Rule) → StandAt header test number xs rs →
-    decided rs header ≡ number_there number xs (position test xs)
+    decided stated rs header ≡ number_there number xs (position test xs)
 decided-at header test number [] [] s = refl
 decided-at header test number [] (r ∷ rs) s = absurd s
 decided-at header test number (x ∷ xs) [] s = absurd s
@@ -110,7 +110,7 @@ decided-at header test number (x ∷ xs) (r ∷ rs) s =
 
 -- rules that stand for items decide the number of the first item that passes
 pub decided-first : {X : Type 0} (test : List ℕ → X → Bool) (number : ℕ → X → ℕ) (items : List X) (rules : List Rule) → StandFor test number items rules →
-    (header : List ℕ) → IsHeader header → decided rules header ≡ number_there number items (position (test header) items)
+    (header : List ℕ) → IsHeader header → decided stated rules header ≡ number_there number items (position (test header) items)
 decided-first test number items rules s header is =
     decided-at header (test header) number items rules (stand-at header (test header) number items rules s.count (λ k x d at. (s.matched k x d at header is, s.decided k x d at)))
 
@@ -128,7 +128,7 @@ counted-there (x ∷ xs) p (Some k) e =
 
 -- rules that decide places answer the number of the first item that passes
 pub places-answer : {X : Type 0} (test : List ℕ → X → Bool) (items : List X) (rules : List Rule) → StandFor test counted items rules →
-    (header : List ℕ) → IsHeader header → number_answered (decided rules header) ≡ number_of_place (position (test header) items)
+    (header : List ℕ) → IsHeader header → number_answered (decided stated rules header) ≡ number_of_place (position (test header) items)
 places-answer test items rules s header is =
     ap number_answered (decided-first test counted items rules s header is) ∙ counted-there items (test header) (position (test header) items) refl
 

@@ -5,7 +5,8 @@ pub mod Exists
 pub mod Matching
 pub mod InPlace
 pub mod Common
-pub mod Pairing
+pub mod Stated
+mod Pairing
 pub mod Until
 pub mod Texts
 pub mod Certified

@@ -10,7 +10,7 @@ use Rattle.node_store.specs.declared.split.Part.{Part}
 use Rattle.node_store.specs.Diagram.{Node, level_of, edges_of, answer}
 use Rattle.node_store.specs.Edges.{child_of}
 use Rattle.node_store.specs.Split.{IsSplit, to_left, to_right}
-use Rattle.node_store.specs.Store.{AreValuesFrom, AnswerAlike, LeadTo}
+use Rattle.node_store.specs.Store.{AnswerAlike, LeadTo}
 use Rattle.node_store.proofs.Adjacent as adjacent
 use Rattle.node_store.proofs.Edges as edges
 use Rattle.partition_check.specs.Boxes.{ends, AreUpTo}
@@ -33,7 +33,7 @@ same_answer (suc m) (suc n) h = cc
 
 -- in every store two nodes of a level that claim the same are one
 abbrev pub OneNode : List Node → ℕ → Type 0
-OneNode nodes level = (a b : ℕ) → level_of nodes a ≡ level → level_of nodes b ≡ level → AnswerAlike nodes level a b → a ≡ b
+OneNode nodes level = (a b : ℕ) → level_of nodes a ≡ drop level stated → level_of nodes b ≡ drop level stated → AnswerAlike nodes (drop level stated) a b → a ≡ b
 
 same_id : (a b : NodeId) → a.0 ≡ b.0 → a ≡ b
 same_id a b p = ap (λ (n : ℕ). let r : NodeId = record { 0 = n } in r) p
@@ -44,7 +44,7 @@ PartsDiffer p q = (p.left ≢ q.left) ⊎ (p.right ≢ q.right)
 -- the parts lead to nodes of the level
 abbrev AreOfLevel : List Node → ℕ → List Part → Type 0
 AreOfLevel nodes level [] = Unit {0}
-AreOfLevel nodes level (p ∷ ps) = (level_of nodes p.left.0 ≡ level) × (level_of nodes p.right.0 ≡ level) × AreOfLevel nodes level ps
+AreOfLevel nodes level (p ∷ ps) = (level_of nodes p.left.0 ≡ drop level stated) × (level_of nodes p.right.0 ≡ drop level stated) × AreOfLevel nodes level ps
 
 -- the parts from a value on, which lead where the two nodes do
 record ArePartsFrom (nodes : List Node) (level a b g lo : ℕ) (parts : List Part) : Type 0 where
@@ -104,7 +104,7 @@ drop-map zero fields = refl
 drop-map (suc n) [] = refl
 drop-map (suc n) (f ∷ fields) = drop-map n fields
 
-pub values-up_to : (level : ℕ) (values : List ℕ) → AreValuesFrom level values → AreUpTo (drop level ends) values
+pub values-up_to : (level : ℕ) (values : List ℕ) → AreValues (drop level stated) values → AreUpTo (drop level ends) values
 values-up_to level values h = subst (λ gs. AreUpTo gs values) (drop-map level stated) (up_to (drop level stated) values h)
 
 -- no part ends before its group does: the next part would lead to the same nodes
@@ -120,7 +120,7 @@ no-earlier_part nodes level a b g lo x xs p (q ∷ ps) one s h l less =
     let e' = bounded nodes level a b g (suc p.hi) q ps t in
     let here = group-claims nodes level a b g lo x xs p (q ∷ ps) lo s l (omega arith) e.0 (omega (arith, e.0, e.1)) (omega (arith, h.1)) h.2 in
     let next = group-claims nodes level a b g (suc p.hi) x xs q ps (suc p.hi) t l (omega arith) e'.0 (omega (arith, e'.0, e'.1)) (omega (arith, h.1, s.rise.0)) less in
-    let agree : (values : List ℕ) → AreValuesFrom level values → node_claims nodes p.left.0 p.right.0 values ≡ node_claims nodes q.left.0 q.right.0 values =
+    let agree : (values : List ℕ) → AreValues (drop level stated) values → node_claims nodes p.left.0 p.right.0 values ≡ node_claims nodes q.left.0 q.right.0 values =
     λ values is. claims-agree (drop level ends) (node_claims nodes p.left.0 p.right.0) (node_claims nodes q.left.0 q.right.0) x.rest values (values-up_to level values is) h.3 here next in
     elim (adjacent.head PartsDiffer p q ps s.apart) [
       | inl n ↦
@@ -196,12 +196,12 @@ pub begins-zero : (parts : List Part) (k : ℕ) → begins_from 0 parts k ≡ be
 begins-zero parts zero = refl
 begins-zero parts (suc k) = refl
 
-levels-of : (nodes : List Node) (level : ℕ) (parts : List Part) → LeadTo nodes level (map to_left parts) → LeadTo nodes level (map to_right parts) → AreOfLevel nodes level parts
+levels-of : (nodes : List Node) (level : ℕ) (parts : List Part) → LeadTo nodes (drop level stated) (map to_left parts) → LeadTo nodes (drop level stated) (map to_right parts) → AreOfLevel nodes level parts
 levels-of nodes level [] l r = tt
 levels-of nodes level (p ∷ ps) l r = (
   l 0 (to_left p) (omega arith),
   r 0 (to_right p) (omega arith),
-  levels-of nodes level ps (All-tail (λ (e : Edge). level_of nodes e.to.0 ≡ level) (to_left p) (map to_left ps) l) (All-tail (λ (e : Edge). level_of nodes e.to.0 ≡ level) (to_right p) (map to_right ps) r),
+  levels-of nodes level ps (All-tail (λ (e : Edge). level_of nodes e.to.0 ≡ drop level stated) (to_left p) (map to_left ps) l) (All-tail (λ (e : Edge). level_of nodes e.to.0 ≡ drop level stated) (to_right p) (map to_right ps) r),
 )
 
 -- the groups of the rows of two nodes, one for each part
@@ -217,7 +217,7 @@ paired-groups nodes level a b g groups parts h = record {
 }
 
 grouped : (nodes : List Node) (level a b g : ℕ) (rows : List Statement) (parts : List Part) → OneNode nodes (suc level) → IsSplit g (edges_of nodes a) (edges_of nodes b) parts →
-    LeadTo nodes (suc level) (map to_left parts) → LeadTo nodes (suc level) (map to_right parts) →
+    LeadTo nodes (drop (suc level) stated) (map to_left parts) → LeadTo nodes (drop (suc level) stated) (map to_right parts) →
     IsCoarsest (g ∷ drop (suc level) ends) rows → AreRight (node_claims nodes a b) rows → HasGroups nodes (suc level) rows parts
 grouped nodes level a b g rows parts one s left right c l = record {
   groups = c.0;
@@ -243,6 +243,6 @@ fields-from (suc (suc (suc (suc zero)))) h = refl
 fields-from (suc (suc (suc (suc (suc level))))) h = absurd (omega (arith, h))
 
 pub has-groups : (nodes : List Node) (level a b : ℕ) (rows : List Statement) (parts : List Part) → level < 5 → OneNode nodes (suc level) → IsSplit (greatest_of level) (edges_of nodes a) (edges_of nodes b) parts →
-    LeadTo nodes (suc level) (map to_left parts) → LeadTo nodes (suc level) (map to_right parts) → AreRowsOf nodes level a b rows → HasGroups nodes (suc level) rows parts
+    LeadTo nodes (drop (suc level) stated) (map to_left parts) → LeadTo nodes (drop (suc level) stated) (map to_right parts) → AreRowsOf nodes level a b rows → HasGroups nodes (suc level) rows parts
 has-groups nodes level a b rows parts less one s left right h =
     grouped nodes level a b (greatest_of level) rows parts one s left right (subst (λ gs. IsCoarsest gs rows) (fields-from level less) h.coarsest) (claimed-right (node_claims nodes a b) rows h.claimed)

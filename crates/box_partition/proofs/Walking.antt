@@ -1,12 +1,14 @@
 -- What the walk needs of the parts of a field: where they begin and end, to which nodes they lead, and how many rows they can have.
-use Rattle.std.proofs.Common.{◌≡◌, ◌∷◌, ◌++◌, ℕ, zero, suc, ◌+◌, ◌*◌, ◌^◌, ◌<◌, ◌≤◌, List, [], length, get_or, set, take, map, refl, ap, sym, subst, ◌∙◌, arith, add-one, append-nil, min, mul-le-mul_right, suc-mul}
+use Rattle.std.proofs.Common.{◌≡◌, ◌∷◌, ◌++◌, ℕ, zero, suc, ◌+◌, ◌*◌, ◌^◌, ◌<◌, ◌≤◌, List, [], length, get_or, set, drop, take, map, refl, ap, sym, subst, ◌∙◌, arith, add-one, append-nil, min, mul-le-mul_right, suc-mul}
 use Rattle.std.specs.Prelude.{Option, unwrap_or}
 use Rattle.std.specs.List.{flat_map}
 use Rattle.std.proofs.lemmas.List.{take_all, length-map, get_or_default}
 use Rattle.std.proofs.lemmas.List.Elements.{All-tail}
 use Rattle.field_boxes.specs.declared.span.Span.{Span}
 use Rattle.field_boxes.specs.Classifier.{Interval}
-use Rattle.field_boxes.specs.Fields.{greatest_of}
+use Rattle.field_boxes.specs.Fields.{stated, greatest_of}
+use Rattle.node_store.specs.Levels.{IsLevel, next, top_of}
+use Rattle.box_partition.proofs.Stated.{is_below, next_is, top_is}
 use Rattle.field_boxes.specs.Spans.{interval_of, intervals_of}
 use Rattle.node_store.specs.declared.edge.Edge.{Edge}
 use Rattle.node_store.specs.declared.split.Part.{Part}
@@ -26,17 +28,27 @@ use Rattle.box_partition.proofs.Coarse.{AreRight, claimed-right, interval-same}
 use Rattle.box_partition.proofs.Pairing.{HasGroups, has-groups, begins_from, begins-next, begins-zero}
 use Rattle.box_partition.proofs.Texts.{groups-lines}
 
+-- What is said of a node's level, said of the stated order.
+
+pub top-split : (nodes : List Node) (level : ℕ) (left right : List Edge) (parts : List Part) (a : ℕ) → level < 5 → level_of nodes a ≡ drop level stated →
+    IsSplit (top_of (level_of nodes a)) left right parts → IsSplit (greatest_of level) left right parts
+top-split nodes level left right parts a less at split = subst (λ g. IsSplit g left right parts) (ap top_of at ∙ top_is level less) split
+
+pub next-lead : (nodes : List Node) (level : ℕ) (edges : List Edge) (a : ℕ) → level < 5 → level_of nodes a ≡ drop level stated →
+    LeadTo nodes (next (level_of nodes a)) edges → LeadTo nodes (drop (suc level) stated) edges
+next-lead nodes level edges a less at lead = subst (λ k. LeadTo nodes k edges) (ap next at ∙ next_is level less) lead
+
 -- The groups of the rows of two nodes of a level, by what the calls of the walk say.
 
-pub groups-of : (nodes : List Node) (level a b : ℕ) (rows : List Statement) (parts items : List Part) → level < 5 → level_of nodes a ≡ level →
-    ((k m n : ℕ) → k ≤ 5 → level_of nodes m ≡ k → level_of nodes n ≡ k → AnswerAlike nodes k m n → m ≡ n) →
-    IsSplit (greatest_of (level_of nodes a)) (edges_of nodes a) (edges_of nodes b) items → LeadTo nodes (suc (level_of nodes a)) (map to_left items) →
-    LeadTo nodes (suc (level_of nodes a)) (map to_right items) → parts ≡ items → AreRowsOf nodes level a b rows → HasGroups nodes (suc level) rows parts
+pub groups-of : (nodes : List Node) (level a b : ℕ) (rows : List Statement) (parts items : List Part) → level < 5 → level_of nodes a ≡ drop level stated →
+    ((k : List ℕ) (m n : ℕ) → IsLevel k → level_of nodes m ≡ k → level_of nodes n ≡ k → AnswerAlike nodes k m n → m ≡ n) →
+    IsSplit (top_of (level_of nodes a)) (edges_of nodes a) (edges_of nodes b) items → LeadTo nodes (next (level_of nodes a)) (map to_left items) →
+    LeadTo nodes (next (level_of nodes a)) (map to_right items) → parts ≡ items → AreRowsOf nodes level a b rows → HasGroups nodes (suc level) rows parts
 groups-of nodes level a b rows parts items less at same split left right is h =
-    has-groups nodes level a b rows parts less (λ m n lm ln alike. same (suc level) m n (omega (arith, less)) lm ln alike)
-    (subst (λ ps. IsSplit (greatest_of level) (edges_of nodes a) (edges_of nodes b) ps) (sym is) (subst (λ k. IsSplit (greatest_of k) (edges_of nodes a) (edges_of nodes b) items) at split))
-    (subst (λ (ps : List Part). LeadTo nodes (suc level) (map to_left ps)) (sym is) (subst (λ k. LeadTo nodes (suc k) (map to_left items)) at left))
-    (subst (λ (ps : List Part). LeadTo nodes (suc level) (map to_right ps)) (sym is) (subst (λ k. LeadTo nodes (suc k) (map to_right items)) at right))
+    has-groups nodes level a b rows parts less (λ m n lm ln alike. same (drop (suc level) stated) m n (is_below level less) lm ln alike)
+    (subst (λ ps. IsSplit (greatest_of level) (edges_of nodes a) (edges_of nodes b) ps) (sym is) (top-split nodes level (edges_of nodes a) (edges_of nodes b) items a less at split))
+    (subst (λ (ps : List Part). LeadTo nodes (drop (suc level) stated) (map to_left ps)) (sym is) (next-lead nodes level (map to_left items) a less at left))
+    (subst (λ (ps : List Part). LeadTo nodes (drop (suc level) stated) (map to_right ps)) (sym is) (next-lead nodes level (map to_right items) a less at right))
     h
 
 -- the lines of its groups are those of the rows
@@ -118,12 +130,12 @@ next-begins level parts k part n five full is e less =
     omega (arith, e, behind, next.0, next.1, small)
 
 -- the nodes to which a part leads
-pub leads-left : (nodes : List Node) (level : ℕ) (parts : List Part) (k : ℕ) (d : Part) → LeadTo nodes level (map to_left parts) → k < length parts → level_of nodes (get_or parts k d).left.0 ≡ level
+pub leads-left : (nodes : List Node) (level : List ℕ) (parts : List Part) (k : ℕ) (d : Part) → LeadTo nodes level (map to_left parts) → k < length parts → level_of nodes (get_or parts k d).left.0 ≡ level
 leads-left nodes level [] k d h less = absurd (omega (arith, less))
 leads-left nodes level (p ∷ ps) zero d h less = h 0 (to_left p) (omega arith)
 leads-left nodes level (p ∷ ps) (suc k) d h less = leads-left nodes level ps k d (All-tail (λ (e : Edge). level_of nodes e.to.0 ≡ level) (to_left p) (map to_left ps) h) (omega (arith, less))
 
-pub leads-right : (nodes : List Node) (level : ℕ) (parts : List Part) (k : ℕ) (d : Part) → LeadTo nodes level (map to_right parts) → k < length parts → level_of nodes (get_or parts k d).right.0 ≡ level
+pub leads-right : (nodes : List Node) (level : List ℕ) (parts : List Part) (k : ℕ) (d : Part) → LeadTo nodes level (map to_right parts) → k < length parts → level_of nodes (get_or parts k d).right.0 ≡ level
 leads-right nodes level [] k d h less = absurd (omega (arith, less))
 leads-right nodes level (p ∷ ps) zero d h less = h 0 (to_right p) (omega arith)
 leads-right nodes level (p ∷ ps) (suc k) d h less = leads-right nodes level ps k d (All-tail (λ (e : Edge). level_of nodes e.to.0 ≡ level) (to_right p) (map to_right ps) h) (omega (arith, less))

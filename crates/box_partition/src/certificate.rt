@@ -2,6 +2,7 @@
 ghost use Rattle.std.specs.Prelude.{◌≡◌, ◌≤◌, List, [], ◌∷◌, ◌++◌, length, IfOk, IfErr, OnOk, IsErrOf};
 ghost use Rattle.razor_base.specs.Faults.{Rose};
 ghost use Rattle.razor_base.specs.Output.{Puts};
+ghost use Rattle.field_boxes.specs.Fields.{stated};
 ghost use Rattle.node_store.specs.Diagram.{level_of};
 ghost use Rattle.partition_check.specs.Agreement.{Agree};
 ghost use Rattle.partition_check.specs.Checking.{Statement};
@@ -20,7 +21,7 @@ use crate::walk::Walk;
 use fdd_build::build;
 use field_boxes::Span;
 use filter_reader::RuleList;
-use node_store::{NodeId, Store};
+use node_store::{NodeId, Store, stated_order};
 use partition_check::Checker;
 use partition_check::laws::first_matches_decide;
 use razor_base::{Failed, Part, Pending, Sink, put_parts};
@@ -76,8 +77,8 @@ fn write_rows<K: Sink>(
     let rules = rules_by_place(alloc, &list.rules)?;
     let entries = entries_by_place(alloc, &table.entries)?;
     let mut store = Store::new(alloc);
-    let first_rule = build(alloc, &mut store, &rules)?;
-    let first_entry = build(alloc, &mut store, &entries)?;
+    let first_rule = build(alloc, &mut store, &stated_order(), &rules)?;
+    let first_entry = build(alloc, &mut store, &stated_order(), &entries)?;
     write_nodes(alloc, &store, first_rule, first_entry, out)
 }
 
@@ -89,8 +90,8 @@ fn write_nodes<K: Sink>(
     right: NodeId,
     out: &mut K,
 ) -> Result<u128, Stop>
-    requires left { level_of store.now left.0 ≡ 0 }
-    requires right { level_of store.now right.0 ≡ 0 }
+    requires left { level_of store.now left.0 ≡ stated }
+    requires right { level_of store.now right.0 ≡ stated }
     ensures puts { (rows : List Statement) → AreRowsOf store.now 0 left.0 right.0 rows →
         PutsUntil K.written K.faults out.old out.new [] [] (certificate_text rows) result }
     ensures count { (rows : List Statement) → AreRowsOf store.now 0 left.0 right.0 rows → IfOk result (λ n. n ≡ length rows) }

@@ -2,7 +2,7 @@
 ghost use Rattle.std.specs.Prelude.{◌≡◌, ℕ, List, IfOk, IsTrue, MatchOption};
 ghost use Rattle.field_boxes.specs.Boxes.{box_of, box_holds};
 ghost use Rattle.field_boxes.specs.Spans.{AreInside};
-ghost use Rattle.field_boxes.specs.Fields.{IsHeader};
+ghost use Rattle.field_boxes.specs.Fields.{stated, IsHeader};
 ghost use Rattle.node_store.specs.Diagram.{level_of, answer};
 ghost use Rattle.node_store.specs.Store.{Grows};
 ghost use Rattle.fdd_build.specs.Rules.{decided};
@@ -16,7 +16,7 @@ use fdd_build::{build, under};
 use fdd_ops::least_difference;
 use field_boxes::{Header, Rule, Span, first};
 use filter_reader::RuleList;
-use node_store::{NodeId, Store};
+use node_store::{NodeId, Store, stated_order};
 use partition_check::laws::first_matches_decide;
 use razor_base::Memory;
 use std::alloc::Global;
@@ -41,11 +41,11 @@ fn all_headers() -> [Span; 5]
 
 /// The diagram that answers the decision of the first rule that matches, or the number of no name.
 fn named(alloc: Global, store: &mut Store, rules: &[Rule]) -> Result<NodeId, Memory>
-    ensures level { IfOk result (λ id. level_of store.new id.0 ≡ 0) }
-    ensures answers { IfOk result (λ id. (header : List ℕ) → IsHeader header → answer store.new id.0 header ≡ or_none (decided rules.now header)) }
+    ensures level { IfOk result (λ id. level_of store.new id.0 ≡ stated) }
+    ensures answers { IfOk result (λ id. (header : List ℕ) → IsHeader header → answer store.new id.0 header ≡ or_none (decided stated rules.now header)) }
     ensures grows { Grows store.old store.new }
 {
-    let matched = build(alloc, store, rules)?;
+    let matched = build(alloc, store, &stated_order(), rules)?;
     let id = under(alloc, store, matched, &all_headers(), NONE)?;
     Ok(id)
 }

@@ -28,9 +28,9 @@ pub(crate) struct Walk<'a> {
 }
 
 impl<'a> Walk<'a> {
-    ghost use Rattle.std.specs.Prelude.{◌≡◌, ◌≤◌, ◌<◌, ◌+◌, ◌*◌, ℕ, suc, List, length, map, take, IfOk};
+    ghost use Rattle.std.specs.Prelude.{◌≡◌, ◌≤◌, ◌<◌, ◌+◌, ◌*◌, ℕ, suc, List, [], length, map, drop, take, IfOk};
     ghost use Rattle.std.specs.List.{flat_map};
-    ghost use Rattle.field_boxes.specs.Fields.{greatest_of};
+    ghost use Rattle.field_boxes.specs.Fields.{stated, greatest_of};
     ghost use Rattle.field_boxes.specs.Spans.{intervals_of};
     ghost use Rattle.node_store.specs.Diagram.{level_of};
     ghost use Rattle.node_store.specs.Edges.{AreFull};
@@ -54,8 +54,8 @@ impl<'a> Walk<'a> {
         out: &mut K,
     ) -> Result<u128, Stop>
         requires level { level ≤ 5 }
-        requires left { level_of self.now.store.now left.0 ≡ level }
-        requires right { level_of self.now.store.now right.0 ≡ level }
+        requires left { level_of self.now.store.now left.0 ≡ drop level stated }
+        requires right { level_of self.now.store.now right.0 ≡ drop level stated }
         ensures rows { (rows : List Statement) → AreRowsOf self.now.store.now level left.0 right.0 rows →
             PutsUntil K.written K.faults out.old out.new pending.old pending.new (rows_text (take level (intervals_of spans)) rows) result }
         ensures count { (rows : List Statement) → AreRowsOf self.now.store.now level left.0 right.0 rows → IfOk result (λ n. n ≡ length rows) }
@@ -79,8 +79,8 @@ impl<'a> Walk<'a> {
         pending: &mut Pending,
         out: &mut K,
     ) -> Result<u128, Stop>
-        requires left { level_of self.now.store.now left.0 ≡ 5 }
-        requires right { level_of self.now.store.now right.0 ≡ 5 }
+        requires left { level_of self.now.store.now left.0 ≡ [] }
+        requires right { level_of self.now.store.now right.0 ≡ [] }
         ensures rows { (rows : List Statement) → AreRowsOf self.now.store.now 5 left.0 right.0 rows →
             PutsUntil K.written K.faults out.old out.new pending.old pending.new (rows_text (take 5 (intervals_of spans)) rows) result }
         ensures count { (rows : List Statement) → AreRowsOf self.now.store.now 5 left.0 right.0 rows → IfOk result (λ n. n ≡ length rows) }
@@ -107,8 +107,8 @@ impl<'a> Walk<'a> {
     ) -> Result<u128, Stop>
         requires level { level < 5 }
         requires full { AreFull (greatest_of level) (map to_left parts.now) }
-        requires left { LeadTo self.now.store.now (suc level) (map to_left parts.now) }
-        requires right { LeadTo self.now.store.now (suc level) (map to_right parts.now) }
+        requires left { LeadTo self.now.store.now (drop (suc level) stated) (map to_left parts.now) }
+        requires right { LeadTo self.now.store.now (drop (suc level) stated) (map to_right parts.now) }
         ensures rows { (groups : List (Group Statement)) → ArePaired self.now.store.now (suc level) groups parts.now →
             PutsUntil K.written K.faults out.old out.new pending.old pending.new (flat_map (group_text (take level (intervals_of spans))) groups) result }
         ensures count { (groups : List (Group Statement)) → ArePaired self.now.store.now (suc level) groups parts.now →

@@ -6,15 +6,15 @@ use Rattle.std.proofs.lemmas.Bool.{cases_lt}
 use Rattle.std.proofs.lemmas.List.Elements.{All-cons, All-nil, All-tail}
 use Rattle.node_store.specs.declared.edge.Edge.{Edge}
 use Rattle.node_store.specs.declared.split.Part.{Part}
+use Rattle.node_store.specs.Levels.{IsLevel}
 use Rattle.node_store.specs.Diagram.{Node, level_of}
 use Rattle.node_store.specs.Edges.{child_of}
 use Rattle.node_store.specs.Split.{to_left, to_right}
 use Rattle.node_store.specs.Store.{Grows, LeadTo}
-use Rattle.node_store.proofs.Made.{within}
 use Rattle.std.proofs.lemmas.List.{get_or-map, length-map}
 use Rattle.node_store.proofs.Edges.{Rise}
 use Rattle.node_store.proofs.Edges as edges
-use Rattle.node_store.proofs.Canonical.{chosen}
+use Rattle.node_store.proofs.Canonical.{chosen, in_use}
 use Rattle.fdd_build.specs.declared.overlay.Overlay.{Overlay}
 use Rattle.fdd_build.specs.Laid.{AreAt, IsLaid, IsLaidPart}
 use Rattle.node_store.proofs.Growth as growth
@@ -53,7 +53,7 @@ module _ (overlay : Overlay) where
     rise greatest lo (p ∷ q ∷ ps) (e ∷ d ∷ es) r z =
         (omega (arith, r.0, z.0.0), subst (λ n. Rise greatest (suc n) (d ∷ es)) (sym z.0.0) (rise greatest (suc p.hi) (q ∷ ps) (d ∷ es) r.1 z.1))
 
-    pub lead : (place : ℕ) (ps : List Part) (es : List Edge) → All (λ (e : Edge). level_of nodes e.to.0 ≡ place) (map to_left ps) →
+    pub lead : (place : List ℕ) (ps : List Part) (es : List Edge) → All (λ (e : Edge). level_of nodes e.to.0 ≡ place) (map to_left ps) →
         AllZip (IsLaidPart overlay nodes) ps es → All (λ (e : Edge). level_of nodes e.to.0 ≡ place) es
     lead place [] [] all z = All-nil (λ (e : Edge). level_of nodes e.to.0 ≡ place)
     lead place [] (e ∷ es) all z = absurd z
@@ -89,22 +89,22 @@ module _ (overlay : Overlay) where
           (comes greatest (suc p.hi) v (q ∷ ps) es r.1 z.1 h)
     ]
 
-module _ (nodes : List Node) (place : ℕ) where
+module _ (nodes : List Node) (place : List ℕ) where
   -- the right children are where the left ones end, so a value leads to one of them too
   pub right_level : (greatest lo v : ℕ) (ps : List Part) → Rise greatest lo (map to_left ps) → All (λ (e : Edge). level_of nodes e.to.0 ≡ place) (map to_right ps) → v ≤ greatest →
       level_of nodes (child_of (map to_right ps) v) ≡ place
   right_level greatest lo v ps r all h = chosen (λ n. level_of nodes n ≡ place) greatest lo (map to_right ps) v (rights greatest lo ps r) h all
 
 -- the nodes of a part stand at the level, also once the store has grown
-pub part_at : (old new : List Node) (place : ℕ) (ps : List Part) (i : ℕ) (d : Part) → Grows old new → place ≤ 5 →
+pub part_at : (old new : List Node) (place : List ℕ) (ps : List Part) (i : ℕ) (d : Part) → Grows old new → IsLevel place →
     LeadTo old place (map to_left ps) → LeadTo old place (map to_right ps) → i < length ps →
     AreAt new place (record { upper = (slice_index_or ps i d).left; lower = (slice_index_or ps i d).right })
-part_at old new place ps i d g five left right h =
+part_at old new place ps i d g is left right h =
     let p = slice_index_or ps i d in
     let a : level_of old p.left.0 ≡ place =
     ap (λ (e : Edge). level_of old e.to.0) (sym (get_or-map to_left ps i d (to_left d) h)) ∙ left i (to_left d) (let n = length-map ps to_left in omega (arith, n, h)) in
     let b : level_of old p.right.0 ≡ place =
     ap (λ (e : Edge). level_of old e.to.0) (sym (get_or-map to_right ps i d (to_right d) h)) ∙ right i (to_right d) (let n = length-map ps to_right in omega (arith, n, h)) in record {
-      upper = growth.level_kept old new p.left.0 g (within old p.left.0 (omega (arith, a, five))) ∙ a;
-      lower = growth.level_kept old new p.right.0 g (within old p.right.0 (omega (arith, b, five))) ∙ b;
+      upper = growth.level_kept old new p.left.0 g (in_use old p.left.0 place is a) ∙ a;
+      lower = growth.level_kept old new p.right.0 g (in_use old p.right.0 place is b) ∙ b;
     }

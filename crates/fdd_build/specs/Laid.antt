@@ -1,25 +1,26 @@
 -- One node laid over another of its level.
-use Rattle.std.specs.Prelude.{◌≡◌, ℕ, ◌≤◌, List}
+use Rattle.std.specs.Prelude.{◌≡◌, ℕ, List}
+use Rattle.field_boxes.specs.Fields.{AreValues}
 use Rattle.node_store.specs.declared.edge.NodeId.{NodeId}
 use Rattle.node_store.specs.declared.edge.Edge.{Edge}
 use Rattle.node_store.specs.declared.split.Part.{Part}
 use Rattle.node_store.specs.Diagram.{Node, level_of, answer}
-use Rattle.node_store.specs.Store.{AreValuesFrom}
+use Rattle.node_store.specs.Levels.{IsLevel}
 use Rattle.fdd_build.specs.declared.overlay.Overlay.{Overlay}
 use Rattle.fdd_build.specs.declared.pair.Pair.{Pair}
 use Rattle.fdd_build.specs.Overlay.{shown}
 
 -- both nodes stand at the level
-pub record AreAt (nodes : List Node) (place : ℕ) (pair : Pair) : Type 0 where
-  pub upper : level_of nodes pair.upper.0 ≡ place
-  pub lower : level_of nodes pair.lower.0 ≡ place
+pub record AreAt (nodes : List Node) (level : List ℕ) (pair : Pair) : Type 0 where
+  pub upper : level_of nodes pair.upper.0 ≡ level
+  pub lower : level_of nodes pair.lower.0 ≡ level
 
 -- the node answers what shows of the answers of the two nodes of its level
 pub record IsLaid (overlay : Overlay) (nodes : List Node) (pair : Pair) (laid : NodeId) : Type 0 where
-  pub within : level_of nodes pair.upper.0 ≤ 5
+  pub within : IsLevel (level_of nodes pair.upper.0)
   pub beside : level_of nodes pair.lower.0 ≡ level_of nodes pair.upper.0
   pub level : level_of nodes laid.0 ≡ level_of nodes pair.upper.0
-  pub answers : (values : List ℕ) → AreValuesFrom (level_of nodes pair.upper.0) values →
+  pub answers : (values : List ℕ) → AreValues (level_of nodes pair.upper.0) values →
       answer nodes laid.0 values ≡ shown overlay (answer nodes pair.upper.0 values) (answer nodes pair.lower.0 values)
 
 -- an edge for a part: it ends where the part ends, and leads to what comes of the part's nodes

@@ -43,7 +43,7 @@ impl Filling {
         ensures full { OnOk result (FillBelow self.new.filled self.new.edges.items) }
         ensures leads { OnOk result ((v : ℕ) → v ≤ hi →
             child_of self.new.edges.items v ≡ (if nat_lt v self.old.filled then child_of self.old.edges.items v else to.0)) }
-        ensures children { OnOk result ((nodes : List Node) (level : ℕ) → level_of nodes to.0 ≡ level →
+        ensures children { OnOk result ((nodes : List Node) (level : List ℕ) → level_of nodes to.0 ≡ level →
             LeadTo nodes level self.old.edges.items → LeadTo nodes level self.new.edges.items) }
     {
         laws::edges_in_turn();
@@ -60,7 +60,7 @@ impl Filling {
         ensures full { OnOk result (FillBelow self.new.filled self.new.edges.items) }
         ensures leads { OnOk result ((v : ℕ) → v ≤ span.hi → child_of self.new.edges.items v ≡
             (if nat_lt v self.old.filled then child_of self.old.edges.items v else (if nat_le span.lo v then inside.0 else outside.0))) }
-        ensures children { OnOk result ((nodes : List Node) (level : ℕ) → level_of nodes inside.0 ≡ level → level_of nodes outside.0 ≡ level →
+        ensures children { OnOk result ((nodes : List Node) (level : List ℕ) → level_of nodes inside.0 ≡ level → level_of nodes outside.0 ≡ level →
             LeadTo nodes level self.old.edges.items → LeadTo nodes level self.new.edges.items) }
     {
         if self.filled < u64::from(span.lo) {

@@ -1,6 +1,6 @@
 //! A node that leads elsewhere in one set of its field.
-ghost use Rattle.std.specs.Prelude.{◌≡◌, ◌≤◌, ◌<◌, ℕ, suc, List, ◌∷◌, nat_lt, if◌then◌else◌, IfOk};
-ghost use Rattle.field_boxes.specs.Fields.{greatest_of};
+ghost use Rattle.std.specs.Prelude.{◌≡◌, ◌≤◌, ℕ, suc, List, ◌∷◌, nat_lt, if◌then◌else◌, IfOk};
+ghost use Rattle.node_store.specs.Levels.{HasField, next, top_of};
 ghost use Rattle.field_boxes.specs.Classifier.{union_holds};
 ghost use Rattle.field_boxes.specs.Spans.{intervals_of};
 ghost use Rattle.field_boxes.specs.Unions.{RiseApart};
@@ -15,27 +15,27 @@ use node_store::{NodeId, Store};
 use razor_base::Memory;
 use std::alloc::Global;
 
-/// The node of the field that leads inside in the set and outside elsewhere.
+/// The node of the level that leads inside in the set and outside elsewhere.
 pub(crate) fn forked(
     alloc: Global,
     store: &mut Store,
-    field: u8,
+    level: &[u8],
     set: &[Span],
     inside: NodeId,
     outside: NodeId,
 ) -> Result<NodeId, Memory>
-    requires field { field < 5 }
-    requires rise { RiseApart 0 (greatest_of field) (intervals_of set.now) }
-    requires inside { level_of store.old inside.0 ≡ suc field }
-    requires outside { level_of store.old outside.0 ≡ suc field }
-    ensures level { IfOk result (λ id. level_of store.new id.0 ≡ field) }
-    ensures answers { IfOk result (λ id. (v : ℕ) (values : List ℕ) → v ≤ greatest_of field →
+    requires field { HasField level.now }
+    requires rise { RiseApart 0 (top_of level.now) (intervals_of set.now) }
+    requires inside { level_of store.old inside.0 ≡ next level.now }
+    requires outside { level_of store.old outside.0 ≡ next level.now }
+    ensures level { IfOk result (λ id. level_of store.new id.0 ≡ level.now) }
+    ensures answers { IfOk result (λ id. (v : ℕ) (values : List ℕ) → v ≤ top_of level.now →
         answer store.new id.0 (v ∷ values) ≡
         answer store.old (if union_holds v (intervals_of set.now) then inside.0 else outside.0) values) }
     ensures grows { Grows store.old store.new }
 {
-    let edges = edges(alloc, set, greatest(usize::from(field)), inside, outside)?;
-    let id = store.make(field, edges.as_slice())?;
+    let edges = edges(alloc, set, greatest(usize::from(level[0])), inside, outside)?;
+    let id = store.make(level, edges.as_slice())?;
     Ok(id)
 }
 
@@ -49,7 +49,7 @@ fn edges(
 ) -> Result<Edges, Memory>
     requires { RiseApart 0 greatest (intervals_of set.now) }
     ensures full { IfOk result (λ edges. AreFull greatest edges.items) }
-    ensures children { IfOk result (λ edges. (nodes : List Node) (level : ℕ) →
+    ensures children { IfOk result (λ edges. (nodes : List Node) (level : List ℕ) →
         level_of nodes inside.0 ≡ level → level_of nodes outside.0 ≡ level → LeadTo nodes level edges.items) }
     ensures leads { IfOk result (λ edges. (v : ℕ) → v ≤ greatest →
         child_of edges.items v ≡ (if union_holds v (intervals_of set.now) then inside.0 else outside.0)) }
@@ -67,7 +67,7 @@ fn finished(filling: Filling, greatest: u32, outside: NodeId) -> Result<Edges, M
     requires full { FillBelow filling.filled filling.edges.items }
     requires within { filling.filled ≤ suc greatest }
     ensures full { IfOk result (λ edges. AreFull greatest edges.items) }
-    ensures children { IfOk result (λ edges. (nodes : List Node) (level : ℕ) →
+    ensures children { IfOk result (λ edges. (nodes : List Node) (level : List ℕ) →
         level_of nodes outside.0 ≡ level → LeadTo nodes level filling.edges.items → LeadTo nodes level edges.items) }
     ensures leads { IfOk result (λ edges. (v : ℕ) → v ≤ greatest →
         child_of edges.items v ≡ (if nat_lt v filling.filled then child_of filling.edges.items v else outside.0)) }

@@ -1,10 +1,10 @@
 //! Decision diagrams of rule lists, and diagrams changed in one box.
 //!
 //! [`build`] gives a node that answers every header with the decision of the first rule that matches, as
-//! the firewall decision diagrams of Gouda and Liu do; [`under`] and [`over`] give one that answers as a
-//! diagram does, but for one box, and [`under_rule`] one that does but for what a rule matches. All lay one
-//! diagram over another: where the upper one answers 0,
-//! the lower one shows.
+//! the firewall decision diagrams of Gouda and Liu do, and reads the fields in the order that it is given.
+//! [`under`] and [`over`] give one that answers as a diagram in the stated order does, but for one box, and
+//! [`under_rule`] one that does but for what a rule matches. All lay one diagram over another: where the
+//! upper one answers 0, the lower one shows.
 //!
 //! Laying is one walk over pairs of nodes of one level. A pair of which one node answers 0 everywhere is
 //! known at sight. Any other pair is worked out once and kept: two leaves by their decisions, two inner
@@ -13,7 +13,7 @@
 //! second, since each laying touches all that the two halves share, however small one of them is.
 //!
 //! ```text
-//! let listed = build(alloc, &mut store, &rules)?;
+//! let listed = build(alloc, &mut store, &stated_order(), &rules)?;
 //! let opened = under(alloc, &mut store, listed, &spans, 1)?;
 //! let closed = over(alloc, &mut store, &spans, 0, listed)?;
 //! ```

@@ -1,7 +1,6 @@
 //! One diagram laid over another, in one walk over pairs of nodes.
 
 use crate::memo::Memo;
-use crate::nothing::Nothing;
 use crate::overlay::Overlay;
 use crate::pair::Pair;
 use node_store::{Edge, NodeId, Part, Store};
@@ -14,37 +13,45 @@ use std::alloc::Global;
 pub(crate) struct Walk {
     pub alloc: Global,
     pub overlay: Overlay,
-    pub nothing: Nothing,
 }
 
 /// The edges of a node that comes of a pair.
 type Edges = SmallVec<Edge, 6>;
 
 impl Walk {
-    ghost use Rattle.std.specs.Prelude.{◌≡◌, ◌≤◌, ℕ, List, map, slice_index_or, IfOk, IfSome};
+    ghost use Rattle.std.specs.Prelude.{◌≡◌, ℕ, List, [], map, slice_index_or, IfOk, IfSome};
     ghost use Rattle.std.specs.List.{AllZip};
-    ghost use Rattle.field_boxes.specs.Fields.{IsHeader};
+    ghost use Rattle.field_boxes.specs.Fields.{AreValues};
+    ghost use Rattle.node_store.specs.Levels.{HasField, IsLevel};
     ghost use Rattle.node_store.specs.declared.edge.NodeId.{NodeId};
     ghost use Rattle.node_store.specs.Diagram.{level_of, answer};
     ghost use Rattle.node_store.specs.Store.{Grows, LeadTo};
     ghost use Rattle.node_store.specs.Split.{to_left, to_right};
     ghost use Rattle.fdd_build.specs.Overlay.{shown};
-    ghost use Rattle.fdd_build.specs.Nothing.{IsNothing};
+    ghost use Rattle.fdd_build.specs.Nothing.{AnswersNothing, AreNothing};
     ghost use Rattle.fdd_build.specs.Laid.{AreAt, IsLaid, IsLaidPart};
     ghost use Rattle.fdd_build.specs.Memo.{IsMemo, IsPlain, IsKept, KeepsPairs};
 
     /// Lays the diagram under one node over that under another.
-    pub fn lay(&self, store: &mut Store, upper: NodeId, lower: NodeId) -> Result<NodeId, Memory>
-        requires nothing { IsNothing store.old self.now.nothing }
-        requires upper { level_of store.old upper.0 ≡ 0 }
-        requires lower { level_of store.old lower.0 ≡ 0 }
-        ensures level { IfOk result (λ id. level_of store.new id.0 ≡ 0) }
-        ensures answers { IfOk result (λ id. (header : List ℕ) → IsHeader header →
-            answer store.new id.0 header ≡ shown self.now.overlay (answer store.old upper.0 header) (answer store.old lower.0 header)) }
+    pub fn lay(
+        &self,
+        store: &mut Store,
+        level: &[u8],
+        nothing: &[NodeId],
+        upper: NodeId,
+        lower: NodeId,
+    ) -> Result<NodeId, Memory>
+        requires level { IsLevel level.now }
+        requires nothing { AreNothing store.old level.now nothing.now }
+        requires upper { level_of store.old upper.0 ≡ level.now }
+        requires lower { level_of store.old lower.0 ≡ level.now }
+        ensures level { IfOk result (λ id. level_of store.new id.0 ≡ level.now) }
+        ensures answers { IfOk result (λ id. (values : List ℕ) → AreValues level.now values →
+            answer store.new id.0 values ≡ shown self.now.overlay (answer store.old upper.0 values) (answer store.old lower.0 values)) }
         ensures grows { Grows store.old store.new }
     {
         let mut memo = Memo::new(self.alloc);
-        let laid = self.pair(store, &mut memo, 0, Pair { upper, lower })?;
+        let laid = self.pair(store, &mut memo, level, nothing, Pair { upper, lower })?;
         Ok(laid)
     }
 
@@ -54,39 +61,40 @@ impl Walk {
         &self,
         store: &mut Store,
         memo: &mut Memo,
-        level: u8,
+        level: &[u8],
+        nothing: &[NodeId],
         pair: Pair,
     ) -> Result<NodeId, Memory>
-        requires nothing { IsNothing store.old self.now.nothing }
+        requires nothing { AreNothing store.old level.now nothing.now }
         requires memo { IsMemo self.now.overlay store.old memo.old }
-        requires level { level ≤ 5 }
-        requires pair { AreAt store.old level pair }
+        requires level { IsLevel level.now }
+        requires pair { AreAt store.old level.now pair }
         ensures laid { IfOk result (λ laid. IsLaid self.now.overlay store.new pair laid) }
-        ensures kept { IfOk result (λ laid. (d : NodeId) → IsKept self.now.overlay (slice_index_or self.now.nothing.nodes level d) memo.new pair laid) }
+        ensures kept { IfOk result (λ laid. (d : NodeId) → IsKept self.now.overlay (slice_index_or nothing.now 0 d) memo.new pair laid) }
         ensures earlier { KeepsPairs memo.old memo.new }
         ensures memo { IsMemo self.now.overlay store.new memo.new }
         ensures grows { Grows store.old store.new }
     {
-        if let Some(known) = self.at_sight(store, level, pair) {
+        if let Some(known) = self.at_sight(store, level, nothing[0], pair) {
             return Ok(known);
         }
         if let Some(known) = memo.get(pair) {
             return Ok(known);
         }
-        let laid = self.worked_out(store, memo, level, pair)?;
+        let laid = self.worked_out(store, memo, level, nothing, pair)?;
         memo.keep(pair, laid)?;
         Ok(laid)
     }
 
     /// What comes of a pair of which one node answers 0 everywhere.
-    fn at_sight(&self, store: &Store, level: u8, pair: Pair) -> Option<NodeId>
-        requires nothing { IsNothing store.now self.now.nothing }
-        requires level { level ≤ 5 }
-        requires pair { AreAt store.now level pair }
+    fn at_sight(&self, store: &Store, level: &[u8], nothing: NodeId, pair: Pair) -> Option<NodeId>
+        requires nothing { AnswersNothing store.now level.now nothing.0 }
+        requires level { IsLevel level.now }
+        requires pair { AreAt store.now level.now pair }
         ensures laid { IfSome result (λ laid. IsLaid self.now.overlay store.now pair laid) }
-        ensures plain { IfSome result (λ _. (d : NodeId) → IsPlain self.now.overlay (slice_index_or self.now.nothing.nodes level d) pair) }
+        ensures plain { IfSome result (λ _. IsPlain self.now.overlay nothing pair) }
     {
-        let nothing = self.nothing.at(level);
+        let _level = level;
         if pair.upper == nothing {
             return Some(pair.lower);
         }
@@ -98,7 +106,7 @@ impl Walk {
 
     /// What comes of two leaves.
     fn leaf(&self, store: &mut Store, pair: Pair) -> Result<NodeId, Memory>
-        requires { AreAt store.old 5 pair }
+        requires { AreAt store.old [] pair }
         ensures laid { IfOk result (λ laid. IsLaid self.now.overlay store.new pair laid) }
         ensures grows { Grows store.old store.new }
     {
@@ -114,23 +122,24 @@ impl Walk {
         &self,
         store: &mut Store,
         memo: &mut Memo,
-        level: u8,
+        level: &[u8],
+        nothing: &[NodeId],
         pair: Pair,
     ) -> Result<NodeId, Memory>
-        requires nothing { IsNothing store.old self.now.nothing }
+        requires nothing { AreNothing store.old level.now nothing.now }
         requires memo { IsMemo self.now.overlay store.old memo.old }
-        requires level { level ≤ 5 }
-        requires pair { AreAt store.old level pair }
+        requires level { IsLevel level.now }
+        requires pair { AreAt store.old level.now pair }
         ensures laid { IfOk result (λ laid. IsLaid self.now.overlay store.new pair laid) }
         ensures earlier { KeepsPairs memo.old memo.new }
         ensures memo { IsMemo self.now.overlay store.new memo.new }
         ensures grows { Grows store.old store.new }
     {
-        if level == 5 {
+        if level.is_empty() {
             return self.leaf(store, pair);
         }
         let parts = store.split(pair.upper, pair.lower)?;
-        let edges = self.edges(store, memo, level + 1, parts.as_slice())?;
+        let edges = self.edges(store, memo, &level[1..], &nothing[1..], parts.as_slice())?;
         let laid = store.make(level, edges.as_slice())?;
         Ok(laid)
     }
@@ -141,14 +150,15 @@ impl Walk {
         &self,
         store: &mut Store,
         memo: &mut Memo,
-        level: u8,
+        level: &[u8],
+        nothing: &[NodeId],
         parts: &[Part],
     ) -> Result<Edges, Memory>
-        requires nothing { IsNothing store.old self.now.nothing }
+        requires nothing { AreNothing store.old level.now nothing.now }
         requires memo { IsMemo self.now.overlay store.old memo.old }
-        requires level { level ≤ 5 }
-        requires left { LeadTo store.old level (map to_left parts.now) }
-        requires right { LeadTo store.old level (map to_right parts.now) }
+        requires level { IsLevel level.now }
+        requires left { LeadTo store.old level.now (map to_left parts.now) }
+        requires right { LeadTo store.old level.now (map to_right parts.now) }
         ensures laid { IfOk result (λ edges. AllZip (IsLaidPart self.now.overlay store.new) parts.now edges.items) }
         ensures earlier { KeepsPairs memo.old memo.new }
         ensures memo { IsMemo self.now.overlay store.new memo.new }
@@ -160,7 +170,7 @@ impl Walk {
                 upper: part.left,
                 lower: part.right,
             };
-            let to = self.pair(store, memo, level, pair)?;
+            let to = self.pair(store, memo, level, nothing, pair)?;
             edges.push(Edge { hi: part.hi, to })?;
         }
         Ok(edges)

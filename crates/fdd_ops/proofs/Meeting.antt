@@ -82,10 +82,10 @@ module _ (question : Question) (nodes : List Node) (span : Span) where
       (at.0, at.1, holds_between at.0 (interval_of span) at.3 at.4, at.5)
 
 -- the nodes of a part stand at the level
-pub left_at : (nodes : List Node) (place : ℕ) (ps : List Part) (i : ℕ) (d : Part) → LeadTo nodes place (map to_left ps) → i < length ps → level_of nodes (slice_index_or ps i d).left.0 ≡ place
+pub left_at : (nodes : List Node) (place : List ℕ) (ps : List Part) (i : ℕ) (d : Part) → LeadTo nodes place (map to_left ps) → i < length ps → level_of nodes (slice_index_or ps i d).left.0 ≡ place
 left_at nodes place ps i d lead h =
     ap (λ (e : Edge). level_of nodes e.to.0) (sym (get_or-map to_left ps i d (to_left d) h)) ∙ lead i (to_left d) (let n = length-map ps to_left in omega (arith, n, h))
 
-pub right_at : (nodes : List Node) (place : ℕ) (ps : List Part) (i : ℕ) (d : Part) → LeadTo nodes place (map to_right ps) → i < length ps → level_of nodes (slice_index_or ps i d).right.0 ≡ place
+pub right_at : (nodes : List Node) (place : List ℕ) (ps : List Part) (i : ℕ) (d : Part) → LeadTo nodes place (map to_right ps) → i < length ps → level_of nodes (slice_index_or ps i d).right.0 ≡ place
 right_at nodes place ps i d lead h =
     ap (λ (e : Edge). level_of nodes e.to.0) (sym (get_or-map to_right ps i d (to_right d) h)) ∙ lead i (to_right d) (let n = length-map ps to_right in omega (arith, n, h))

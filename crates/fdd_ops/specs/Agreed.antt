@@ -15,7 +15,7 @@ same_pair p q = nat_eq p.which.0 q.which.0 && nat_eq p.answers.0 q.answers.0
 abbrev pub is_kept : Agreed → Pair → Bool
 is_kept agreed pair = contains same_pair agreed.pairs pair
 
--- each kept pair agrees over the box's spans from its level on
+-- each kept pair agrees over the box's spans of its level's fields
 abbrev pub AreAgreed : Question → List Node → Agreed → Type 0
 AreAgreed question nodes agreed = (pair : Pair) → IsTrue (is_kept agreed pair) → Agree question nodes pair.which.0 pair.answers.0
 

@@ -1,27 +1,26 @@
 -- What two nodes of one level are asked over the rest of a box.
-use Rattle.std.specs.Prelude.{◌≡◌, ◌≢◌, ℕ, Bool, IsTrue, List, drop}
+use Rattle.std.specs.Prelude.{◌≡◌, ◌≢◌, ℕ, Bool, IsTrue, List}
 use Rattle.field_boxes.specs.declared.span.Span.{Span}
-use Rattle.field_boxes.specs.Fields.{stated}
+use Rattle.field_boxes.specs.Fields.{AreValues}
 use Rattle.field_boxes.specs.Classifier.{Rule, matches}
 use Rattle.field_boxes.specs.Boxes.{box_of}
 use Rattle.node_store.specs.Diagram.{Node, level_of, answer}
-use Rattle.node_store.specs.Store.{AreValuesFrom}
 use Rattle.fdd_ops.specs.declared.pair.Pair.{Pair}
 use Rattle.fdd_ops.specs.declared.question.Question.{Question}
 
 -- both nodes stand at the level
-pub record AreAt (nodes : List Node) (place : ℕ) (pair : Pair) : Type 0 where
-  pub which : level_of nodes pair.which.0 ≡ place
-  pub answers : level_of nodes pair.answers.0 ≡ place
+pub record AreAt (nodes : List Node) (level : List ℕ) (pair : Pair) : Type 0 where
+  pub which : level_of nodes pair.which.0 ≡ level
+  pub answers : level_of nodes pair.answers.0 ≡ level
 
--- whether the values of the fields from a level on lie in the box's spans of them
-abbrev pub rest_holds : List Span → ℕ → List ℕ → Bool
-rest_holds spans level values = let box : Rule ℕ = record { sets = box_of spans; decision = 0 } in matches (drop level stated) values box
+-- whether the values of a level's fields lie in the box's spans of them
+abbrev pub rest_holds : List Span → List ℕ → List ℕ → Bool
+rest_holds spans level values = let box : Rule ℕ = record { sets = box_of spans; decision = 0 } in matches level values box
 
--- the values are those of a header of the box that is meant, from the node's level on
+-- the values of the node's level are those of a header of the box that is meant
 abbrev pub AreMeant : Question → List Node → ℕ → List ℕ → Type 0
 AreMeant question nodes which values =
-    AreValuesFrom (level_of nodes which) values × IsTrue (rest_holds question.spans (level_of nodes which) values) × (answer nodes which values ≡ question.index)
+    AreValues (level_of nodes which) values × IsTrue (rest_holds question.spans (level_of nodes which) values) × (answer nodes which values ≡ question.index)
 
 -- all that is meant is decided as asked
 pub record Agree (question : Question) (nodes : List Node) (which answers : ℕ) : Type 0 where

@@ -1,6 +1,7 @@
 //! Whether one diagram decides as asked wherever another one answers an index.
 ghost use Rattle.std.specs.Prelude.{◌≡◌, ◌≢◌, IfOk};
 ghost use Rattle.std.specs.Bool.{OnTrue, OnFalse};
+ghost use Rattle.field_boxes.specs.Fields.{stated};
 ghost use Rattle.field_boxes.specs.Boxes.{box_of, EachHeader, SomeHeader};
 ghost use Rattle.node_store.specs.Diagram.{level_of, answer};
 
@@ -8,7 +9,7 @@ use crate::agreed::Agreed;
 use crate::pair::Pair;
 use crate::question::Question;
 use field_boxes::Span;
-use node_store::{NodeId, Part, Store};
+use node_store::{NodeId, Part, Store, stated_order};
 use razor_base::Memory;
 use std::alloc::Global;
 
@@ -26,8 +27,8 @@ pub fn agrees_where(
     answers: NodeId,
     decision: u32,
 ) -> Result<bool, Memory>
-    requires which { level_of store.now which.0 ≡ 0 }
-    requires answers { level_of store.now answers.0 ≡ 0 }
+    requires which { level_of store.now which.0 ≡ stated }
+    requires answers { level_of store.now answers.0 ≡ stated }
     ensures yes { IfOk result (λ yes. OnTrue yes (EachHeader (box_of spans.now) (λ header.
         answer store.now which.0 header ≡ index → answer store.now answers.0 header ≡ decision))) }
     ensures no { IfOk result (λ yes. OnFalse yes (SomeHeader (box_of spans.now) (λ header.
@@ -39,14 +40,15 @@ pub fn agrees_where(
         decision,
     };
     let mut agreed = Agreed::new(alloc);
-    let agree = question.pair(store, &mut agreed, 0, Pair { which, answers })?;
+    let agree = question.pair(store, &mut agreed, &stated_order(), Pair { which, answers })?;
     Ok(agree)
 }
 
 impl Question {
-    ghost use Rattle.std.specs.Prelude.{◌≡◌, ◌≤◌, ℕ, map, IfOk, IsTrue};
+    ghost use Rattle.std.specs.Prelude.{◌≡◌, ◌≤◌, ℕ, [], map, IfOk, IsTrue};
     ghost use Rattle.std.specs.Bool.{OnTrue, OnFalse};
     ghost use Rattle.field_boxes.specs.Boxes.{EachValue, SomeValue};
+    ghost use Rattle.node_store.specs.Levels.{IsLevel};
     ghost use Rattle.node_store.specs.Edges.{AreFull, child_of};
     ghost use Rattle.node_store.specs.Split.{to_left, to_right};
     ghost use Rattle.node_store.specs.Store.{LeadTo};
@@ -59,12 +61,12 @@ impl Question {
         &self,
         store: &Store,
         agreed: &mut Agreed,
-        level: u8,
+        level: &[u8],
         pair: Pair,
     ) -> Result<bool, Memory>
         requires agreed { AreAgreed self.now store.now agreed.old }
-        requires level { level ≤ 5 }
-        requires pair { AreAt store.now level pair }
+        requires level { IsLevel level.now }
+        requires pair { AreAt store.now level.now pair }
         ensures yes { IfOk result (λ yes. OnTrue yes (Agree self.now store.now pair.which.0 pair.answers.0)) }
         ensures no { IfOk result (λ yes. OnFalse yes (Differ self.now store.now pair.which.0 pair.answers.0)) }
         ensures kept { IfOk result (λ yes. OnTrue yes (IsTrue (is_kept agreed.new pair))) }
@@ -83,7 +85,7 @@ impl Question {
 
     /// Whether two leaves agree.
     fn leaf(&self, store: &Store, pair: Pair) -> bool
-        requires { AreAt store.now 5 pair }
+        requires { AreAt store.now [] pair }
         ensures yes { OnTrue result (Agree self.now store.now pair.which.0 pair.answers.0) }
         ensures no { OnFalse result (Differ self.now store.now pair.which.0 pair.answers.0) }
     {
@@ -98,23 +100,23 @@ impl Question {
         &self,
         store: &Store,
         agreed: &mut Agreed,
-        level: u8,
+        level: &[u8],
         pair: Pair,
     ) -> Result<bool, Memory>
         requires agreed { AreAgreed self.now store.now agreed.old }
-        requires level { level ≤ 5 }
-        requires pair { AreAt store.now level pair }
+        requires level { IsLevel level.now }
+        requires pair { AreAt store.now level.now pair }
         ensures yes { IfOk result (λ yes. OnTrue yes (Agree self.now store.now pair.which.0 pair.answers.0)) }
         ensures no { IfOk result (λ yes. OnFalse yes (Differ self.now store.now pair.which.0 pair.answers.0)) }
         ensures earlier { KeepsPairs agreed.old agreed.new }
         ensures agreed { AreAgreed self.now store.now agreed.new }
     {
-        if level == 5 {
+        if level.is_empty() {
             return Ok(self.leaf(store, pair));
         }
         let parts = store.split(pair.which, pair.answers)?;
         let span = self.span(level);
-        let agree = self.parts(store, agreed, level + 1, span, parts.as_slice())?;
+        let agree = self.parts(store, agreed, &level[1..], span, parts.as_slice())?;
         Ok(agree)
     }
 
@@ -124,14 +126,14 @@ impl Question {
         &self,
         store: &Store,
         agreed: &mut Agreed,
-        level: u8,
+        level: &[u8],
         span: Span,
         parts: &[Part],
     ) -> Result<bool, Memory>
         requires agreed { AreAgreed self.now store.now agreed.old }
-        requires level { level ≤ 5 }
-        requires left { LeadTo store.now level (map to_left parts.now) }
-        requires right { LeadTo store.now level (map to_right parts.now) }
+        requires level { IsLevel level.now }
+        requires left { LeadTo store.now level.now (map to_left parts.now) }
+        requires right { LeadTo store.now level.now (map to_right parts.now) }
         ensures yes { (greatest : ℕ) → AreFull greatest (map to_left parts.now) → IfOk result (λ yes. OnTrue yes (EachValue greatest span (λ v.
             Agree self.now store.now (child_of (map to_left parts.now) v) (child_of (map to_right parts.now) v)))) }
         ensures no { (greatest : ℕ) → AreFull greatest (map to_left parts.now) → IfOk result (λ yes. OnFalse yes (SomeValue greatest span (λ v.
@@ -156,14 +158,14 @@ impl Question {
         &self,
         store: &Store,
         agreed: &mut Agreed,
-        level: u8,
+        level: &[u8],
         span: Span,
         part: Part,
     ) -> Result<bool, Memory>
         requires agreed { AreAgreed self.now store.now agreed.old }
-        requires level { level ≤ 5 }
-        requires left { level_of store.now part.left.0 ≡ level }
-        requires right { level_of store.now part.right.0 ≡ level }
+        requires level { IsLevel level.now }
+        requires left { level_of store.now part.left.0 ≡ level.now }
+        requires right { level_of store.now part.right.0 ≡ level.now }
         ensures yes { IfOk result (λ yes. OnTrue yes (span.lo ≤ part.hi → Agree self.now store.now part.left.0 part.right.0)) }
         ensures no { IfOk result (λ yes. OnFalse yes ((span.lo ≤ part.hi) × Differ self.now store.now part.left.0 part.right.0)) }
         ensures earlier { KeepsPairs agreed.old agreed.new }

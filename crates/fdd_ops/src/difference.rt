@@ -1,6 +1,6 @@
 //! The least header on which two diagrams differ.
 ghost use Rattle.std.specs.Prelude.{◌≡◌, ◌≢◌, ◌↔◌, ℕ, List, IfSome, IsNone};
-ghost use Rattle.field_boxes.specs.Fields.{IsHeader};
+ghost use Rattle.field_boxes.specs.Fields.{stated, IsHeader};
 ghost use Rattle.node_store.specs.Diagram.{level_of, answer};
 ghost use Rattle.fdd_ops.specs.Difference.{IsLeastDifference};
 
@@ -15,8 +15,8 @@ use node_store::{NodeId, Store};
 /// level are two functions, so the first value that leads to different numbers begins a difference,
 /// and no step is ever taken back.
 pub fn least_difference(store: &Store, a: NodeId, b: NodeId) -> Option<Header>
-    requires left { level_of store.now a.0 ≡ 0 }
-    requires right { level_of store.now b.0 ≡ 0 }
+    requires left { level_of store.now a.0 ≡ stated }
+    requires right { level_of store.now b.0 ≡ stated }
     ensures least { IfSome result (λ header. IsLeastDifference store.now a.0 b.0 header.values) }
     ensures none { IsNone result ↔ ((values : List ℕ) → IsHeader values → answer store.now a.0 values ≡ answer store.now b.0 values) }
 {
@@ -28,8 +28,8 @@ pub fn least_difference(store: &Store, a: NodeId, b: NodeId) -> Option<Header>
 
 /// The least header that two different diagrams decide differently.
 fn first_header(store: &Store, a: NodeId, b: NodeId) -> Header
-    requires left { level_of store.now a.0 ≡ 0 }
-    requires right { level_of store.now b.0 ≡ 0 }
+    requires left { level_of store.now a.0 ≡ stated }
+    requires right { level_of store.now b.0 ≡ stated }
     requires differ { a.0 ≢ b.0 }
     ensures { IsLeastDifference store.now a.0 b.0 result.values }
 {

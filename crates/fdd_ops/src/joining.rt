@@ -1,6 +1,6 @@
 //! The common split of two nodes of one field.
-ghost use Rattle.std.specs.Prelude.{◌≡◌, ◌<◌, suc, map, IfOk};
-ghost use Rattle.field_boxes.specs.Fields.{greatest_of};
+ghost use Rattle.std.specs.Prelude.{◌≡◌, map, IfOk};
+ghost use Rattle.node_store.specs.Levels.{HasField, next, top_of};
 ghost use Rattle.node_store.specs.Diagram.{level_of, edges_of};
 ghost use Rattle.node_store.specs.Split.{IsSplit, to_left, to_right};
 ghost use Rattle.node_store.specs.Store.{LeadTo};
@@ -19,14 +19,14 @@ pub type JointEdge = Part;
 ///
 /// Neighbours differ in a child. One pass over both nodes' edges.
 pub fn joint(alloc: Global, store: &Store, a: NodeId, b: NodeId) -> Result<Vec<JointEdge>, Memory>
-    requires inner { level_of store.now a.0 < 5 }
+    requires inner { HasField (level_of store.now a.0) }
     requires level { level_of store.now b.0 ≡ level_of store.now a.0 }
     ensures split { IfOk result (λ edges.
-        IsSplit (greatest_of (level_of store.now a.0)) (edges_of store.now a.0) (edges_of store.now b.0) edges.items) }
+        IsSplit (top_of (level_of store.now a.0)) (edges_of store.now a.0) (edges_of store.now b.0) edges.items) }
     ensures coarsest { IfOk result (λ edges.
-        IsCoarsest (greatest_of (level_of store.now a.0)) (edges_of store.now a.0) (edges_of store.now b.0) edges.items) }
-    ensures left { IfOk result (λ edges. LeadTo store.now (suc (level_of store.now a.0)) (map to_left edges.items)) }
-    ensures right { IfOk result (λ edges. LeadTo store.now (suc (level_of store.now a.0)) (map to_right edges.items)) }
+        IsCoarsest (top_of (level_of store.now a.0)) (edges_of store.now a.0) (edges_of store.now b.0) edges.items) }
+    ensures left { IfOk result (λ edges. LeadTo store.now (next (level_of store.now a.0)) (map to_left edges.items)) }
+    ensures right { IfOk result (λ edges. LeadTo store.now (next (level_of store.now a.0)) (map to_right edges.items)) }
 {
     let parts = store.split(a, b)?;
     let edges = parts.as_slice().to_vec(alloc)?;

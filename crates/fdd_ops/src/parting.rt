@@ -3,7 +3,8 @@
 //! The edges of a node rise, and neighbouring edges lead apart. So two lists of edges lead alike just as
 //! far as their equal fronts reach. The first edges that are not equal lead apart at once, or to one
 //! child: then the one that ends sooner is followed by an edge that leads elsewhere.
-ghost use Rattle.std.specs.Prelude.{◌≡◌, ◌≢◌, ◌<◌};
+ghost use Rattle.std.specs.Prelude.{◌≡◌, ◌≢◌};
+ghost use Rattle.node_store.specs.Levels.{HasField};
 ghost use Rattle.node_store.specs.Diagram.{level_of};
 ghost use Rattle.fdd_ops.specs.Parting.{IsParting};
 
@@ -19,7 +20,7 @@ pub(crate) struct Parting {
 
 /// The first value at which two different nodes of one field lead apart.
 pub(crate) fn first_parting(store: &Store, a: NodeId, b: NodeId) -> Parting
-    requires inner { level_of store.now a.0 < 5 }
+    requires inner { HasField (level_of store.now a.0) }
     requires level { level_of store.now b.0 ≡ level_of store.now a.0 }
     requires differ { a.0 ≢ b.0 }
     ensures { IsParting store.now a.0 b.0 result }

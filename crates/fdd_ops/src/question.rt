@@ -11,14 +11,18 @@ pub(crate) struct Question {
 }
 
 impl Question {
-    ghost use Rattle.std.specs.Prelude.{◌≡◌, ◌<◌, length, slice_index_or};
+    ghost use Rattle.std.specs.Prelude.{◌≡◌, ◌&&◌, ℕ, List, ◌∷◌};
+    ghost use Rattle.field_boxes.specs.Classifier.{interval_holds};
+    ghost use Rattle.field_boxes.specs.Spans.{interval_of};
+    ghost use Rattle.node_store.specs.Levels.{HasField, next};
+    ghost use Rattle.fdd_ops.specs.Agreement.{rest_holds};
 
-    /// The box's span of a field.
-    pub fn span(&self, field: u8) -> Span
-        requires { field < 5 }
-        ensures fields { length self.now.spans ≡ 5 }
-        ensures span { (d : Span) → result ≡ slice_index_or self.now.spans field d }
+    /// The box's span of the level's first field.
+    pub fn span(&self, level: &[u8]) -> Span
+        requires { HasField level.now }
+        ensures { (v : ℕ) (values : List ℕ) → rest_holds self.now.spans level.now (v ∷ values) ≡
+            (interval_holds v (interval_of result) && rest_holds self.now.spans (next level.now) values) }
     {
-        self.spans[usize::from(field)]
+        self.spans[usize::from(level[0])]
     }
 }

@@ -1,47 +1,77 @@
--- Nodes that answer one number: a node over them is one too, and they stay when the store grows.
-use Rattle.std.proofs.Common.{◌≡◌, ℕ, List, ◌∷◌, ◌≤◌, ◌<◌, ◌∙◌, arith, length, subst, sym, inl, inr}
-use Rattle.std.specs.Prelude.{◌⊎◌, suc, slice_index_or, slice_set}
-use Rattle.std.proofs.Math.Nat.{eq-or-lt_of_le}
-use Rattle.std.proofs.lemmas.Grind.{get_or-set_at}
-use Rattle.std.proofs.lemmas.List.{get_or-set_other}
-use Rattle.field_boxes.specs.Fields.{greatest_of}
-use Rattle.node_store.specs.declared.edge.NodeId.{NodeId}
-use Rattle.node_store.specs.Diagram.{Node, level_of, answer}
-use Rattle.node_store.specs.Store.{Grows}
-use Rattle.node_store.proofs.Growth as growth
-use Rattle.node_store.proofs.Made.{within}
+-- Nodes that answer one number: a leaf, a node over one of them, and a node whose one edge leads to one.
+use Rattle.std.proofs.Common.{◌≡◌, ℕ, List, [], ◌∷◌, ◌≤◌, ◌<◌, ◌∙◌, arith, ap, refl, length, subst, sym}
+use Rattle.std.specs.Prelude.{IfSome, Option, Some, None, slice_get, slice_index_or, unwrap_or}
+use Rattle.field_boxes.specs.Fields.{AreValues}
+use Rattle.node_store.specs.declared.edge.Edge.{Edge}
+use Rattle.node_store.specs.Edges.{AreFull, child_of}
+use Rattle.node_store.specs.Levels.{HasField, next, top_of}
+use Rattle.node_store.specs.Diagram.{Node, node_level, node_edges, node_decision, level_of, edges_of, decision_of, answer}
+use Rattle.node_store.specs.Diagram.Node.{Leaf, Inner}
+use Rattle.node_store.specs.Store.{IsStore}
+use Rattle.node_store.proofs.Canonical.{leads_on}
+use Rattle.node_store.proofs.Edges.{within}
 use Rattle.node_store.proofs.Values.{each}
-use Rattle.field_sets.specs.Constant.{AnswersAlways, AnswerAlwaysFrom}
+use Rattle.field_sets.specs.Constant.{AnswersAlways, AnswersOnly}
 
-module _ (decision : ℕ) where
-  pub opened : (old new : List Node) (field to id : ℕ) → field < 5 → AnswersAlways old (suc field) decision to → level_of new id ≡ field →
-      ((v : ℕ) (values : List ℕ) → v ≤ greatest_of field → answer new id (v ∷ values) ≡ answer old to values) → AnswersAlways new field decision id
-  opened old new field to id five always level same = record {
-    level = level;
-    answers = each (λ values. answer new id values ≡ decision) field five (λ v rest low h. same v rest low ∙ always.answers rest h);
-  }
+pub opened : (decision : ℕ) (old new : List Node) (level : List ℕ) (to id : ℕ) → HasField level → AnswersAlways old (next level) decision to → level_of new id ≡ level →
+    ((v : ℕ) (values : List ℕ) → v ≤ top_of level → answer new id (v ∷ values) ≡ answer old to values) → AnswersAlways new level decision id
+opened decision old new level to id field always at same = record {
+  level = at;
+  answers = each (λ values. answer new id values ≡ decision) level field (λ v rest low h. same v rest low ∙ always.answers rest h);
+}
 
-  pub stays : (old new : List Node) (place id : ℕ) → Grows old new → place ≤ 5 → AnswersAlways old place decision id → AnswersAlways new place decision id
-  stays old new place id g five n =
-      let used = within old id (omega (arith, n.level, five)) in record {
-        level = growth.level_kept old new id g used ∙ n.level;
-        answers = λ values h. g.answers id values used ∙ n.answers values h;
-      }
+last_answer : (nodes : List Node) (id decision : ℕ) → decision_of nodes id ≡ Some decision → (values : List ℕ) → AreValues [] values → answer nodes id values ≡ decision
+last_answer nodes id decision is [] ok = ap (λ o. unwrap_or o 0) is
+last_answer nodes id decision is (v ∷ values) ok = absurd ok
 
-  pub all_stay : (old new : List Node) (ids : List NodeId) → Grows old new → AnswerAlwaysFrom 0 old decision ids → AnswerAlwaysFrom 0 new decision ids
-  all_stay old new ids g is place d low five = stays old new place (slice_index_or ids place d).0 g five (is place d low five)
+pub leaf : (decision : ℕ) (nodes : List Node) (level : List ℕ) (id : ℕ) → level ≡ [] → level_of nodes id ≡ [] → decision_of nodes id ≡ Some decision → AnswersAlways nodes level decision id
+leaf decision nodes level id none at is = record {
+  level = at ∙ sym none;
+  answers = λ values ok. last_answer nodes id decision is values (subst (λ k. AreValues k values) none ok);
+}
 
-  put_by : (old new : List Node) (ids : List NodeId) (field : ℕ) (id : NodeId) → field < length ids → Grows old new →
-      AnswerAlwaysFrom (suc field) old decision ids → AnswersAlways new field decision id.0 →
-      (level : ℕ) (d : NodeId) → level ≤ 5 → (level ≡ field) ⊎ (suc field ≤ level) → AnswersAlways new level decision (slice_index_or (slice_set ids field id) level d).0
-  put_by old new ids field id within g above here level d five (inl e) =
-      subst (λ k. AnswersAlways new k decision (slice_index_or (slice_set ids field id) k d).0) (sym e)
-      (subst (λ n. AnswersAlways new field decision n.0) (sym (get_or-set_at ids field field id d (omega arith) within)) here)
-  put_by old new ids field id within g above here level d five (inr h) =
-      subst (λ n. AnswersAlways new level decision n.0) (sym (get_or-set_other ids field level id d (λ e. omega (arith, e, h))))
-      (stays old new level _ g five (above level d h five))
+leaf_by : (nodes : List Node) (id decision : ℕ) (m : Option Node) → slice_get nodes id ≡ m → node_decision m ≡ Some decision → node_level m ≡ []
+leaf_by nodes id decision None p h = cc
+leaf_by nodes id decision (Some (Inner f es)) p h = cc
+leaf_by nodes id decision (Some (Leaf c)) p h = refl
 
-  pub put : (old new : List Node) (ids : List NodeId) (field : ℕ) (id : NodeId) → field < length ids → Grows old new →
-      AnswerAlwaysFrom (suc field) old decision ids → AnswersAlways new field decision id.0 → AnswerAlwaysFrom field new decision (slice_set ids field id)
-  put old new ids field id within g above here level d low five =
-      put_by old new ids field id within g above here level d five (elim (eq-or-lt_of_le low) [ inl e ↦ inl (sym e) | inr h ↦ inr (omega (arith, h)) ])
+-- a node with a decision
+pub at_leaf : (nodes : List Node) (id decision : ℕ) → decision_of nodes id ≡ Some decision → AnswersOnly nodes decision id
+at_leaf nodes id decision is = λ values ok. last_answer nodes id decision is values (subst (λ k. AreValues k values) (leaf_by nodes id decision (slice_get nodes id) refl is) ok)
+
+single : (es : List Edge) (d : Edge) → length es ≡ 1 → es ≡ slice_index_or es 0 d ∷ []
+single [] d h = absurd (omega (arith, h))
+single (e ∷ []) d h = refl
+single (e ∷ c ∷ es) d h = absurd (omega (arith, h))
+
+one_edge : (top : ℕ) (e : Edge) (es : List Edge) → AreFull top es → es ≡ e ∷ [] → (v : ℕ) → v ≤ top → child_of es v ≡ e.to.0
+one_edge top e es full is v h =
+    let last = (subst (AreFull top) is full).last e in
+    ap (λ xs. child_of xs v) is ∙ within e [] v (omega (arith, last, h))
+
+one_by : (nodes : List Node) (id : ℕ) (m : Option Node) (e : Edge) → IsStore nodes → slice_get nodes id ≡ m → node_edges m ≡ e ∷ [] →
+    HasField (node_level m) × ((v : ℕ) → v ≤ top_of (node_level m) → child_of (node_edges m) v ≡ e.to.0)
+one_by nodes id None e s p h = cc
+one_by nodes id (Some (Leaf c)) e s p h = cc
+one_by nodes id (Some (Inner f es)) e s p h = let inner = s.fits id (Inner f es) p in (inner.field, one_edge (top_of f) e es inner.full h)
+
+module _ (nodes : List Node) (id : ℕ) (es : List Edge) (d : Edge) (store : IsStore nodes) (own : es ≡ edges_of nodes id) (one : length es ≡ 1) where
+  leads : HasField (level_of nodes id) × ((v : ℕ) → v ≤ top_of (level_of nodes id) → child_of (edges_of nodes id) v ≡ (slice_index_or es 0 d).to.0)
+  leads = one_by nodes id (slice_get nodes id) (slice_index_or es 0 d) store refl (sym own ∙ single es d one)
+
+  -- the one edge leads to an older node
+  pub older : (slice_index_or es 0 d).to.0 < id
+  older = subst (λ n. n < id) (leads.1 0 (omega arith)) (leads_on nodes id 0 store leads.0 (omega arith)).0
+
+  next_is : level_of nodes (slice_index_or es 0 d).to.0 ≡ next (level_of nodes id)
+  next_is = ap (λ n. level_of nodes n) (sym (leads.1 0 (omega arith))) ∙ (leads_on nodes id 0 store leads.0 (omega arith)).1
+
+  -- a node whose one edge leads to one that answers one number
+  pub through : (decision : ℕ) → AnswersOnly nodes decision (slice_index_or es 0 d).to.0 → AnswersOnly nodes decision id
+  through decision only =
+      each (λ values. answer nodes id values ≡ decision) (level_of nodes id) leads.0
+      (λ v rest low ok. ap (λ n. answer nodes n rest) (leads.1 v low) ∙ only rest (subst (λ k. AreValues k rest) (sym next_is) ok))
+
+pub if_through : (found : Option ℕ) (P Q : ℕ → Type 0) → ((n : ℕ) → P n → Q n) → IfSome found P → IfSome found Q
+if_through None P Q h is = tt
+if_through (Some n) P Q h is = h n is

@@ -4,50 +4,46 @@ use Rattle.std.specs.Prelude.{Bool, true, false, cond, not, ◌==◌, ◌||◌, 
 use Rattle.std.proofs.lemmas.Bool.Decides.{Decides-eqb, Decides-and}
 use Rattle.node_store.specs.declared.edge.NodeId.{NodeId}
 use Rattle.node_store.specs.Diagram.{Node, level_of}
-use Rattle.node_store.specs.Store.{Grows, AreValuesFrom}
+use Rattle.field_boxes.specs.Fields.{AreValues}
+use Rattle.node_store.specs.Levels.{IsLevel}
+use Rattle.node_store.specs.Store.{Grows}
 use Rattle.node_store.proofs.Growth as growth
-use Rattle.node_store.proofs.Made.{within}
+use Rattle.node_store.proofs.Canonical.{in_use}
 use Rattle.field_sets.specs.declared.pair.Pair.{Pair}
-use Rattle.field_sets.specs.declared.constant.Constant.{Constant}
-use Rattle.field_sets.specs.Unions.{is_in, IsUnion, AreUnions, AreSets, same_pair}
-use Rattle.field_sets.proofs.Always.{all_stay}
+use Rattle.field_sets.specs.Unions.{is_in, IsUnion, AreUnions, same_pair}
 
 -- what two sets hold of some values before the store grew, they hold after
-pub stay_two : (old new : List Node) (a b place : ℕ) (values : List ℕ) → Grows old new → place ≤ 5 → level_of old a ≡ place → level_of old b ≡ place →
+pub stay_two : (old new : List Node) (a b : ℕ) (place values : List ℕ) → Grows old new → IsLevel place → level_of old a ≡ place → level_of old b ≡ place →
     (is_in new a values || is_in new b values) ≡ (is_in old a values || is_in old b values)
-stay_two old new a b place values g five at_a at_b =
-    ap (λ n. not (n == 0) || is_in new b values) (g.answers a values (within old a (omega (arith, at_a, five))))
-    ∙ ap (λ n. is_in old a values || not (n == 0)) (g.answers b values (within old b (omega (arith, at_b, five))))
+stay_two old new a b place values g is at_a at_b =
+    ap (λ n. not (n == 0) || is_in new b values) (g.answers a values (in_use old a place is at_a))
+    ∙ ap (λ n. is_in old a values || not (n == 0)) (g.answers b values (in_use old b place is at_b))
 
 pub union_stays : (old new : List Node) (pair : Pair) (id : NodeId) → Grows old new → IsUnion old pair id → IsUnion new pair id
 union_stays old new pair id g u =
     let a = pair.left.0 in
     let b = pair.right.0 in
-    let at_a = within old a (omega (arith, u.within)) in
-    let at_b = within old b (omega (arith, u.within, u.beside)) in
-    let at_c = within old id.0 (omega (arith, u.within, u.level)) in
+    let at_a = in_use old a (level_of old a) u.within refl in
+    let at_b = in_use old b (level_of old a) u.within u.beside in
+    let at_c = in_use old id.0 (level_of old a) u.within u.level in
     let same = growth.level_kept old new a g at_a in record {
-      within = omega (arith, u.within, same);
+      within = subst IsLevel (sym same) u.within;
       beside = growth.level_kept old new b g at_b ∙ u.beside ∙ sym same;
       level = growth.level_kept old new id.0 g at_c ∙ u.level ∙ sym same;
       union = λ values h.
           ap (λ n. not (n == 0)) (g.answers id.0 values at_c)
-          ∙ u.union values (subst (λ k. AreValuesFrom k values) same h)
-          ∙ sym (stay_two old new a b (level_of old a) values g u.within (omega arith) u.beside);
+          ∙ u.union values (subst (λ k. AreValues k values) same h)
+          ∙ sym (stay_two old new a b (level_of old a) values g u.within refl u.beside);
       small = λ values h at_most also.
           let x = g.answers a values at_a in
           let y = g.answers b values at_b in
           let z = g.answers id.0 values at_c in
-          let least = u.small values (subst (λ k. AreValuesFrom k values) same h) (omega (arith, x, at_most)) (omega (arith, y, also)) in
+          let least = u.small values (subst (λ k. AreValues k values) same h) (omega (arith, x, at_most)) (omega (arith, y, also)) in
           omega (arith, z, least);
     }
 
-pub sets_stay : (old new : List Node) (none full : Constant) (done : Pair → Option NodeId) → Grows old new → AreSets old none full done → AreSets new none full done
-sets_stay old new none full done g s = record {
-  none_is = all_stay 0 old new none.nodes g s.none_is;
-  full_is = all_stay 1 old new full.nodes g s.full_is;
-  unions = λ pair id e. union_stays old new pair id g (s.unions pair id e);
-}
+pub sets_stay : (old new : List Node) (done : Pair → Option NodeId) → Grows old new → AreUnions old done → AreUnions new done
+sets_stay old new done g all = λ pair id e. union_stays old new pair id g (all pair id e)
 
 pair_is : (p q : Pair) → p.left.0 ≡ q.left.0 → p.right.0 ≡ q.right.0 → p ≡ q
 pair_is p q l r =

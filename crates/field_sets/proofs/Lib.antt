@@ -3,6 +3,7 @@ pub mod Covering
 pub mod Together
 pub mod Inside
 pub mod Always
+pub mod Sight
 pub mod Lasting
 pub mod UnionParts
 pub mod UnionNodes

@@ -22,5 +22,5 @@ RiseFrom lo top [] = Unit {0}
 RiseFrom lo top (p ∷ ps) = (lo ≤ p.span.lo) × (p.span.hi ≤ top) × RiseFrom (suc p.span.hi) top ps
 
 -- all of them lead to nodes of the level
-abbrev pub PlacedAt : List Node → ℕ → List Placed → Type 0
+abbrev pub PlacedAt : List Node → List ℕ → List Placed → Type 0
 PlacedAt nodes level placed = All (λ p. level_of nodes p.to.0 ≡ level) placed

@@ -1,6 +1,6 @@
 //! A node that leads elsewhere at some spans of its field.
-ghost use Rattle.std.specs.Prelude.{◌≡◌, ◌≤◌, ◌<◌, ℕ, suc, List, [], ◌∷◌, IfOk, MatchOption};
-ghost use Rattle.field_boxes.specs.Fields.{greatest_of};
+ghost use Rattle.std.specs.Prelude.{◌≡◌, ◌≤◌, ◌<◌, ℕ, List, [], ◌∷◌, IfOk, MatchOption};
+ghost use Rattle.node_store.specs.Levels.{HasField, next, top_of};
 ghost use Rattle.node_store.specs.Diagram.{Node, level_of, edges_of, answer};
 ghost use Rattle.node_store.specs.Edges.{AreFull, child_of};
 ghost use Rattle.node_store.specs.Store.{Grows, LeadTo};
@@ -24,16 +24,16 @@ type Edges = SmallVec<Edge, 6>;
 pub fn laid(
     alloc: Global,
     store: &mut Store,
-    level: u8,
+    level: &[u8],
     node: NodeId,
     placed: &[Placed],
 ) -> Result<NodeId, Memory>
-    requires level { level < 5 }
-    requires node { level_of store.old node.0 ≡ level }
-    requires rise { RiseFrom 0 (greatest_of level) placed.now }
-    requires children { PlacedAt store.old (suc level) placed.now }
-    ensures level { IfOk result (λ id. level_of store.new id.0 ≡ level) }
-    ensures answers { IfOk result (λ id. (v : ℕ) (values : List ℕ) → v ≤ greatest_of level →
+    requires level { HasField level.now }
+    requires node { level_of store.old node.0 ≡ level.now }
+    requires rise { RiseFrom 0 (top_of level.now) placed.now }
+    requires children { PlacedAt store.old (next level.now) placed.now }
+    ensures level { IfOk result (λ id. level_of store.new id.0 ≡ level.now) }
+    ensures answers { IfOk result (λ id. (v : ℕ) (values : List ℕ) → v ≤ top_of level.now →
         answer store.new id.0 (v ∷ values) ≡ answer store.old (led placed.now (edges_of store.old node.0) v) values) }
     ensures grows { Grows store.old store.new }
 {
@@ -50,7 +50,7 @@ fn edges(alloc: Global, own: &[Edge], placed: &[Placed]) -> Result<Edges, Memory
     ensures full { (top : ℕ) → AreFull top own.now → RiseFrom 0 top placed.now → IfOk result (λ edges. AreFull top edges.items) }
     ensures leads { (top : ℕ) → AreFull top own.now → RiseFrom 0 top placed.now →
         IfOk result (λ edges. (v : ℕ) → v ≤ top → child_of edges.items v ≡ led placed.now own.now v) }
-    ensures children { (nodes : List Node) (level : ℕ) → LeadTo nodes level own.now → PlacedAt nodes level placed.now →
+    ensures children { (nodes : List Node) (level : List ℕ) → LeadTo nodes level own.now → PlacedAt nodes level placed.now →
         IfOk result (λ edges. LeadTo nodes level edges.items) }
 {
     let mut edges = SmallVec::new(alloc);

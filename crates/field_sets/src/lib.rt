@@ -1,17 +1,18 @@
 //! Sets and answers over fields: diagrams changed at some spans of one field, and unions of sets.
 //!
-//! The diagrams are those of node_store, over the values of the fields from a level on. [`laid`] gives a node that
+//! The diagrams are those of node_store, over the values of a level's fields. [`laid`] gives a node that
 //! leads elsewhere at some spans of its field, in one pass over its edges. [`parts_within`] gives the parts of a span
 //! on which two nodes lead to one child each, and looks at no edge outside of the span but for two binary searches.
 //!
-//! A set of values is a diagram that answers them by other numbers than 0. [`Sets`] is a store that knows the empty
-//! and the full set of each level, and works out each union once.
+//! A set of values is a diagram that answers them by other numbers than 0. [`Sets`] is a store that gives the empty and
+//! the full set of a level, and works out each union once. Whether a set is empty or full is seen along single edges, at
+//! most one a field.
 //!
 //! ```text
-//! let mut sets = Sets::new(alloc)?;
-//! let (none, full) = (sets.none(2), sets.full(3));
-//! let ports = sets.laid(2, none, &[Placed { span, to: full }])?;
-//! let either = sets.union(2, ports, other)?;
+//! let mut sets = Sets::new(alloc);
+//! let (none, full) = (sets.none(&[2, 3, 4])?, sets.full(&[3, 4])?);
+//! let ports = sets.laid(&[2, 3, 4], none, &[Placed { span, to: full }])?;
+//! let either = sets.union(&[2, 3, 4], ports, other)?;
 //! let parts = parts_within(alloc, sets.store(), answers, either, span)?;
 //! ```
 //!

@@ -1,6 +1,6 @@
 //! The common split of the edges of two nodes inside a span of their field.
-ghost use Rattle.std.specs.Prelude.{◌≡◌, ◌≤◌, ◌<◌, ◌⊎◌, ℕ, suc, List, [], map, IfOk, MatchOption};
-ghost use Rattle.field_boxes.specs.Fields.{greatest_of};
+ghost use Rattle.std.specs.Prelude.{◌≡◌, ◌≤◌, ◌<◌, ◌⊎◌, ℕ, List, [], map, IfOk, MatchOption};
+ghost use Rattle.node_store.specs.Levels.{HasField, next, top_of};
 ghost use Rattle.node_store.specs.Diagram.{Node, level_of, edges_of};
 ghost use Rattle.node_store.specs.Split.{to_left, to_right};
 ghost use Rattle.node_store.specs.Store.{LeadTo};
@@ -24,12 +24,12 @@ pub fn parts_within(
     right: NodeId,
     span: Span,
 ) -> Result<Parts, Memory>
-    requires inner { level_of store.now left.0 < 5 }
+    requires inner { HasField (level_of store.now left.0) }
     requires level { level_of store.now right.0 ≡ level_of store.now left.0 }
-    requires span { span.hi ≤ greatest_of (level_of store.now left.0) }
+    requires span { span.hi ≤ top_of (level_of store.now left.0) }
     ensures split { IfOk result (λ parts. IsSplitWithin span.lo span.hi (edges_of store.now left.0) (edges_of store.now right.0) parts.items) }
-    ensures left { IfOk result (λ parts. LeadTo store.now (suc (level_of store.now left.0)) (map to_left parts.items)) }
-    ensures right { IfOk result (λ parts. LeadTo store.now (suc (level_of store.now left.0)) (map to_right parts.items)) }
+    ensures left { IfOk result (λ parts. LeadTo store.now (next (level_of store.now left.0)) (map to_left parts.items)) }
+    ensures right { IfOk result (λ parts. LeadTo store.now (next (level_of store.now left.0)) (map to_right parts.items)) }
 {
     let left = reaching(store.edges(left), span.lo);
     let right = reaching(store.edges(right), span.lo);
@@ -41,8 +41,8 @@ pub fn parts_within(
 fn parts_of(alloc: Global, left: &[Edge], right: &[Edge], hi: u32) -> Result<Parts, Memory>
     ensures split { (lo top : ℕ) → lo ≤ hi → hi ≤ top → Fill lo top left.now → Fill lo top right.now →
         IfOk result (λ parts. IsSplitWithin lo hi left.now right.now parts.items) }
-    ensures left { (nodes : List Node) (level : ℕ) → LeadTo nodes level left.now → IfOk result (λ parts. LeadTo nodes level (map to_left parts.items)) }
-    ensures right { (nodes : List Node) (level : ℕ) → LeadTo nodes level right.now → IfOk result (λ parts. LeadTo nodes level (map to_right parts.items)) }
+    ensures left { (nodes : List Node) (level : List ℕ) → LeadTo nodes level left.now → IfOk result (λ parts. LeadTo nodes level (map to_left parts.items)) }
+    ensures right { (nodes : List Node) (level : List ℕ) → LeadTo nodes level right.now → IfOk result (λ parts. LeadTo nodes level (map to_right parts.items)) }
 {
     let mut parts = SmallVec::new(alloc);
     let mut left = left;

@@ -1,6 +1,6 @@
-//! Sets of values of the fields from a level on, as diagrams that answer 0 outside.
+//! Sets of values of a level's fields, as diagrams that answer 0 outside.
 
-use crate::constant::Constant;
+use crate::constant::{answering, only_answer};
 use crate::laying::laid;
 use crate::pair::Pair;
 use crate::placed::Placed;
@@ -14,13 +14,11 @@ use std::marker::Model;
 /// The edges of a union.
 type Edges = SmallVec<Edge, 6>;
 
-/// A store, the empty and the full set of each level, and the unions that were worked out before.
+/// A store, and the unions that were worked out before.
 #[derive(Drop)]
 pub struct Sets {
     alloc: Global,
     store: Store,
-    none: Constant,
-    full: Constant,
     unions: HashMap<Pair, NodeId>,
 }
 
@@ -28,39 +26,37 @@ impl Model for Sets {
     ghost use Rattle.std.specs.Prelude.{List};
     ghost use Rattle.std.specs.HashMap.{get};
     ghost use Rattle.node_store.specs.Diagram.{Node as Seen};
-    ghost use Rattle.field_sets.specs.Unions.{AreSets, same_pair};
+    ghost use Rattle.field_sets.specs.Unions.{AreUnions, same_pair};
 
     ghost Value = { List Seen };
 
     ghost view = { λ s. s.store };
 
-    ghost invariant = { λ s. AreSets s.store s.none s.full (get same_pair s.unions) };
+    ghost invariant = { λ s. AreUnions s.store (get same_pair s.unions) };
 }
 
 impl Sets {
-    ghost use Rattle.std.specs.Prelude.{◌≡◌, ◌<◌, ◌≤◌, ◌||◌, ℕ, suc, List, [], ◌∷◌, map, Some, IfOk, IfSome};
+    ghost use Rattle.std.specs.Prelude.{◌≡◌, ◌<◌, ◌≤◌, ◌||◌, ℕ, List, [], ◌∷◌, map, Some, IfOk, IfSome};
     ghost use Rattle.std.specs.List.{AllZip};
-    ghost use Rattle.field_boxes.specs.Fields.{greatest_of};
+    ghost use Rattle.field_boxes.specs.Fields.{AreValues};
+    ghost use Rattle.node_store.specs.Levels.{HasField, IsLevel, next, top_of};
     ghost use Rattle.node_store.specs.Diagram.{level_of, edges_of, decision_of, answer};
     ghost use Rattle.node_store.specs.Edges.{AreFull, child_of};
     ghost use Rattle.node_store.specs.Split.{IsSplit, to_left, to_right};
-    ghost use Rattle.node_store.specs.Store.{Grows, LeadTo, AreValuesFrom};
+    ghost use Rattle.node_store.specs.Store.{Grows, LeadTo};
     ghost use Rattle.field_sets.specs.Placed.{led, RiseFrom, PlacedAt};
     ghost use Rattle.field_sets.specs.Constant.{AnswersAlways};
     ghost use Rattle.field_sets.specs.Unions.{is_in, AreAt, IsUnion, IsUnionPart};
 
-    /// A store of the empty and the full set of each level.
-    pub fn new(alloc: Global) -> Result<Sets, Memory> {
-        let mut store = Store::new(alloc);
-        let none = Constant::of(&mut store, 0)?;
-        let full = Constant::of(&mut store, 1)?;
-        Ok(Sets {
+    /// A store of no sets.
+    pub fn new(alloc: Global) -> Sets
+        ensures { result ≡ [] }
+    {
+        Sets {
             alloc,
-            store,
-            none,
-            full,
+            store: Store::new(alloc),
             unions: HashMap::new(alloc),
-        })
+        }
     }
 
     /// The store.
@@ -70,25 +66,31 @@ impl Sets {
         &self.store
     }
 
-    /// The empty set of the level, from 0 to 5.
-    pub fn none(&self, level: u8) -> NodeId
-        requires { level ≤ 5 }
-        ensures { AnswersAlways self.now level 0 result.0 }
+    /// The empty set of the level.
+    ///
+    /// It has a node for each field of the level, which the store gains where they aren't there; so has the full set.
+    pub fn none(&mut self, level: &[u8]) -> Result<NodeId, Memory>
+        requires { IsLevel level.now }
+        ensures none { IfOk result (λ id. AnswersAlways self.new level.now 0 id.0) }
+        ensures grows { Grows self.old self.new }
     {
-        self.none.at(level)
+        let id = answering(&mut self.store, level, 0)?;
+        Ok(id)
     }
 
-    /// The full set of the level, from 0 to 5.
-    pub fn full(&self, level: u8) -> NodeId
-        requires { level ≤ 5 }
-        ensures { AnswersAlways self.now level 1 result.0 }
+    /// The full set of the level.
+    pub fn full(&mut self, level: &[u8]) -> Result<NodeId, Memory>
+        requires { IsLevel level.now }
+        ensures full { IfOk result (λ id. AnswersAlways self.new level.now 1 id.0) }
+        ensures grows { Grows self.old self.new }
     {
-        self.full.at(level)
+        let id = answering(&mut self.store, level, 1)?;
+        Ok(id)
     }
 
     /// The leaf with the decision.
     pub fn leaf(&mut self, decision: u32) -> Result<NodeId, Memory>
-        ensures level { IfOk result (λ id. level_of self.new id.0 ≡ 5) }
+        ensures level { IfOk result (λ id. level_of self.new id.0 ≡ []) }
         ensures decision { IfOk result (λ id. decision_of self.new id.0 ≡ Some decision) }
         ensures grows { Grows self.old self.new }
     {
@@ -97,13 +99,13 @@ impl Sets {
     }
 
     /// The node of the level that leads as placed, and elsewhere where the node leads ([`laid`]).
-    pub fn laid(&mut self, level: u8, node: NodeId, placed: &[Placed]) -> Result<NodeId, Memory>
-        requires level { level < 5 }
-        requires node { level_of self.old node.0 ≡ level }
-        requires rise { RiseFrom 0 (greatest_of level) placed.now }
-        requires children { PlacedAt self.old (suc level) placed.now }
-        ensures level { IfOk result (λ id. level_of self.new id.0 ≡ level) }
-        ensures answers { IfOk result (λ id. (v : ℕ) (values : List ℕ) → v ≤ greatest_of level →
+    pub fn laid(&mut self, level: &[u8], node: NodeId, placed: &[Placed]) -> Result<NodeId, Memory>
+        requires level { HasField level.now }
+        requires node { level_of self.old node.0 ≡ level.now }
+        requires rise { RiseFrom 0 (top_of level.now) placed.now }
+        requires children { PlacedAt self.old (next level.now) placed.now }
+        ensures level { IfOk result (λ id. level_of self.new id.0 ≡ level.now) }
+        ensures answers { IfOk result (λ id. (v : ℕ) (values : List ℕ) → v ≤ top_of level.now →
             answer self.new id.0 (v ∷ values) ≡ answer self.old (led placed.now (edges_of self.old node.0) v) values) }
         ensures grows { Grows self.old self.new }
     {
@@ -114,14 +116,14 @@ impl Sets {
     /// The set of the values that are in one of two sets of the level.
     ///
     /// Each union is worked out once.
-    pub fn union(&mut self, level: u8, left: NodeId, right: NodeId) -> Result<NodeId, Memory>
-        requires level { level ≤ 5 }
-        requires left { level_of self.old left.0 ≡ level }
-        requires right { level_of self.old right.0 ≡ level }
-        ensures level { IfOk result (λ id. level_of self.new id.0 ≡ level) }
-        ensures union { IfOk result (λ id. (values : List ℕ) → AreValuesFrom level values →
+    pub fn union(&mut self, level: &[u8], left: NodeId, right: NodeId) -> Result<NodeId, Memory>
+        requires level { IsLevel level.now }
+        requires left { level_of self.old left.0 ≡ level.now }
+        requires right { level_of self.old right.0 ≡ level.now }
+        ensures level { IfOk result (λ id. level_of self.new id.0 ≡ level.now) }
+        ensures union { IfOk result (λ id. (values : List ℕ) → AreValues level.now values →
             is_in self.new id.0 values ≡ (is_in self.old left.0 values || is_in self.old right.0 values)) }
-        ensures small { IfOk result (λ id. (values : List ℕ) → AreValuesFrom level values →
+        ensures small { IfOk result (λ id. (values : List ℕ) → AreValues level.now values →
             answer self.old left.0 values ≤ 1 → answer self.old right.0 values ≤ 1 → answer self.new id.0 values ≤ 1) }
         ensures grows { Grows self.old self.new }
     {
@@ -131,9 +133,9 @@ impl Sets {
 
     /// The union of a pair of a level: known at sight, or from an earlier turn, or worked out and kept.
     #[cycle(union)]
-    fn united(&mut self, level: u8, pair: Pair) -> Result<NodeId, Memory>
-        requires level { level ≤ 5 }
-        requires pair { AreAt self.old level pair }
+    fn united(&mut self, level: &[u8], pair: Pair) -> Result<NodeId, Memory>
+        requires level { IsLevel level.now }
+        requires pair { AreAt self.old level.now pair }
         ensures union { IfOk result (λ id. IsUnion self.new pair id) }
         ensures grows { Grows self.old self.new }
     {
@@ -150,29 +152,29 @@ impl Sets {
 
     /// The same: a leaf, or a node with an edge for each part of the field.
     #[cycle(union)]
-    fn worked_out(&mut self, level: u8, pair: Pair) -> Result<NodeId, Memory>
-        requires level { level ≤ 5 }
-        requires pair { AreAt self.old level pair }
+    fn worked_out(&mut self, level: &[u8], pair: Pair) -> Result<NodeId, Memory>
+        requires level { IsLevel level.now }
+        requires pair { AreAt self.old level.now pair }
         ensures union { IfOk result (λ id. IsUnion self.new pair id) }
         ensures grows { Grows self.old self.new }
     {
-        if level == 5 {
+        if level.is_empty() {
             return self.last_union(pair);
         }
-        let parts = self.parts(level, pair)?;
-        let edges = self.edges(level + 1, parts.as_slice())?;
+        let parts = self.parts(pair)?;
+        let edges = self.edges(&level[1..], parts.as_slice())?;
         let id = self.make(level, edges.as_slice())?;
         Ok(id)
     }
 
-    /// The parts of their field on which two nodes of the level lead to one child each.
-    fn parts(&self, level: u8, pair: Pair) -> Result<Parts, Memory>
-        requires level { level < 5 }
-        requires pair { AreAt self.now level pair }
+    /// The parts of their field on which two nodes of one level lead to one child each.
+    fn parts(&self, pair: Pair) -> Result<Parts, Memory>
+        requires inner { HasField (level_of self.now pair.left.0) }
+        requires level { level_of self.now pair.right.0 ≡ level_of self.now pair.left.0 }
         ensures split { IfOk result (λ parts.
-            IsSplit (greatest_of level) (edges_of self.now pair.left.0) (edges_of self.now pair.right.0) parts.items) }
-        ensures left { IfOk result (λ parts. LeadTo self.now (suc level) (map to_left parts.items)) }
-        ensures right { IfOk result (λ parts. LeadTo self.now (suc level) (map to_right parts.items)) }
+            IsSplit (top_of (level_of self.now pair.left.0)) (edges_of self.now pair.left.0) (edges_of self.now pair.right.0) parts.items) }
+        ensures left { IfOk result (λ parts. LeadTo self.now (next (level_of self.now pair.left.0)) (map to_left parts.items)) }
+        ensures right { IfOk result (λ parts. LeadTo self.now (next (level_of self.now pair.left.0)) (map to_right parts.items)) }
     {
         let parts = self.store.split(pair.left, pair.right)?;
         Ok(parts)
@@ -180,10 +182,10 @@ impl Sets {
 
     /// An edge for each part, to the union of its nodes, which stand at the level.
     #[cycle(union)]
-    fn edges(&mut self, level: u8, parts: &[Part]) -> Result<Edges, Memory>
-        requires level { level ≤ 5 }
-        requires left { LeadTo self.old level (map to_left parts.now) }
-        requires right { LeadTo self.old level (map to_right parts.now) }
+    fn edges(&mut self, level: &[u8], parts: &[Part]) -> Result<Edges, Memory>
+        requires level { IsLevel level.now }
+        requires left { LeadTo self.old level.now (map to_left parts.now) }
+        requires right { LeadTo self.old level.now (map to_right parts.now) }
         ensures unions { IfOk result (λ edges. AllZip (IsUnionPart self.new) parts.now edges.items) }
         ensures grows { Grows self.old self.new }
     {
@@ -199,23 +201,23 @@ impl Sets {
         Ok(edges)
     }
 
-    /// The node of the field with these edges.
-    fn make(&mut self, field: u8, edges: &[Edge]) -> Result<NodeId, Memory>
-        requires field { field < 5 }
-        requires full { AreFull (greatest_of field) edges.now }
-        requires children { LeadTo self.old (suc field) edges.now }
-        ensures level { IfOk result (λ id. level_of self.new id.0 ≡ field) }
-        ensures answers { IfOk result (λ id. (v : ℕ) (values : List ℕ) → v ≤ greatest_of field →
+    /// The node of the level with these edges.
+    fn make(&mut self, level: &[u8], edges: &[Edge]) -> Result<NodeId, Memory>
+        requires field { HasField level.now }
+        requires full { AreFull (top_of level.now) edges.now }
+        requires children { LeadTo self.old (next level.now) edges.now }
+        ensures level { IfOk result (λ id. level_of self.new id.0 ≡ level.now) }
+        ensures answers { IfOk result (λ id. (v : ℕ) (values : List ℕ) → v ≤ top_of level.now →
             answer self.new id.0 (v ∷ values) ≡ answer self.old (child_of edges.now v) values) }
         ensures grows { Grows self.old self.new }
     {
-        let id = self.store.make(field, edges)?;
+        let id = self.store.make(level, edges)?;
         Ok(id)
     }
 
     /// The union of two leaves.
     fn last_union(&mut self, pair: Pair) -> Result<NodeId, Memory>
-        requires { AreAt self.old 5 pair }
+        requires { AreAt self.old [] pair }
         ensures union { IfOk result (λ id. IsUnion self.new pair id) }
         ensures grows { Grows self.old self.new }
     {
@@ -242,9 +244,9 @@ impl Sets {
     }
 
     /// The union of two sets where both are one, or one is empty or full.
-    fn at_sight(&self, level: u8, pair: Pair) -> Option<NodeId>
-        requires level { level ≤ 5 }
-        requires pair { AreAt self.now level pair }
+    fn at_sight(&self, level: &[u8], pair: Pair) -> Option<NodeId>
+        requires level { IsLevel level.now }
+        requires pair { AreAt self.now level.now pair }
         ensures { IfSome result (λ id. IsUnion self.now pair id) }
     {
         let Pair { left, right } = pair;
@@ -258,19 +260,19 @@ impl Sets {
     }
 
     /// The union with a set that is empty or full.
-    fn beside(&self, level: u8, side: NodeId, other: NodeId) -> Option<NodeId>
-        requires level { level ≤ 5 }
-        requires side { level_of self.now side.0 ≡ level }
-        requires other { level_of self.now other.0 ≡ level }
-        ensures { IfSome result (λ id. IsUnion self.now (record { left = side; right = other }) id) }
+    fn beside(&self, level: &[u8], side: NodeId, other: NodeId) -> Option<NodeId>
+        requires level { IsLevel level.now }
+        requires side { level_of self.now side.0 ≡ level.now }
+        requires other { level_of self.now other.0 ≡ level.now }
+        ensures left { IfSome result (λ id. IsUnion self.now (record { left = side; right = other }) id) }
+        ensures right { IfSome result (λ id. IsUnion self.now (record { left = other; right = side }) id) }
     {
-        if side == self.none(level) {
+        let _level = level;
+        let answer = only_answer(&self.store, side)?;
+        if answer == 0 {
             return Some(other);
         }
-        if side == self.full(level) {
-            return Some(side);
-        }
-        None
+        Some(side)
     }
 }
 

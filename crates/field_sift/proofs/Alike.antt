@@ -1,9 +1,9 @@
 -- What is right for one block and its contexts is right for another that is alike at all values that matter.
+use Rattle.field_boxes.specs.Fields.{AreValues}
 use Rattle.std.proofs.Common.{◌≡◌, ◌∷◌, ◌⊎◌, ℕ, List, [], ◌<◌, Bool, true, false, refl, ap, sym, ◌∙◌, subst, inl, inr}
 use Rattle.std.specs.Prelude.{◌≢◌, ◌||◌, cond}
 use Rattle.std.specs.List.{list_any}
 use Rattle.std.proofs.lemmas.Bool.{or_parts, or_from, true≢false}
-use Rattle.node_store.specs.Store.{AreValuesFrom}
 use Rattle.field_sift.specs.Rows.{Row, matches, answer_or}
 use Rattle.field_sift.specs.Marks.{Mark, all_of, kept_of}
 use Rattle.field_sift.specs.Contexts.{Contexts, MeetFirst, IsRightMark, AreRightMarks, IsRight}
@@ -63,7 +63,7 @@ or_step : (m n b c t : Bool) → (m || b) ≡ (n || c) → (m || (t || b)) ≡ (
 or_step m n b c true h = or_true m ∙ sym (or_true n)
 or_step m n b c false h = h
 
-module _ (here there : ℕ) (cs ds : Contexts) where
+module _ (here there : List ℕ) (cs ds : Contexts) where
   -- values in a context of the one block are like others in a context of the other
   abbrev pub IsLike : List Row → List Row → List Mark → List Mark → ℕ → List ℕ → ℕ → List ℕ → Type 0
   IsLike earlier before xs ys c values d others =
@@ -72,13 +72,13 @@ module _ (here there : ℕ) (cs ds : Contexts) where
 
   -- all values in all contexts are like some others, or match none of the rows
   abbrev pub AreCovered : List Row → List Row → List Mark → List Mark → Type 0
-  AreCovered earlier before xs ys = (c : ℕ) → c < cs.count → (values : List ℕ) → AreValuesFrom here values →
-      ((d : ℕ) × (others : List ℕ) × (d < ds.count) × AreValuesFrom there others × IsLike earlier before xs ys c values d others) ⊎ (list_any (matches values) (all_of xs) ≡ false)
+  AreCovered earlier before xs ys = (c : ℕ) → c < cs.count → (values : List ℕ) → AreValues here values →
+      ((d : ℕ) × (others : List ℕ) × (d < ds.count) × AreValues there others × IsLike earlier before xs ys c values d others) ⊎ (list_any (matches values) (all_of xs) ≡ false)
 
   -- and the other way round
   abbrev pub AreReached : List Row → List Row → List Mark → List Mark → Type 0
-  AreReached earlier before xs ys = (d : ℕ) → d < ds.count → (others : List ℕ) → AreValuesFrom there others →
-      ((c : ℕ) × (values : List ℕ) × (c < cs.count) × AreValuesFrom here values × IsLike earlier before xs ys c values d others) ⊎ (list_any (matches others) (all_of ys) ≡ false)
+  AreReached earlier before xs ys = (d : ℕ) → d < ds.count → (others : List ℕ) → AreValues there others →
+      ((c : ℕ) × (values : List ℕ) × (c < cs.count) × AreValues here values × IsLike earlier before xs ys c values d others) ⊎ (list_any (matches others) (all_of ys) ≡ false)
 
   next : (earlier before : List Row) (m n : Mark) (xs ys : List Mark) (c : ℕ) (values : List ℕ) (d : ℕ) (others : List ℕ) →
       IsLike earlier before (m ∷ xs) (n ∷ ys) c values d others → IsLike (m.row ∷ earlier) (n.row ∷ before) xs ys c values d others
@@ -90,20 +90,20 @@ module _ (here there : ℕ) (cs ds : Contexts) where
   )
 
   cover_next : (earlier before : List Row) (m n : Mark) (xs ys : List Mark) (c : ℕ) (values : List ℕ) →
-      ((d : ℕ) × (others : List ℕ) × (d < ds.count) × AreValuesFrom there others × IsLike earlier before (m ∷ xs) (n ∷ ys) c values d others) ⊎ (list_any (matches values) (m.row ∷ all_of xs) ≡ false) →
-      ((d : ℕ) × (others : List ℕ) × (d < ds.count) × AreValuesFrom there others × IsLike (m.row ∷ earlier) (n.row ∷ before) xs ys c values d others) ⊎ (list_any (matches values) (all_of xs) ≡ false)
+      ((d : ℕ) × (others : List ℕ) × (d < ds.count) × AreValues there others × IsLike earlier before (m ∷ xs) (n ∷ ys) c values d others) ⊎ (list_any (matches values) (m.row ∷ all_of xs) ≡ false) →
+      ((d : ℕ) × (others : List ℕ) × (d < ds.count) × AreValues there others × IsLike (m.row ∷ earlier) (n.row ∷ before) xs ys c values d others) ⊎ (list_any (matches values) (all_of xs) ≡ false)
   cover_next earlier before m n xs ys c values (inl h) = inl (h.0, h.1, h.2, h.3, next earlier before m n xs ys c values h.0 h.1 h.4)
   cover_next earlier before m n xs ys c values (inr h) = inr (or_parts (matches values m.row) (list_any (matches values) (all_of xs)) h).1
 
   reach_next : (earlier before : List Row) (m n : Mark) (xs ys : List Mark) (d : ℕ) (others : List ℕ) →
-      ((c : ℕ) × (values : List ℕ) × (c < cs.count) × AreValuesFrom here values × IsLike earlier before (m ∷ xs) (n ∷ ys) c values d others) ⊎ (list_any (matches others) (n.row ∷ all_of ys) ≡ false) →
-      ((c : ℕ) × (values : List ℕ) × (c < cs.count) × AreValuesFrom here values × IsLike (m.row ∷ earlier) (n.row ∷ before) xs ys c values d others) ⊎ (list_any (matches others) (all_of ys) ≡ false)
+      ((c : ℕ) × (values : List ℕ) × (c < cs.count) × AreValues here values × IsLike earlier before (m ∷ xs) (n ∷ ys) c values d others) ⊎ (list_any (matches others) (n.row ∷ all_of ys) ≡ false) →
+      ((c : ℕ) × (values : List ℕ) × (c < cs.count) × AreValues here values × IsLike (m.row ∷ earlier) (n.row ∷ before) xs ys c values d others) ⊎ (list_any (matches others) (all_of ys) ≡ false)
   reach_next earlier before m n xs ys d others (inl h) = inl (h.0, h.1, h.2, h.3, next earlier before m n xs ys h.0 h.1 d others h.4)
   reach_next earlier before m n xs ys d others (inr h) = inr (or_parts (matches others n.row) (list_any (matches others) (all_of ys)) h).1
 
   drop_entry : (earlier before : List Row) (m n : Mark) (xs ys : List Mark) (c : ℕ) (values : List ℕ) →
       m.row.decision ≡ n.row.decision → KeepSame xs ys →
-      ((d : ℕ) × (others : List ℕ) × (d < ds.count) × AreValuesFrom there others × IsLike earlier before (m ∷ xs) (n ∷ ys) c values d others) ⊎ (list_any (matches values) (m.row ∷ all_of xs) ≡ false) →
+      ((d : ℕ) × (others : List ℕ) × (d < ds.count) × AreValues there others × IsLike earlier before (m ∷ xs) (n ∷ ys) c values d others) ⊎ (list_any (matches values) (m.row ∷ all_of xs) ≡ false) →
       IsRightMark there ds before false n.row (kept_of ys) → MeetFirst here cs earlier m.row c values → answer_or values (kept_of xs) (cs.after c values) ≡ m.row.decision
   drop_entry earlier before m n xs ys c values e same (inl h) right meet =
       let like = h.4 in
@@ -116,7 +116,7 @@ module _ (here there : ℕ) (cs ds : Contexts) where
 
   keep_entry : (earlier before : List Row) (m n : Mark) (xs ys : List Mark) (d : ℕ) (others : List ℕ) →
       m.row.decision ≡ n.row.decision → KeepSame xs ys →
-      ((c : ℕ) × (values : List ℕ) × (c < cs.count) × AreValuesFrom here values × IsLike earlier before (m ∷ xs) (n ∷ ys) c values d others) ⊎ (list_any (matches others) (n.row ∷ all_of ys) ≡ false) →
+      ((c : ℕ) × (values : List ℕ) × (c < cs.count) × AreValues here values × IsLike earlier before (m ∷ xs) (n ∷ ys) c values d others) ⊎ (list_any (matches others) (n.row ∷ all_of ys) ≡ false) →
       MeetFirst there ds before n.row d others → answer_or others (kept_of ys) (ds.after d others) ≢ n.row.decision → IsRightMark here cs earlier true m.row (kept_of xs)
   keep_entry earlier before m n xs ys d others e same (inl g) meet differ =
       let like = g.4 in
@@ -149,8 +149,8 @@ module _ (here there : ℕ) (cs ds : Contexts) where
 
   -- where the values are like others, what is answered is what is answered there, and else what was answered behind
   abbrev pub AreMapped : List Mark → List Mark → (ℕ → List ℕ → ℕ) → (ℕ → List ℕ → ℕ) → Type 0
-  AreMapped xs ys inner out = (c : ℕ) → c < cs.count → (values : List ℕ) → AreValuesFrom here values →
-      ((d : ℕ) × (others : List ℕ) × (d < ds.count) × AreValuesFrom there others × IsLike [] [] xs ys c values d others × (out c values ≡ inner d others))
+  AreMapped xs ys inner out = (c : ℕ) → c < cs.count → (values : List ℕ) → AreValues here values →
+      ((d : ℕ) × (others : List ℕ) × (d < ds.count) × AreValues there others × IsLike [] [] xs ys c values d others × (out c values ≡ inner d others))
       ⊎ ((list_any (matches values) (all_of xs) ≡ false) × (out c values ≡ cs.after c values))
 
   cover : (xs ys : List Mark) (inner out : ℕ → List ℕ → ℕ) → AreMapped xs ys inner out → AreCovered [] [] xs ys
@@ -158,7 +158,7 @@ module _ (here there : ℕ) (cs ds : Contexts) where
       elim (h c less values ok) [ inl g ↦ inl (g.0, g.1, g.2, g.3, g.4) | inr g ↦ inr g.0 ]
 
   answered : (xs ys : List Mark) (inner out : ℕ → List ℕ → ℕ) → KeepSame xs ys → IsRight there ds ys inner → (c : ℕ) (values : List ℕ) →
-      ((d : ℕ) × (others : List ℕ) × (d < ds.count) × AreValuesFrom there others × IsLike [] [] xs ys c values d others × (out c values ≡ inner d others))
+      ((d : ℕ) × (others : List ℕ) × (d < ds.count) × AreValues there others × IsLike [] [] xs ys c values d others × (out c values ≡ inner d others))
       ⊎ ((list_any (matches values) (all_of xs) ≡ false) × (out c values ≡ cs.after c values)) →
       out c values ≡ answer_or values (kept_of xs) (cs.after c values)
   answered xs ys inner out same right c values (inl h) =

@@ -1,11 +1,11 @@
 -- A layer, run by run.
-use Rattle.std.proofs.Common.{◌≡◌, ◌∷◌, ◌++◌, ℕ, suc, List, [], ◌<◌, ◌≤◌, ◌+◌, Bool, true, false, length, refl, ap, arith, sym, ◌∙◌, subst, append_assoc}
+use Rattle.node_store.specs.Levels.{HasField, next, top_of}
+use Rattle.std.proofs.Common.{◌≡◌, ◌∷◌, ◌++◌, ℕ, List, [], ◌<◌, ◌≤◌, ◌+◌, Bool, true, false, length, refl, ap, arith, sym, ◌∙◌, subst, append_assoc}
 use Rattle.std.specs.Prelude.{cond, map}
 use Rattle.std.specs.List.{list_any}
 use Rattle.std.proofs.lemmas.List.{append-nil, length-append, length-map}
-use Rattle.field_boxes.specs.Fields.{greatest_of}
+use Rattle.field_boxes.specs.Fields.{AreValues}
 use Rattle.field_boxes.specs.Classifier.{interval_holds}
-use Rattle.node_store.specs.Store.{AreValuesFrom}
 use Rattle.node_store.proofs.Values.{each}
 use Rattle.field_sift.specs.Rows.{Row, matches, in_front}
 use Rattle.field_sift.specs.Marks.{marked}
@@ -34,10 +34,10 @@ below_more : (least : ℕ) (s : SiftedRun) (rows : List Row) → least ≤ s.run
 below_more least s rows lo hi below v values h =
     append-none (v ∷ values) rows (map (in_front s.run.span) s.run.rows) (below v values (omega (arith, lo, hi, h))) (behind-none v values s.run.span s.run.rows (past v s.run.span (omega (arith, h))))
 
-module _ (level : ℕ) (cs : Contexts) (five : level < 5) where
+module _ (level : List ℕ) (cs : Contexts) (five : HasField level) where
   -- what is answered where the runs go on before it
   abbrev GoOn : List SiftedRun → (ℕ → List ℕ → ℕ) → (ℕ → List ℕ → ℕ) → Type 0
-  GoOn runs before out = (c v : ℕ) (values : List ℕ) → c < cs.count → v ≤ greatest_of level → AreValuesFrom (suc level) values →
+  GoOn runs before out = (c v : ℕ) (values : List ℕ) → c < cs.count → v ≤ top_of level → AreValues (next level) values →
       out c (v ∷ values) ≡ answer_in runs c v values (before c (v ∷ values))
 
   abbrev with_run : SiftedRun → (ℕ → List ℕ → ℕ) → ℕ → List ℕ → ℕ

@@ -1,12 +1,12 @@
 -- A run more behind rows that are apart from it.
-use Rattle.std.proofs.Common.{◌≡◌, ◌∷◌, ◌++◌, ◌⊎◌, ℕ, suc, List, [], ◌<◌, ◌≤◌, Bool, true, false, length, refl, ap, sym, ◌∙◌, subst, inl, inr}
+use Rattle.node_store.specs.Levels.{HasField, next, top_of}
+use Rattle.std.proofs.Common.{◌≡◌, ◌∷◌, ◌++◌, ◌⊎◌, ℕ, List, [], ◌<◌, ◌≤◌, Bool, true, false, length, refl, ap, sym, ◌∙◌, subst, inl, inr}
 use Rattle.std.specs.Prelude.{◌||◌, cond, map}
 use Rattle.std.specs.List.{list_any}
 use Rattle.std.proofs.Math.Bool.{or-false}
 use Rattle.std.proofs.lemmas.Bool.{true≢false}
-use Rattle.field_boxes.specs.Fields.{greatest_of}
+use Rattle.field_boxes.specs.Fields.{AreValues}
 use Rattle.field_boxes.specs.Classifier.{Interval, interval_holds}
-use Rattle.node_store.specs.Store.{AreValuesFrom}
 use Rattle.node_store.proofs.Values.{each, values_from}
 use Rattle.field_sift.specs.Rows.{Row, matches, answer_or, in_front}
 use Rattle.field_sift.specs.Marks.{Mark, all_of, kept_of, marked}
@@ -19,26 +19,26 @@ use Rattle.field_sift.proofs.Marked.{marked-append, all-marked}
 use Rattle.field_sift.proofs.OneRun.{one_run}
 
 -- a block stays right where other answers come behind it, but not where its rows match
-module _ (level : ℕ) (cs : Contexts) (marks : List Mark) (before later out : ℕ → List ℕ → ℕ) where
+module _ (level : List ℕ) (cs : Contexts) (marks : List Mark) (before later out : ℕ → List ℕ → ℕ) where
   -- where the rows match nothing changes, and elsewhere what comes behind is answered
   pub record IsUntouched (c : ℕ) (values : List ℕ) : Type 0 where
     pub inside : list_any (matches values) (all_of marks) ≡ true → (later c values ≡ cs.after c values) × (out c values ≡ before c values)
     pub outside : list_any (matches values) (all_of marks) ≡ false → out c values ≡ later c values
 
   abbrev Untouched : Type 0
-  Untouched = (c : ℕ) → c < cs.count → (values : List ℕ) → AreValuesFrom level values → IsUntouched c values
+  Untouched = (c : ℕ) → c < cs.count → (values : List ℕ) → AreValues level values → IsUntouched c values
 
   like : (c : ℕ) (values : List ℕ) → later c values ≡ cs.after c values → IsLike level level (before_block cs later) cs [] [] marks marks c values c values
   like c values e = (refl, e, match-self values marks)
 
-  map_at : (c : ℕ) (values : List ℕ) (t : Bool) → list_any (matches values) (all_of marks) ≡ t → c < cs.count → AreValuesFrom level values → IsUntouched c values →
-      ((d : ℕ) × (others : List ℕ) × (d < cs.count) × AreValuesFrom level others × IsLike level level (before_block cs later) cs [] [] marks marks c values d others × (out c values ≡ before d others))
+  map_at : (c : ℕ) (values : List ℕ) (t : Bool) → list_any (matches values) (all_of marks) ≡ t → c < cs.count → AreValues level values → IsUntouched c values →
+      ((d : ℕ) × (others : List ℕ) × (d < cs.count) × AreValues level others × IsLike level level (before_block cs later) cs [] [] marks marks c values d others × (out c values ≡ before d others))
       ⊎ ((list_any (matches values) (all_of marks) ≡ false) × (out c values ≡ later c values))
   map_at c values true e less ok u = let i = u.inside e in inl (c, values, less, ok, like c values i.0, i.1)
   map_at c values false e less ok u = inr (e, u.outside e)
 
-  reach_at : (d : ℕ) (others : List ℕ) (t : Bool) → list_any (matches others) (all_of marks) ≡ t → d < cs.count → AreValuesFrom level others → IsUntouched d others →
-      ((c : ℕ) × (values : List ℕ) × (c < cs.count) × AreValuesFrom level values × IsLike level level (before_block cs later) cs [] [] marks marks c values d others)
+  reach_at : (d : ℕ) (others : List ℕ) (t : Bool) → list_any (matches others) (all_of marks) ≡ t → d < cs.count → AreValues level others → IsUntouched d others →
+      ((c : ℕ) × (values : List ℕ) × (c < cs.count) × AreValues level values × IsLike level level (before_block cs later) cs [] [] marks marks c values d others)
       ⊎ (list_any (matches others) (all_of marks) ≡ false)
   reach_at d others true e less ok u = inl (d, others, less, ok, like d others (u.inside e).0)
   reach_at d others false e less ok u = inr e
@@ -49,7 +49,7 @@ module _ (level : ℕ) (cs : Contexts) (marks : List Mark) (before later out : �
       (λ c less values ok. map_at c values (list_any (matches values) (all_of marks)) refl less ok (all c less values ok))
       (λ d less others ok. reach_at d others (list_any (matches others) (all_of marks)) refl less ok (all d less others ok)) right
 
-module _ (level : ℕ) (span : Interval) (cs ds : Contexts) (to : ℕ → ℕ → ℕ) (rows more : List Row) (flags others : List Bool) (inner before out : ℕ → List ℕ → ℕ) where
+module _ (level : List ℕ) (span : Interval) (cs ds : Contexts) (to : ℕ → ℕ → ℕ) (rows more : List Row) (flags others : List Bool) (inner before out : ℕ → List ℕ → ℕ) where
   -- what is answered before the run alone
   abbrev later : ℕ → List ℕ → ℕ
   later c [] = 0
@@ -74,8 +74,8 @@ module _ (level : ℕ) (span : Interval) (cs ds : Contexts) (to : ℕ → ℕ �
     reached = λ d less. let g = split.reached d less in (g.0, g.1, g.2, g.3, g.4, stands_after apart g.0 g.1 d g.4 g.5);
   }
 
-  untouched_at : level < 5 → length flags ≡ length rows → AreApartFrom span rows → IsRight level cs (marked rows flags) before → AreJoined level span cs.count to inner before out →
-      (c v : ℕ) (values : List ℕ) (t : Bool) → interval_holds v span ≡ t → c < cs.count → v ≤ greatest_of level → AreValuesFrom (suc level) values →
+  untouched_at : HasField level → length flags ≡ length rows → AreApartFrom span rows → IsRight level cs (marked rows flags) before → AreJoined level span cs.count to inner before out →
+      (c v : ℕ) (values : List ℕ) (t : Bool) → interval_holds v span ≡ t → c < cs.count → v ≤ top_of level → AreValues (next level) values →
       IsUntouched level cs (marked rows flags) before later out c (v ∷ values)
   untouched_at five e apart right join c v values true is less small ok = record {
     inside = λ some. absurd (true≢false (sym some ∙ ap (list_any (matches (v ∷ values))) (all-marked rows flags e) ∙ apart v values is));
@@ -90,8 +90,8 @@ module _ (level : ℕ) (span : Interval) (cs ds : Contexts) (to : ℕ → ℕ �
         ∙ sym (later_outside c v values is);
   }
 
-  pub next_run : level < 5 → length flags ≡ length rows → AreApartFrom span rows → IsRight level cs (marked rows flags) before → AreSplit level span cs ds to →
-      IsRight (suc level) ds (marked more others) inner → AreJoined level span cs.count to inner before out →
+  pub next_run : HasField level → length flags ≡ length rows → AreApartFrom span rows → IsRight level cs (marked rows flags) before → AreSplit level span cs ds to →
+      IsRight (next level) ds (marked more others) inner → AreJoined level span cs.count to inner before out →
       IsRight level cs (marked (rows ++ map (in_front span) more) (flags ++ others)) out
   next_run five e apart right split within join =
       subst (λ ms. IsRight level cs ms out) (sym (marked-append rows (map (in_front span) more) flags others e))
@@ -113,9 +113,9 @@ kept_none (r ∷ rows) (true ∷ flags) h = absurd (true≢false h)
 kept_none (r ∷ rows) (false ∷ flags) h = kept_none rows flags h
 
 -- where nothing is kept of the run, nothing else is answered than without it
-pub unchanged : (level : ℕ) (span : Interval) (cs ds : Contexts) (to : ℕ → ℕ → ℕ) (rows more : List Row) (flags others : List Bool) (inner before : ℕ → List ℕ → ℕ) →
-    level < 5 → length flags ≡ length rows → AreApartFrom span rows → IsRight level cs (marked rows flags) before → AreSplit level span cs ds to →
-    IsRight (suc level) ds (marked more others) inner → list_any (λ b. b) others ≡ false →
+pub unchanged : (level : List ℕ) (span : Interval) (cs ds : Contexts) (to : ℕ → ℕ → ℕ) (rows more : List Row) (flags others : List Bool) (inner before : ℕ → List ℕ → ℕ) →
+    HasField level → length flags ≡ length rows → AreApartFrom span rows → IsRight level cs (marked rows flags) before → AreSplit level span cs ds to →
+    IsRight (next level) ds (marked more others) inner → list_any (λ b. b) others ≡ false →
     IsRight level cs (marked (rows ++ map (in_front span) more) (flags ++ others)) before
 unchanged level span cs ds to rows more flags others inner before five e apart right split within none =
     next_run level span cs ds to rows more flags others inner before before five e apart right split within

@@ -1,6 +1,6 @@
 -- A row whose entry's word is a prefix in each field matches what the word does.
 use Rattle.std.proofs.Common.{◌≡◌, ◌∷◌, ℕ, List, [], ◌+◌, ◌-◌, ◌*◌, ◌/◌, ◌%◌, ◌^◌, ◌≤◌, Bool, true, refl, ap, arith, sym, ◌∙◌}
-use Rattle.std.specs.Prelude.{◌&&◌, bit_and}
+use Rattle.std.specs.Prelude.{◌&&◌, bit_and, slice_index}
 use Rattle.std.proofs.lemmas.Nat.{pow_pos, mod_below}
 use Rattle.std.proofs.lemmas.Nat.Bits.{and_high}
 use Rattle.std.proofs.Math.Nat.{mul-mod_left}
@@ -18,8 +18,10 @@ use Rattle.ternary_words.proofs.OnesInFront.{between}
 use Rattle.ternary_words.proofs.Parted.{has_masks, part_within, word_of_parts}
 use Rattle.ternary_words.proofs.PrefixHolds.{agrees-fields}
 use Rattle.field_sift.specs.Rows.{matches, each_holds}
-use Rattle.field_sift.specs.Built.{row_at}
+use Rattle.field_sift.specs.Built.{row_at, span_at}
 use Rattle.field_sift.specs.Entries.{entry_matches}
+use Rattle.field_sift.specs.Orders.{IsOrder, picked}
+use Rattle.field_sift.proofs.Orders.{any_order, of_all, picked_stated}
 
 low_zero : (l k v m : ℕ) → bit_and v m ≡ v → m ≡ (2 ^ l - 1) * 2 ^ k → v % 2 ^ k ≡ 0
 low_zero l k v m e is =
@@ -78,8 +80,8 @@ five_hold s0 s1 s2 s3 s4 p0 p1 p2 p3 p4 h0 h1 h2 h3 h4 (a ∷ b ∷ c ∷ d ∷ 
 word_holds : (ps : List Prefix) (word : List Trit) (values : List ℕ) → IsWordOf ps word → IsHeader values → agrees word (header_bits values) ≡ all_hold stated ps values
 word_holds ps word values is are = ap (λ ts. agrees ts (header_bits values)) is.same ∙ agrees-fields stated ps values is.fit are
 
-pub row-matches : (values : List ℕ) (e : Entry) → IsPrefixInEach (word_of e.word) → IsHeader values → matches values (row_at 0 e) ≡ entry_matches values e
-row-matches values e is are =
+stated-matches : (values : List ℕ) (e : Entry) → IsPrefixInEach (word_of e.word) → IsHeader values → matches values (row_at stated e) ≡ entry_matches values e
+stated-matches values e is are =
     let w = e.word in
     let h = has_masks w.mask w.value is in
     let i0 = part_of 72 32 w.value w.mask w.masked h.0 in
@@ -90,3 +92,20 @@ row-matches values e is are =
     let word = word_of_parts w.mask w.value _ _ _ _ _ i0 i1 i2 i3 i4 in
     five_hold _ _ _ _ _ _ _ _ _ _ (λ x. span_holds 32 _ _ x _ i0) (λ x. span_holds 32 _ _ x _ i1) (λ x. span_holds 16 _ _ x _ i2) (λ x. span_holds 16 _ _ x _ i3) (λ x. span_holds 8 _ _ x _ i4) values are
     ∙ sym (word_holds _ (word_of w) values word are)
+
+-- whether the entry's interval of a field holds the header's value
+abbrev holds_in : List ℕ → Entry → ℕ → Bool
+holds_in header e f = interval_holds (slice_index header f) (span_at f e)
+
+in_turn : (level header : List ℕ) (e : Entry) → matches (picked level header) (row_at level e) ≡ of_all (holds_in header e) level
+in_turn [] header e = refl
+in_turn (f ∷ level) header e = ap (λ t. holds_in header e f && t) (in_turn level header e)
+
+-- in any order of the fields
+pub row-matches : (order header : List ℕ) (e : Entry) → IsOrder order → IsPrefixInEach (word_of e.word) → IsHeader header → matches (picked order header) (row_at order e) ≡ entry_matches header e
+row-matches order header e o is are =
+    in_turn order header e
+    ∙ any_order (holds_in header e) order o
+    ∙ sym (in_turn stated header e)
+    ∙ ap (λ vs. matches vs (row_at stated e)) (picked_stated header are)
+    ∙ stated-matches header e is are

@@ -1,10 +1,10 @@
 -- Blocks in sequence.
+use Rattle.field_boxes.specs.Fields.{AreValues}
 use Rattle.std.proofs.Common.{◌≡◌, ◌∷◌, ◌++◌, ℕ, List, [], ◌<◌, Bool, true, false, refl, ap, sym, ◌∙◌, inl}
 use Rattle.std.specs.Prelude.{◌||◌, cond}
 use Rattle.std.specs.List.{list_any}
 use Rattle.std.proofs.Math.Bool.{or-false}
 use Rattle.field_sift.specs.Rows.{Row, matches, answer_or}
-use Rattle.node_store.specs.Store.{AreValuesFrom}
 use Rattle.field_sift.specs.Marks.{Mark, all_of, kept_of}
 use Rattle.field_sift.specs.Contexts.{Contexts, before_block, after_block, AreAnswers, IsRightMark, AreRightMarks, IsRight}
 use Rattle.field_sift.proofs.Alike.{keep-self, IsLike, marks-alike}
@@ -30,14 +30,14 @@ kept-append [] ys = refl
 kept-append (m ∷ xs) ys = kept_step m.kept m.row (kept_of xs) (kept_of ys) (kept_of (xs ++ ys)) (kept-append xs ys)
 
 -- what is kept of two blocks answers as the first does before the second
-joined : (level : ℕ) (cs : Contexts) (xs ys : List Mark) (out : ℕ → List ℕ → ℕ) → AreAnswers level cs ys out →
-    (c : ℕ) → c < cs.count → (values : List ℕ) → AreValuesFrom level values →
+joined : (level : List ℕ) (cs : Contexts) (xs ys : List Mark) (out : ℕ → List ℕ → ℕ) → AreAnswers level cs ys out →
+    (c : ℕ) → c < cs.count → (values : List ℕ) → AreValues level values →
     answer_or values (kept_of (xs ++ ys)) (cs.after c values) ≡ answer_or values (kept_of xs) (out c values)
 joined level cs xs ys out h c less values ok =
     ap (λ rs. answer_or values rs (cs.after c values)) (kept-append xs ys) ∙ answer-append values (kept_of xs) (kept_of ys) (cs.after c values)
     ∙ ap (answer_or values (kept_of xs)) (sym (h c less values ok))
 
-mark_step : (level : ℕ) (cs : Contexts) (earlier : List Row) (b : Bool) (r : Row) (xs ys : List Mark) (out : ℕ → List ℕ → ℕ) → AreAnswers level cs ys out →
+mark_step : (level : List ℕ) (cs : Contexts) (earlier : List Row) (b : Bool) (r : Row) (xs ys : List Mark) (out : ℕ → List ℕ → ℕ) → AreAnswers level cs ys out →
     IsRightMark level (before_block cs out) earlier b r (kept_of xs) → IsRightMark level cs earlier b r (kept_of (xs ++ ys))
 mark_step level cs earlier true r xs ys out h (c, values, meet, differ) =
     (c, values, meet, λ e. differ (sym (joined level cs xs ys out h c meet.0 values meet.1) ∙ e))
@@ -52,7 +52,7 @@ swap true true b = refl
 swap true false b = refl
 swap false a b = refl
 
-marks_sequence : (level : ℕ) (cs : Contexts) (earlier : List Row) (xs ys : List Mark) (out : ℕ → List ℕ → ℕ) → AreAnswers level cs ys out →
+marks_sequence : (level : List ℕ) (cs : Contexts) (earlier : List Row) (xs ys : List Mark) (out : ℕ → List ℕ → ℕ) → AreAnswers level cs ys out →
     AreRightMarks level (before_block cs out) earlier xs → ((all : List Row) → Holds all earlier (all_of xs) → AreRightMarks level cs all ys) →
     AreRightMarks level cs earlier (xs ++ ys)
 marks_sequence level cs earlier [] ys out h mx my = my earlier (λ values. sym (or-false (list_any (matches values) earlier)))
@@ -63,7 +63,7 @@ marks_sequence level cs earlier (m ∷ xs) ys out h mx my = (
 )
 
 -- rows before a block may be said by its contexts
-shifted : (level : ℕ) (cs : Contexts) (rows all : List Row) (ys : List Mark) → Holds all [] rows → AreRightMarks level (after_block cs rows) [] ys → AreRightMarks level cs all ys
+shifted : (level : List ℕ) (cs : Contexts) (rows all : List Row) (ys : List Mark) → Holds all [] rows → AreRightMarks level (after_block cs rows) [] ys → AreRightMarks level cs all ys
 shifted level cs rows all ys holds h =
     marks-alike level level cs (after_block cs rows) all [] ys ys (keep-self ys)
     (λ c less values ok. inl (c, values, less, ok, like c values)) (λ c less values ok. inl (c, values, less, ok, like c values)) h
@@ -75,7 +75,7 @@ shifted level cs rows all ys holds h =
       match-self values ys,
     )
 
-pub sequence : (level : ℕ) (cs : Contexts) (xs ys : List Mark) (later out : ℕ → List ℕ → ℕ) →
+pub sequence : (level : List ℕ) (cs : Contexts) (xs ys : List Mark) (later out : ℕ → List ℕ → ℕ) →
     IsRight level (after_block cs (all_of xs)) ys later → IsRight level (before_block cs later) xs out → IsRight level cs (xs ++ ys) out
 sequence level cs xs ys later out ry rx = record {
   answers = λ c less values ok. rx.answers c less values ok ∙ sym (joined level cs xs ys later ry.answers c less values ok);
@@ -83,5 +83,5 @@ sequence level cs xs ys later out ry rx = record {
 }
 
 -- nothing is kept of no row
-pub nothing : (level : ℕ) (cs : Contexts) → IsRight level cs [] cs.after
+pub nothing : (level : List ℕ) (cs : Contexts) → IsRight level cs [] cs.after
 nothing level cs = record { answers = λ c less values ok. refl; each = tt }

@@ -1,6 +1,6 @@
 -- Entries as rows: the interval of each field's part of a word that is a prefix there.
-use Rattle.std.specs.Prelude.{◌≡◌, ℕ, ◌+◌, ◌-◌, ◌/◌, ◌%◌, ◌^◌, List, [], ◌∷◌, All, map, drop, slice_index}
-use Rattle.field_boxes.specs.Fields.{stated, width, greatest_of}
+use Rattle.std.specs.Prelude.{◌≡◌, ℕ, ◌+◌, ◌-◌, ◌/◌, ◌%◌, ◌^◌, List, [], ◌∷◌, All, map, slice_index}
+use Rattle.field_boxes.specs.Fields.{width, greatest_of}
 use Rattle.field_boxes.specs.Classifier.{Interval}
 use Rattle.ternary_words.specs.declared.entry.Entry.{Entry}
 use Rattle.ternary_words.specs.Prefixes.{IsPrefixInEach}
@@ -19,9 +19,14 @@ part field n = n / 2 ^ shift field % 2 ^ width field
 abbrev pub span_at : ℕ → Entry → Interval
 span_at field e = record { lo = part field e.word.value; hi = part field e.word.value + (greatest_of field - part field e.word.mask) }
 
--- the entry over the fields from the level on
-abbrev pub row_at : ℕ → Entry → Row
-row_at level e = record { spans = map (λ field. span_at field e) (drop level stated); decision = e.decision }
+-- the first field of a level
+abbrev pub field_of : List ℕ → ℕ
+field_of [] = 0
+field_of (f ∷ level) = f
+
+-- the entry over the fields of the level
+abbrev pub row_at : List ℕ → Entry → Row
+row_at level e = record { spans = map (λ field. span_at field e) level; decision = e.decision }
 
 -- the entries' words are prefixes in each field
 abbrev pub ArePrefixes : List Entry → Type 0

@@ -11,8 +11,8 @@ with_flags [] flags = []
 with_flags (e ∷ entries) [] = []
 with_flags (e ∷ entries) (b ∷ flags) = cond b (e ∷ with_flags entries flags) (with_flags entries flags)
 
--- a flag for each entry, and what they keep is right for the table as a whole
-pub record AreRightFlags (entries : List Entry) (flags : List Bool) : Type 0 where
+-- a flag for each entry, and what they keep is right for the table as a whole, read in the order
+pub record AreRightFlags (order : List ℕ) (entries : List Entry) (flags : List Bool) : Type 0 where
   pub count : length flags ≡ length entries
   pub out : ℕ → List ℕ → ℕ
-  pub right : IsRight 0 whole (marked (map (row_at 0) entries) flags) out
+  pub right : IsRight order whole (marked (map (row_at order) entries) flags) out

@@ -3,7 +3,7 @@ use Rattle.std.proofs.Common.{◌≡◌, ℕ, List, ap, refl, sym, subst, ◌∙
 use Rattle.std.specs.Prelude.{Option, IfSome, IsNone, MatchOption}
 use Rattle.std.proofs.lemmas.List.Elements.{recursion_from_All}
 use Rattle.field_boxes.specs.declared.rule.Rule as code
-use Rattle.field_boxes.specs.Fields.{stated, IsHeader}
+use Rattle.field_boxes.specs.Fields.{stated, AreValues, IsHeader}
 use Rattle.field_boxes.specs.Classifier.{source}
 use Rattle.field_boxes.specs.NamedRules.{IsNumberedBy}
 use Rattle.field_boxes.specs.Names.{name_at, AreDistinct}
@@ -35,19 +35,19 @@ common_numbers old new left right left_items right_items ls rs distinct keeps l 
   right_numbered = subst (AreNumbered new right) (sym same_right) r;
 }
 
-name_of : (names : List (List ℕ)) (list : RuleList) (rules : List code.Rule) → AreNumbered names list rules → (header : List ℕ) → name_decided list header ≡ name_at names (decided rules header)
+name_of : (names : List (List ℕ)) (list : RuleList) (rules : List code.Rule) → AreNumbered names list rules → (header : List ℕ) → name_decided list header ≡ name_at names (decided stated rules header)
 name_of names list rules n header =
-    ap (source stated header) (sym n.same) ∙ named names rules header (recursion_from_All (IsNumberedBy names) rules n.numbered)
+    ap (source stated header) (sym n.same) ∙ named stated names rules header (recursion_from_All (IsNumberedBy names) rules n.numbered)
 
-same_name : (left right : RuleList) (ls rs : List code.Rule) → HaveCommonNumbers left right ls rs → (header : List ℕ) → decided ls header ≡ decided rs header → name_decided left header ≡ name_decided right header
+same_name : (left right : RuleList) (ls rs : List code.Rule) → HaveCommonNumbers left right ls rs → (header : List ℕ) → decided stated ls header ≡ decided stated rs header → name_decided left header ≡ name_decided right header
 same_name left right ls rs c header e =
     name_of c.names left ls c.left_numbered header ∙ ap (name_at c.names) e ∙ sym (name_of c.names right rs c.right_numbered header)
 
-same_number : (left right : RuleList) (ls rs : List code.Rule) → HaveCommonNumbers left right ls rs → (header : List ℕ) → name_decided left header ≡ name_decided right header → decided ls header ≡ decided rs header
+same_number : (left right : RuleList) (ls rs : List code.Rule) → HaveCommonNumbers left right ls rs → (header : List ℕ) → name_decided left header ≡ name_decided right header → decided stated ls header ≡ decided stated rs header
 same_number left right ls rs c header e =
-    c.distinct (decided ls header) (decided rs header)
-    (within c.names ls header (recursion_from_All (IsNumberedBy c.names) ls c.left_numbered.numbered))
-    (within c.names rs header (recursion_from_All (IsNumberedBy c.names) rs c.right_numbered.numbered))
+    c.distinct (decided stated ls header) (decided stated rs header)
+    (within stated c.names ls header (recursion_from_All (IsNumberedBy c.names) ls c.left_numbered.numbered))
+    (within stated c.names rs header (recursion_from_All (IsNumberedBy c.names) rs c.right_numbered.numbered))
     (sym (name_of c.names left ls c.left_numbered header) ∙ e ∙ name_of c.names right rs c.right_numbered header)
 
 pub are_equal : (left right : RuleList) (ls rs : List code.Rule) → HaveCommonNumbers left right ls rs → AreAlike ls rs → AreEqual left right
@@ -62,7 +62,12 @@ first_difference left right ls rs header c first = record {
 
 -- the node answers what the rules decide
 abbrev pub Answers : List Node → ℕ → List code.Rule → Type 0
-Answers nodes id rules = (header : List ℕ) → IsHeader header → answer nodes id header ≡ decided rules header
+Answers nodes id rules = (header : List ℕ) → IsHeader header → answer nodes id header ≡ decided stated rules header
+
+-- so does one that answers it in an order which is the stated one
+pub in_order : (order : List ℕ) (nodes : List Node) (id : ℕ) (rules : List code.Rule) → order ≡ stated →
+    ((values : List ℕ) → AreValues order values → answer nodes id values ≡ decided order rules values) → Answers nodes id rules
+in_order order nodes id rules is h = λ header ok. h header (subst (λ o. AreValues o header) (sym is) ok) ∙ ap (λ o. decided o rules header) is
 
 first_by : (nodes : List Node) (a b : ℕ) (ls rs : List code.Rule) (header : List ℕ) → Answers nodes a ls → Answers nodes b rs → IsLeastDifference nodes a b header → IsFirstApart ls rs header
 first_by nodes a b ls rs header la rb first = record {

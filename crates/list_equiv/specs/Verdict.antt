@@ -25,7 +25,7 @@ pub record IsFirstDifference (left right : RuleList) (header : List ℕ) : Type 
 
 -- the number of the list's decision on the header among its own names, or 0
 pub record IsDecision (list : RuleList) (header : List ℕ) (decision : ℕ) : Type 0 where
-  pub number : decision ≡ decided list.rules.items header
+  pub number : decision ≡ decided stated list.rules.items header
   pub within : decision ≤ length list.names
   pub name : name_at list.names decision ≡ name_decided list header
 

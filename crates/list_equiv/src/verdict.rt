@@ -10,7 +10,7 @@ use fdd_build::build;
 use fdd_ops::least_difference;
 use field_boxes::{Header, Rule};
 use filter_reader::RuleList;
-use node_store::Store;
+use node_store::{Store, stated_order};
 use razor_base::Memory;
 use std::alloc::Global;
 
@@ -54,7 +54,7 @@ fn first_apart(alloc: Global, left: &[Rule], right: &[Rule]) -> Result<Option<He
     ensures { IfOk result (λ found. MatchOption found (AreAlike left.now right.now) (λ header. IsFirstApart left.now right.now header.values)) }
 {
     let mut store = Store::new(alloc);
-    let left_node = build(alloc, &mut store, left)?;
-    let right_node = build(alloc, &mut store, right)?;
+    let left_node = build(alloc, &mut store, &stated_order(), left)?;
+    let right_node = build(alloc, &mut store, &stated_order(), right)?;
     Ok(least_difference(&store, left_node, right_node))
 }

@@ -50,7 +50,7 @@ stays nodes = record { gained = ([], sym (append-nil nodes)); answers = λ id va
 fits_later : (nodes more : List Node) (id : ℕ) (node : Node) → id ≤ length nodes → FitsAt nodes id node → FitsAt (nodes ++ more) id node
 fits_later nodes more id (Leaf d) h fits = tt
 fits_later nodes more id (Inner f es) h fits = record {
-  below = fits.below;
+  field = fits.field;
   full = fits.full;
   apart = fits.apart;
   children = λ k d less. let c = fits.children k d less in (c.0, ap node_level (kept_place nodes more _ (omega (arith, c.0, h))) ∙ c.1);

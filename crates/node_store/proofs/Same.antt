@@ -30,5 +30,5 @@ equal_decides (variant.Leaf a) (variant.Leaf b) = Decides-like (nat_eq a b) (λ 
 equal_decides (variant.Leaf a) (variant.Inner g ds) = (λ h. absurd (true≢false (sym h)), λ h. cc)
 equal_decides (variant.Inner f es) (variant.Leaf b) = (λ h. absurd (true≢false (sym h)), λ h. cc)
 equal_decides (variant.Inner f es) (variant.Inner g ds) =
-    Decides-like (nat_eq f g && pointwise equal_edges es.items ds.items) (λ h. ap (λ x. Inner x es.items) h.0 ∙ ap (λ x. Inner g x) h.1) (λ h. (cc, cc))
-    (Decides-and (nat_eq f g) (pointwise equal_edges es.items ds.items) (Decides-eqb f g) (pointwise_decides edges_decide es.items ds.items))
+    Decides-like (pointwise nat_eq f g && pointwise equal_edges es.items ds.items) (λ h. ap (λ x. Inner x es.items) h.0 ∙ ap (λ x. Inner g x) h.1) (λ h. (cc, cc))
+    (Decides-and (pointwise nat_eq f g) (pointwise equal_edges es.items ds.items) (pointwise_decides Decides-eqb f g) (pointwise_decides edges_decide es.items ds.items))

@@ -4,31 +4,31 @@ use Rattle.std.specs.Prelude.{ℕ, List, [], ◌∷◌, Option, Some, None, slic
 use Rattle.node_store.specs.declared.edge.Edge.{Edge}
 use Rattle.node_store.specs.Edges.{child_of}
 
--- a leaf with its decision, or a field with its edges
+-- a leaf with its decision, or an inner node with its level and its edges
 pub data Node : Type 0 where
   Leaf : (decision : ℕ) → Node
-  Inner : (field : ℕ) (edges : List Edge) → Node
+  Inner : (level : List ℕ) (edges : List Edge) → Node
 
--- the field of an inner node; leaves stand at level 5, and 6 is no level
-abbrev pub node_level : Option Node → ℕ
-node_level None = 6
-node_level (Some (Leaf decision)) = 5
-node_level (Some (Inner field edges)) = field
+-- the level at which a node stands; 5 is no field
+abbrev pub node_level : Option Node → List ℕ
+node_level None = 5 ∷ []
+node_level (Some (Leaf decision)) = []
+node_level (Some (Inner level edges)) = level
 
 -- the edges of a node, none for a leaf
 abbrev pub node_edges : Option Node → List Edge
 node_edges None = []
 node_edges (Some (Leaf decision)) = []
-node_edges (Some (Inner field es)) = es
+node_edges (Some (Inner level es)) = es
 
 -- the decision of a leaf, none for an inner node
 abbrev pub node_decision : Option Node → Option ℕ
 node_decision None = None
 node_decision (Some (Leaf d)) = Some d
-node_decision (Some (Inner field es)) = None
+node_decision (Some (Inner level es)) = None
 
 -- the same of the node at a place
-abbrev pub level_of : List Node → ℕ → ℕ
+abbrev pub level_of : List Node → ℕ → List ℕ
 level_of nodes id = node_level (slice_get nodes id)
 
 abbrev pub edges_of : List Node → ℕ → List Edge

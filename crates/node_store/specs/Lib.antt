@@ -1,4 +1,5 @@
 pub mod Edges
+pub mod Levels
 pub mod Diagram
 pub mod Split
 pub mod Parts

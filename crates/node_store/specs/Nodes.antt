@@ -6,4 +6,4 @@ use Rattle.node_store.specs.Diagram.Node.{Leaf, Inner}
 
 abbrev pub node_of : code.Node → Node
 node_of (variant.Leaf decision) = Leaf decision
-node_of (variant.Inner field edges) = Inner field edges.items
+node_of (variant.Inner level edges) = Inner level edges.items

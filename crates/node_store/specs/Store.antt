@@ -1,26 +1,27 @@
 -- What holds of the nodes of every store, and what no call changes.
-use Rattle.std.specs.Prelude.{◌≡◌, ◌⊎◌, ℕ, suc, ◌<◌, List, [], ◌∷◌, ◌++◌, length, drop, Some, slice_get, All}
-use Rattle.field_boxes.specs.Fields.{greatest_of, stated, AreValues}
+use Rattle.std.specs.Prelude.{◌≡◌, ◌⊎◌, ℕ, ◌<◌, List, [], ◌∷◌, ◌++◌, length, Some, slice_get, All}
+use Rattle.field_boxes.specs.Fields.{AreValues}
+use Rattle.node_store.specs.Levels.{HasField, next, top_of}
 use Rattle.node_store.specs.declared.edge.Edge.{Edge}
 use Rattle.node_store.specs.Edges.{AreFull, LeadApart}
 use Rattle.node_store.specs.Diagram.{Node, level_of, answer}
 use Rattle.node_store.specs.Diagram.Node.{Leaf, Inner}
 
--- the edge leads from the place to an older node, at the level after the field
-abbrev pub LeadsOn : List Node → ℕ → ℕ → Edge → Type 0
-LeadsOn nodes place field e = (e.to.0 < place) × (level_of nodes e.to.0 ≡ suc field)
+-- the edge leads from the place to an older node, at the next level
+abbrev pub LeadsOn : List Node → ℕ → List ℕ → Edge → Type 0
+LeadsOn nodes place level e = (e.to.0 < place) × (level_of nodes e.to.0 ≡ next level)
 
 -- an inner node at a place: its edges fill its field, neighbours lead apart, all lead on
-pub record IsInner (nodes : List Node) (place field : ℕ) (edges : List Edge) : Type 0 where
-  pub below : field < 5
-  pub full : AreFull (greatest_of field) edges
+pub record IsInner (nodes : List Node) (place : ℕ) (level : List ℕ) (edges : List Edge) : Type 0 where
+  pub field : HasField level
+  pub full : AreFull (top_of level) edges
   pub apart : LeadApart edges
-  pub children : All (LeadsOn nodes place field) edges
+  pub children : All (LeadsOn nodes place level) edges
 
 -- the node may stand at the place
 abbrev pub FitsAt : List Node → ℕ → Node → Type 0
 FitsAt nodes place (Leaf decision) = Unit {0}
-FitsAt nodes place (Inner field edges) = IsInner nodes place field edges
+FitsAt nodes place (Inner level edges) = IsInner nodes place level edges
 
 -- the nodes of a store: each fits where it stands, and none stands twice
 pub record IsStore (nodes : List Node) : Type 0 where
@@ -28,16 +29,12 @@ pub record IsStore (nodes : List Node) : Type 0 where
   pub once : (i j : ℕ) (node : Node) → slice_get nodes i ≡ Some node → slice_get nodes j ≡ Some node → i ≡ j
 
 -- all of the edges lead to nodes of the level
-abbrev pub LeadTo : List Node → ℕ → List Edge → Type 0
+abbrev pub LeadTo : List Node → List ℕ → List Edge → Type 0
 LeadTo nodes level edges = All (λ e. level_of nodes e.to.0 ≡ level) edges
 
--- one value for each of the fields from the level on
-abbrev pub AreValuesFrom : ℕ → List ℕ → Type 0
-AreValuesFrom level values = AreValues (drop level stated) values
-
--- the two nodes answer alike on all values of the fields from the level on
-abbrev pub AnswerAlike : List Node → ℕ → ℕ → ℕ → Type 0
-AnswerAlike nodes level a b = (values : List ℕ) → AreValuesFrom level values → answer nodes a values ≡ answer nodes b values
+-- the two nodes answer alike on all values of the level's fields
+abbrev pub AnswerAlike : List Node → List ℕ → ℕ → ℕ → Type 0
+AnswerAlike nodes level a b = (values : List ℕ) → AreValues level values → answer nodes a values ≡ answer nodes b values
 
 -- the store only gained nodes, and each old number answers as before
 pub record Grows (old new : List Node) : Type 0 where

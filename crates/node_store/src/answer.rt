@@ -1,6 +1,7 @@
 //! The walk from a node down to a leaf: one binary search a field.
-ghost use Rattle.std.specs.Prelude.{◌≡◌, ◌<◌, ◌≤◌, suc, length};
-ghost use Rattle.field_boxes.specs.Fields.{greatest_of};
+ghost use Rattle.std.specs.Prelude.{◌≡◌, ◌<◌, ◌≤◌, length};
+ghost use Rattle.field_boxes.specs.Fields.{stated};
+ghost use Rattle.node_store.specs.Levels.{HasField, next, top_of};
 ghost use Rattle.node_store.specs.Diagram.{level_of, edges_of, answer};
 ghost use Rattle.node_store.specs.Edges.{child_of};
 
@@ -9,9 +10,9 @@ use crate::store::Store;
 use field_boxes::Header;
 
 impl Store {
-    /// What the diagram under a node of level 0 answers for the header.
+    /// What the diagram under a node over all fields in the stated order answers for the header.
     pub fn answer(&self, id: NodeId, header: &Header) -> u32
-        requires { level_of self.now id.0 ≡ 0 }
+        requires { level_of self.now id.0 ≡ stated }
         ensures { result ≡ answer self.now id.0 header.now.values }
     {
         let mut at = id;
@@ -24,11 +25,11 @@ impl Store {
     /// The child to which the value leads.
     fn child(&self, id: NodeId, value: u32) -> NodeId
         requires number { id.0 < length self.now }
-        requires inner { level_of self.now id.0 < 5 }
-        requires value { value ≤ greatest_of (level_of self.now id.0) }
+        requires inner { HasField (level_of self.now id.0) }
+        requires value { value ≤ top_of (level_of self.now id.0) }
         ensures child { result.0 ≡ child_of (edges_of self.now id.0) value }
         ensures number { result.0 < length self.now }
-        ensures level { level_of self.now result.0 ≡ suc (level_of self.now id.0) }
+        ensures level { level_of self.now result.0 ≡ next (level_of self.now id.0) }
     {
         let edges = self.edges(id);
         edges[edges.partition_point(|edge| edge.hi < value)].to

@@ -1,14 +1,15 @@
 //! Laws of the definitions, for whoever relies on them. The functions do nothing.
-ghost use Rattle.std.specs.Prelude.{◌≡◌, ◌≤◌, ◌<◌, ◌+◌, ℕ, suc, List, [], ◌∷◌, ◌++◌, length};
-ghost use Rattle.field_boxes.specs.Fields.{greatest_of};
+ghost use Rattle.std.specs.Prelude.{◌≡◌, ◌≤◌, ◌<◌, ℕ, List, [], ◌∷◌, ◌++◌, length};
+ghost use Rattle.field_boxes.specs.Fields.{AreValues};
+ghost use Rattle.node_store.specs.Levels.{HasField, IsLevel, next, top_of};
 ghost use Rattle.node_store.specs.declared.edge.Edge.{Edge};
 ghost use Rattle.node_store.specs.Edges.{AreFull, child_of};
 ghost use Rattle.node_store.specs.Diagram.{Node, level_of, edges_of, decision_of};
-ghost use Rattle.node_store.specs.Store.{IsStore, LeadTo, AreValuesFrom, AnswerAlike, Grows};
+ghost use Rattle.node_store.specs.Store.{IsStore, LeadTo, AnswerAlike, Grows};
 
-/// Two nodes of one level that answer alike on all remaining values have one number.
+/// Two nodes of one level that answer alike on all values of its fields have one number.
 pub fn one_number()
-    ensures { (nodes : List Node) (level a b : ℕ) → IsStore nodes → level ≤ 5 →
+    ensures { (nodes : List Node) (level : List ℕ) (a b : ℕ) → IsStore nodes → IsLevel level →
         level_of nodes a ≡ level → level_of nodes b ≡ level → AnswerAlike nodes level a b → a ≡ b }
 {}
 
@@ -24,17 +25,17 @@ pub fn old_numbers_stay()
     ensures edges { (old new : List Node) (id : ℕ) → Grows old new → id < length old → edges_of new id ≡ edges_of old id }
     ensures decision { (old new : List Node) (id : ℕ) → Grows old new → id < length old → decision_of new id ≡ decision_of old id }
     ensures count { (old new : List Node) → Grows old new → length old ≤ length new }
-    ensures children { (old new : List Node) (level : ℕ) (edges : List Edge) → Grows old new → level ≤ 5 → LeadTo old level edges → LeadTo new level edges }
+    ensures children { (old new : List Node) (level : List ℕ) (edges : List Edge) → Grows old new → IsLevel level → LeadTo old level edges → LeadTo new level edges }
 {}
 
 /// The numbers in use are those with a level, and each value of its field leads from an inner node
 /// to an older one of the next level.
 pub fn levels()
-    ensures in_use { (nodes : List Node) (id : ℕ) → level_of nodes id ≤ 5 → id < length nodes }
-    ensures within { (nodes : List Node) (id : ℕ) → IsStore nodes → id < length nodes → level_of nodes id ≤ 5 }
-    ensures next { (nodes : List Node) (id v : ℕ) → IsStore nodes → level_of nodes id < 5 → v ≤ greatest_of (level_of nodes id) →
-        level_of nodes (child_of (edges_of nodes id) v) ≡ suc (level_of nodes id) }
-    ensures older { (nodes : List Node) (id v : ℕ) → IsStore nodes → level_of nodes id < 5 → v ≤ greatest_of (level_of nodes id) →
+    ensures in_use { (nodes : List Node) (id : ℕ) → IsLevel (level_of nodes id) → id < length nodes }
+    ensures within { (nodes : List Node) (id : ℕ) → IsStore nodes → id < length nodes → IsLevel (level_of nodes id) }
+    ensures next { (nodes : List Node) (id v : ℕ) → IsStore nodes → HasField (level_of nodes id) → v ≤ top_of (level_of nodes id) →
+        level_of nodes (child_of (edges_of nodes id) v) ≡ next (level_of nodes id) }
+    ensures older { (nodes : List Node) (id v : ℕ) → IsStore nodes → HasField (level_of nodes id) → v ≤ top_of (level_of nodes id) →
         child_of (edges_of nodes id) v < id }
 {}
 
@@ -46,10 +47,10 @@ pub fn edges_in_turn()
     ensures past { (top v : ℕ) (edges : List Edge) (e : Edge) → AreFull top edges → top < v → v ≤ e.hi → child_of (edges ++ e ∷ []) v ≡ e.to.0 }
 {}
 
-/// The values of the fields from a level on are one of its field, and those from the next level on.
+/// The values of a level's fields are one of the first field, and those of the next level.
 pub fn values_in_turn()
-    ensures first { (level v : ℕ) (values : List ℕ) → level < 5 → v ≤ greatest_of level → AreValuesFrom (suc level) values → AreValuesFrom level (v ∷ values) }
-    ensures within { (level v : ℕ) (values : List ℕ) → level < 5 → AreValuesFrom level (v ∷ values) → v ≤ greatest_of level }
-    ensures rest { (level v : ℕ) (values : List ℕ) → level < 5 → AreValuesFrom level (v ∷ values) → AreValuesFrom (suc level) values }
-    ensures count { (level : ℕ) (values : List ℕ) → level ≤ 5 → AreValuesFrom level values → level + length values ≡ 5 }
+    ensures first { (level : List ℕ) (v : ℕ) (values : List ℕ) → HasField level → v ≤ top_of level → AreValues (next level) values → AreValues level (v ∷ values) }
+    ensures within { (level : List ℕ) (v : ℕ) (values : List ℕ) → HasField level → AreValues level (v ∷ values) → v ≤ top_of level }
+    ensures rest { (level : List ℕ) (v : ℕ) (values : List ℕ) → HasField level → AreValues level (v ∷ values) → AreValues (next level) values }
+    ensures count { (level values : List ℕ) → AreValues level values → length values ≡ length level }
 {}

@@ -1,6 +1,6 @@
 //! The common split of the edges of two nodes.
-ghost use Rattle.std.specs.Prelude.{◌≡◌, ◌<◌, ◌⊎◌, ℕ, suc, List, [], map, IfOk, MatchOption};
-ghost use Rattle.field_boxes.specs.Fields.{greatest_of};
+ghost use Rattle.std.specs.Prelude.{◌≡◌, ◌<◌, ◌⊎◌, ℕ, List, [], map, IfOk, MatchOption};
+ghost use Rattle.node_store.specs.Levels.{HasField, next, top_of};
 ghost use Rattle.node_store.specs.Diagram.{Node, level_of, edges_of};
 ghost use Rattle.node_store.specs.Edges.{AreFull, LeadApart};
 ghost use Rattle.node_store.specs.Parts.{IsFirst, past};
@@ -31,12 +31,12 @@ impl Store {
     ///
     /// One pass over both nodes' edges, which takes memory only where there are more than six parts.
     pub fn split(&self, left: NodeId, right: NodeId) -> Result<Parts, Memory>
-        requires inner { level_of self.now left.0 < 5 }
+        requires inner { HasField (level_of self.now left.0) }
         requires level { level_of self.now right.0 ≡ level_of self.now left.0 }
         ensures split { IfOk result (λ parts.
-            IsSplit (greatest_of (level_of self.now left.0)) (edges_of self.now left.0) (edges_of self.now right.0) parts.items) }
-        ensures left { IfOk result (λ parts. LeadTo self.now (suc (level_of self.now left.0)) (map to_left parts.items)) }
-        ensures right { IfOk result (λ parts. LeadTo self.now (suc (level_of self.now left.0)) (map to_right parts.items)) }
+            IsSplit (top_of (level_of self.now left.0)) (edges_of self.now left.0) (edges_of self.now right.0) parts.items) }
+        ensures left { IfOk result (λ parts. LeadTo self.now (next (level_of self.now left.0)) (map to_left parts.items)) }
+        ensures right { IfOk result (λ parts. LeadTo self.now (next (level_of self.now left.0)) (map to_right parts.items)) }
     {
         parts_of(self.allocator(), self.edges(left), self.edges(right))
     }
@@ -46,8 +46,8 @@ impl Store {
 fn parts_of(alloc: Global, left: &[Edge], right: &[Edge]) -> Result<Parts, Memory>
     ensures split { (greatest : ℕ) → AreFull greatest left.now → AreFull greatest right.now → LeadApart left.now → LeadApart right.now →
         IfOk result (λ parts. IsSplit greatest left.now right.now parts.items) }
-    ensures left { (nodes : List Node) (level : ℕ) → LeadTo nodes level left.now → IfOk result (λ parts. LeadTo nodes level (map to_left parts.items)) }
-    ensures right { (nodes : List Node) (level : ℕ) → LeadTo nodes level right.now → IfOk result (λ parts. LeadTo nodes level (map to_right parts.items)) }
+    ensures left { (nodes : List Node) (level : List ℕ) → LeadTo nodes level left.now → IfOk result (λ parts. LeadTo nodes level (map to_left parts.items)) }
+    ensures right { (nodes : List Node) (level : List ℕ) → LeadTo nodes level right.now → IfOk result (λ parts. LeadTo nodes level (map to_right parts.items)) }
 {
     let mut parts = SmallVec::new(alloc);
     let mut left = left;

@@ -1,6 +1,6 @@
 //! The store, and what it tells of its nodes.
-ghost use Rattle.std.specs.Prelude.{◌≡◌, ◌<◌, ◌≤◌, ◌↔◌, ℕ, suc, List, [], ◌∷◌, length, slice_get, Some, IsNone, IfOk, OnErr};
-ghost use Rattle.field_boxes.specs.Fields.{greatest_of};
+ghost use Rattle.std.specs.Prelude.{◌≡◌, ◌<◌, ◌≤◌, ◌↔◌, ℕ, List, [], ◌∷◌, length, slice_get, Some, IsNone, IfOk, OnErr};
+ghost use Rattle.node_store.specs.Levels.{HasField, IsLevel, next, top_of};
 ghost use Rattle.node_store.specs.Diagram.{level_of, edges_of, decision_of, answer};
 ghost use Rattle.node_store.specs.Diagram.Node.{Leaf, Inner};
 ghost use Rattle.node_store.specs.Edges.{AreFull, child_of, merged};
@@ -8,15 +8,13 @@ ghost use Rattle.node_store.specs.Store.{IsStore, IsInner, FitsAt, AnswerAlike, 
 ghost use Rattle.node_store.specs.Nodes.{node_of};
 
 use crate::edge::{Edge, NodeId};
+use crate::level::Level;
 use crate::merge::merge;
 use crate::node::Node;
 use indexmap::IndexSet;
 use razor_base::Memory;
 use std::alloc::Global;
 use std::marker::Model;
-
-/// The level of leaves, below the five fields.
-const LEAF_LEVEL: u8 = 5;
 
 /// Diagrams whose nodes have numbers: the place of a node in the set is its number.
 ///
@@ -66,15 +64,15 @@ impl Store {
         &self.nodes[id.0]
     }
 
-    /// The field of an inner node, from 0 to 4, or 5 for a leaf.
-    pub fn level(&self, id: NodeId) -> u8
+    /// The fields that are read from the node on, its own first; none for a leaf.
+    pub fn level(&self, id: NodeId) -> &[u8]
         requires { id.0 < length self.now }
-        ensures level { result ≡ level_of self.now id.0 }
-        ensures within { result ≤ 5 }
+        ensures level { result.now ≡ level_of self.now id.0 }
+        ensures within { IsLevel result.now }
     {
         match self.node(id) {
-            Node::Leaf(_) => LEAF_LEVEL,
-            Node::Inner { field, .. } => *field,
+            Node::Leaf(_) => &[],
+            Node::Inner { level, .. } => level.as_slice(),
         }
     }
 
@@ -82,7 +80,7 @@ impl Store {
     pub fn decision(&self, id: NodeId) -> Option<u32>
         requires { id.0 < length self.now }
         ensures decision { result ≡ decision_of self.now id.0 }
-        ensures none { IsNone result ↔ (level_of self.now id.0 < 5) }
+        ensures none { IsNone result ↔ HasField (level_of self.now id.0) }
     {
         match self.node(id) {
             Node::Leaf(decision) => Some(*decision),
@@ -94,8 +92,8 @@ impl Store {
     pub fn edges(&self, id: NodeId) -> &[Edge]
         requires { id.0 < length self.now }
         ensures edges { result.now ≡ edges_of self.now id.0 }
-        ensures leaf { level_of self.now id.0 ≡ 5 → result.now ≡ [] }
-        ensures inner { level_of self.now id.0 < 5 → IsInner self.now id.0 (level_of self.now id.0) result.now }
+        ensures leaf { level_of self.now id.0 ≡ [] → result.now ≡ [] }
+        ensures inner { HasField (level_of self.now id.0) → IsInner self.now id.0 (level_of self.now id.0) result.now }
     {
         match self.node(id) {
             Node::Leaf(_) => &[],
@@ -109,7 +107,7 @@ impl Store {
     pub fn leaf(&mut self, decision: u32) -> Result<NodeId, Memory>
         ensures numbered { IfOk result (λ id. IsNumbered self.old self.new (Leaf decision) id.0) }
         ensures number { IfOk result (λ id. id.0 < length self.new) }
-        ensures level { IfOk result (λ id. level_of self.new id.0 ≡ 5) }
+        ensures level { IfOk result (λ id. level_of self.new id.0 ≡ []) }
         ensures decision { IfOk result (λ id. decision_of self.new id.0 ≡ Some decision) }
         ensures grows { Grows self.old self.new }
         ensures err { OnErr result (self.new ≡ self.old) }
@@ -117,24 +115,25 @@ impl Store {
         self.add(Node::Leaf(decision))
     }
 
-    /// The number of the node of the field with these edges, which the store gains where it isn't there.
+    /// The number of the node of the level with these edges, which the store gains where it isn't there.
     ///
     /// Equal neighbours are merged: the node has the fewest edges that lead as those handed in.
-    pub fn make(&mut self, field: u8, edges: &[Edge]) -> Result<NodeId, Memory>
-        requires field { field < 5 }
-        requires full { AreFull (greatest_of field) edges.now }
-        requires children { LeadTo self.old (suc field) edges.now }
-        ensures numbered { IfOk result (λ id. IsNumbered self.old self.new (Inner field (merged edges.now)) id.0) }
+    pub fn make(&mut self, level: &[u8], edges: &[Edge]) -> Result<NodeId, Memory>
+        requires field { HasField level.now }
+        requires full { AreFull (top_of level.now) edges.now }
+        requires children { LeadTo self.old (next level.now) edges.now }
+        ensures numbered { IfOk result (λ id. IsNumbered self.old self.new (Inner level.now (merged edges.now)) id.0) }
         ensures number { IfOk result (λ id. id.0 < length self.new) }
-        ensures level { IfOk result (λ id. level_of self.new id.0 ≡ field) }
+        ensures level { IfOk result (λ id. level_of self.new id.0 ≡ level.now) }
         ensures edges { IfOk result (λ id. edges_of self.new id.0 ≡ merged edges.now) }
-        ensures answers { IfOk result (λ id. (v : ℕ) (values : List ℕ) → v ≤ greatest_of field →
+        ensures answers { IfOk result (λ id. (v : ℕ) (values : List ℕ) → v ≤ top_of level.now →
             answer self.new id.0 (v ∷ values) ≡ answer self.old (child_of edges.now v) values) }
         ensures grows { Grows self.old self.new }
         ensures err { OnErr result (self.new ≡ self.old) }
     {
         let edges = merge(self.allocator(), edges)?;
-        self.add(Node::Inner { field, edges })
+        let level = Level::of(level);
+        self.add(Node::Inner { level, edges })
     }
 
     /// The number of the node, which the store gains where it isn't there.
@@ -154,12 +153,12 @@ impl Store {
         *self.nodes.allocator()
     }
 
-    /// Two nodes of one level that answer alike on all remaining values have one number.
+    /// Two nodes of one level that answer alike on all values of its fields have one number.
     ///
     /// The call does nothing: it tells its caller what holds of every store.
     pub fn same_answers(&self)
         ensures store { IsStore self.now }
-        ensures same { (level a b : ℕ) → level ≤ 5 → level_of self.now a ≡ level → level_of self.now b ≡ level →
+        ensures same { (level : List ℕ) (a b : ℕ) → IsLevel level → level_of self.now a ≡ level → level_of self.now b ≡ level →
             AnswerAlike self.now level a b → a ≡ b }
     {
         let _nodes = &self.nodes;

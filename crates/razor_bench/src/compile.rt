@@ -1,11 +1,12 @@
 //! The steps of compiling a list.
 ghost use Rattle.std.specs.Prelude.{◌≡◌};
+ghost use Rattle.field_boxes.specs.Fields.{stated};
 ghost use Rattle.node_store.specs.Diagram.{level_of};
 
 use crate::input::{MOST_LIST_BYTES, input, list_of};
 use anyhow::{Result, bail};
 use fdd_build::build;
-use node_store::{NodeId, Store};
+use node_store::{NodeId, Store, stated_order};
 use redundancy::{are_prefixes, remove};
 use std::alloc::Global;
 use std::fs::Files;
@@ -34,7 +35,7 @@ pub fn run(rt: &(impl Files + Input + Print + AllocGlobal), step: Step, times: u
     for _time in 0..times {
         let list = list_of(rt.alloc(), &bytes)?;
         let mut store = Store::new(rt.alloc());
-        let root = build(rt.alloc(), &mut store, &list.rules)?;
+        let root = build(rt.alloc(), &mut store, &stated_order(), &list.rules)?;
         finish(rt, step, &store, root)?;
     }
     Ok(())
@@ -42,7 +43,7 @@ pub fn run(rt: &(impl Files + Input + Print + AllocGlobal), step: Step, times: u
 
 /// Goes on from the diagram, and prints what comes of it.
 fn finish(rt: &(impl Print + AllocGlobal), step: Step, store: &Store, root: NodeId) -> Result<()>
-    requires { level_of store.now root.0 ≡ 0 }
+    requires { level_of store.now root.0 ≡ stated }
 {
     match step {
         Step::Diagram => println!(rt; "nodes {}", store.count())?,
@@ -62,9 +63,9 @@ fn finish(rt: &(impl Print + AllocGlobal), step: Step, store: &Store, root: Node
 
 /// The entries of the composed table.
 fn composed(alloc: Global, store: &Store, root: NodeId) -> Result<Vec<Entry>>
-    requires { level_of store.now root.0 ≡ 0 }
+    requires { level_of store.now root.0 ≡ stated }
 {
-    match compose(alloc, store, root, MOST_ENTRIES) {
+    match compose(alloc, store, &stated_order(), root, MOST_ENTRIES) {
         Ok(entries) => Ok(entries),
         Err(_) => bail!("no table is composed"),
     }

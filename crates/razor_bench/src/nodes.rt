@@ -1,16 +1,15 @@
 //! Distinct diagram nodes, made once and asked for again.
-ghost use Rattle.std.specs.Prelude.{◌≡◌, ◌-◌, ◌<◌, ◌≤◌, ◌^◌, length, IfOk, OnOk};
+ghost use Rattle.std.specs.Prelude.{◌≡◌, ◌-◌, ◌<◌, ◌≤◌, ◌^◌, [], ◌∷◌, length, IfOk, OnOk};
 ghost use Rattle.node_store.specs.Diagram.{level_of};
 
 use crate::plan::{Plan, Protocols};
 use anyhow::{Result, anyhow, ensure};
 use node_store::{Edge, NodeId, Store, laws};
 
-const PROTOCOL_FIELD: u8 = 4;
+/// The level of the protocol alone.
+const PROTOCOL: [u8; 1] = [4];
 
 const GREATEST_PROTOCOL: u32 = 255;
-
-const LEAF_LEVEL: u8 = 5;
 
 /// Makes the nodes, asks for each again, and prints how many there are with a checksum of their numbers.
 pub fn run(rt: &(impl Print + AllocGlobal), count: u32) -> Result<()> {
@@ -57,7 +56,7 @@ fn protocol_node(store: &mut Store, protocols: Protocols) -> Result<NodeId>
     requires below { protocols.middle < 255 }
     requires outer { protocols.outer < 2 ^ 32 - 1 }
     ensures number { IfOk result (λ id. id.0 < length store.new) }
-    ensures level { IfOk result (λ id. level_of store.new id.0 ≡ 4) }
+    ensures level { IfOk result (λ id. level_of store.new id.0 ≡ 4 ∷ []) }
 {
     let outer = leaf(store, protocols.outer)?;
     let inner = leaf(store, protocols.outer + 1)?;
@@ -77,7 +76,7 @@ fn protocol_node(store: &mut Store, protocols: Protocols) -> Result<NodeId>
     ];
     laws::edges_in_turn();
     store
-        .make(PROTOCOL_FIELD, &edges)
+        .make(&PROTOCOL, &edges)
         .map_err(|_refused| anyhow!("out of memory"))
 }
 
@@ -85,10 +84,10 @@ fn protocol_node(store: &mut Store, protocols: Protocols) -> Result<NodeId>
 fn leaf(store: &Store, number: u32) -> Result<NodeId>
     ensures number { IfOk result (λ id. id.0 ≡ number) }
     ensures found { IfOk result (λ id. id.0 < length store.now) }
-    ensures level { IfOk result (λ id. level_of store.now id.0 ≡ 5) }
+    ensures level { IfOk result (λ id. level_of store.now id.0 ≡ []) }
 {
     let id = NodeId(number as usize);
     ensure!(id.0 < store.count(), "no node {number}");
-    ensure!(store.level(id) == LEAF_LEVEL, "node {number} is no leaf");
+    ensure!(store.level(id).is_empty(), "node {number} is no leaf");
     Ok(id)
 }

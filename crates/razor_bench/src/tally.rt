@@ -1,11 +1,12 @@
 //! What can be told of a diagram.
 ghost use Rattle.std.specs.Prelude.{◌≡◌, ◌≤◌, ◌<◌, length, IfOk};
+ghost use Rattle.field_boxes.specs.Fields.{stated};
 ghost use Rattle.node_store.specs.Diagram.{level_of};
 
 use anyhow::{Context, Result, anyhow};
 use fdd_build::build;
 use field_boxes::{Header, Rule, Span};
-use node_store::{NodeId, Store};
+use node_store::{NodeId, Store, stated_order};
 use std::alloc::Global;
 
 /// A diagram in numbers, for a comparison with another program.
@@ -25,7 +26,8 @@ impl Tally {
         ensures { IfOk result (λ tally. tally.reached ≤ tally.nodes) }
     {
         let mut store = Store::new(alloc);
-        let root = build(alloc, &mut store, rules).map_err(|_refused| anyhow!("out of memory"))?;
+        let root = build(alloc, &mut store, &stated_order(), rules)
+            .map_err(|_refused| anyhow!("out of memory"))?;
         Ok(Tally {
             nodes: store.count(),
             reached: reached(alloc, &store, root)?,
@@ -65,7 +67,7 @@ fn reach(store: &Store, id: NodeId, reached: &mut [bool])
 
 /// The checksum of the answers at the least and at the greatest header of each rule.
 fn checksum(store: &Store, root: NodeId, rules: &[Rule]) -> Result<u64>
-    requires { level_of store.now root.0 ≡ 0 }
+    requires { level_of store.now root.0 ≡ stated }
 {
     let mut checksum = 0u64;
     for rule in rules {
@@ -88,7 +90,7 @@ pub fn greatest(set: &[Span]) -> u32 {
 
 /// The checksum with one more answer.
 fn with_answer(store: &Store, root: NodeId, values: [u32; 5], checksum: u64) -> Result<u64>
-    requires { level_of store.now root.0 ≡ 0 }
+    requires { level_of store.now root.0 ≡ stated }
 {
     let header = Header::new(values).context("a rule that leaves its field")?;
     let answer = store.answer(root, &header);

@@ -1,6 +1,7 @@
 -- Contexts behind a cover.
 use Rattle.std.proofs.Common.{◌≡◌, ◌∷◌, ◌++◌, ℕ, List, [], ◌<◌, ◌≤◌, ◌+◌, length, refl, arith}
 use Rattle.node_store.specs.declared.edge.NodeId.{NodeId}
+use Rattle.node_store.specs.Levels.{IsLevel}
 use Rattle.node_store.specs.Diagram.{Node, level_of}
 use Rattle.node_store.specs.Store.{Grows}
 use Rattle.field_sift.specs.declared.pair.Pair.{Pair}
@@ -9,11 +10,11 @@ use Rattle.field_sift.proofs.Kept.{union-stays}
 use Rattle.redundancy.proofs.Numbers.{number_stays}
 use Rattle.redundancy.proofs.Places.{pushed_to}
 
-module _ (base old new : List Node) (level : ℕ) (cover met : NodeId) (pairs behind longer : List Pair) (n : ℕ) where
+module _ (base old new : List Node) (level : List ℕ) (cover met : NodeId) (pairs behind longer : List Pair) (n : ℕ) where
   abbrev AreBehind : List Node → List Pair → ℕ → Type 0
   AreBehind nodes items k = (c : ℕ) → c < k → IsBehind nodes level cover (pair_at pairs c) (pair_at items c)
 
-  pub behind_next : level ≤ 5 → Grows base old → Grows old new → level_of base cover.0 ≡ level → ArePairs base level pairs → n < length pairs → length behind ≡ n → ArePairs old level behind → AreBehind old behind n →
+  pub behind_next : IsLevel level → Grows base old → Grows old new → level_of base cover.0 ≡ level → ArePairs base level pairs → n < length pairs → length behind ≡ n → ArePairs old level behind → AreBehind old behind n →
       level_of new met.0 ≡ level → IsUnion new level (pair_at pairs n).met.0 cover.0 met.0 → (let p : Pair = record { after = (pair_at pairs n).after; met = met } in longer ≡ behind ++ p ∷ []) →
       (length longer ≡ n + 1) × ArePairs new level longer × AreBehind new longer (n + 1)
   behind_next five first g in_cover are less count so each number union longer_is =

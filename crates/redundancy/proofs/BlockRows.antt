@@ -28,7 +28,7 @@ AllLead blocks = (number : ℕ) (block : Block) → slice_get blocks number ≡ 
 
 pub fits_lead : (covers : List Cover) (number : ℕ) (block : Block) → FitsAt covers number block → Lead number block
 fits_lead covers number (Last decision) h = tt
-fits_lead covers number (Layer runs) h = All-weaker (FitsRun covers number (cover_at covers number).level) (λ (r : Run). r.block < number) (λ r f. f.older) runs.items h.1
+fits_lead covers number (Layer runs) h = All-weaker (FitsRun covers number (cover_at covers number).level.now) (λ (r : Run). r.block < number) (λ r f. f.older) runs.items h.1
 fits_lead covers number (Two first second) h = (h.0, h.1)
 
 pub all_lead : (blocks : List Block) (covers : List Cover) → ((number : ℕ) (block : Block) → slice_get blocks number ≡ Some block → FitsAt covers number block) → AllLead blocks

@@ -13,8 +13,8 @@ use Rattle.redundancy.proofs.BlockRows.{AllLead, all_lead}
 pub cover_stays : (old new : List Node) (cover : Cover) (rows : List Row) → Grows old new → HasCover old cover rows → HasCover new cover rows
 cover_stays old new cover rows g h = record {
   within = h.within;
-  level = number_stays old new cover.set.0 cover.level h.within g h.level;
-  set = cover-stays old new cover.level cover.set.0 rows h.within g h.level h.set;
+  level = number_stays old new cover.set.0 cover.level.now h.within g h.level;
+  set = cover-stays old new cover.level.now cover.set.0 rows h.within g h.level h.set;
 }
 
 pub blocks_stay : (old new : List Node) (blocks : List Block) (covers : List Cover) → Grows old new → AreBlocks old blocks covers → AreBlocks new blocks covers

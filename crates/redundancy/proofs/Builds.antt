@@ -1,6 +1,7 @@
 -- Blocks that are added.
 use Rattle.std.proofs.Common.{◌≡◌, ◌∷◌, ◌++◌, ◌⊎◌, ℕ, List, [], ◌<◌, ◌≤◌, ◌+◌, true, length, refl, ap, arith, sym, ◌∙◌, subst, inl, inr}
 use Rattle.std.specs.Prelude.{All, Some, slice_get, map}
+use Rattle.std.specs.Borrow.{Bor}
 use Rattle.std.specs.Global.{Global}
 use Rattle.std.specs.Prelude.{Vec}
 use Rattle.std.proofs.lemmas.Bool.{cases_lt}
@@ -8,10 +9,11 @@ use Rattle.std.proofs.lemmas.Option.{slice_get_within}
 use Rattle.std.proofs.lemmas.List.{length-append}
 use Rattle.std.proofs.lemmas.List.Elements.{All-weaker}
 use Rattle.node_store.specs.declared.edge.NodeId.{NodeId}
+use Rattle.node_store.specs.Levels.{HasField, IsLevel}
 use Rattle.node_store.specs.Diagram.{Node, level_of}
 use Rattle.node_store.specs.Store.{Grows}
 use Rattle.node_store.proofs.Growth.{kept_place, level_kept, stays}
-use Rattle.node_store.proofs.Made.{within}
+use Rattle.node_store.proofs.Canonical.{in_use, is_level}
 use Rattle.field_sift.specs.Rows.{Row, last_row}
 use Rattle.field_sift.specs.Layers.{rows_of_runs}
 use Rattle.field_sift.specs.Sifted.{is_in, IsCover, IsUnion}
@@ -30,8 +32,8 @@ use Rattle.redundancy.proofs.BlockRows.{AllLead, Lead, all_lead, rows_at, rows_s
 pub cover_stays : (old new : List Node) (cover : Cover) (rows : List Row) → Grows old new → HasCover old cover rows → HasCover new cover rows
 cover_stays old new cover rows g h = record {
   within = h.within;
-  level = level_kept old new cover.set.0 g (within old cover.set.0 (omega (arith, h.level, h.within))) ∙ h.level;
-  set = cover-stays old new cover.level cover.set.0 rows h.within g h.level h.set;
+  level = level_kept old new cover.set.0 g (in_use old cover.set.0 cover.level.now h.within h.level) ∙ h.level;
+  set = cover-stays old new cover.level.now cover.set.0 rows h.within g h.level h.set;
 }
 
 pub blocks_stay : (old new : List Node) (blocks : List Block) (covers : List Cover) → Grows old new → AreBlocks old blocks covers → AreBlocks new blocks covers
@@ -61,10 +63,10 @@ module _ (nodes : List Node) (blocks : List Block) (covers : List Cover) (block 
   cover_old : (k : ℕ) → k < length covers → cover_at (covers ++ cover ∷ []) k ≡ cover_at covers k
   cover_old k less = old_item no_cover covers (cover ∷ []) k less
 
-  level_old : (k : ℕ) → k < length covers → (cover_at (covers ++ cover ∷ []) k).level ≡ (cover_at covers k).level
-  level_old k less = ap (λ (c : Cover). c.level) (cover_old k less)
+  level_old : (k : ℕ) → k < length covers → (cover_at (covers ++ cover ∷ []) k).level.now ≡ (cover_at covers k).level.now
+  level_old k less = ap (λ (c : Cover). c.level.now) (cover_old k less)
 
-  fits_run : (k field : ℕ) (r : Run) → k ≤ length covers → FitsRun covers k field r → FitsRun (covers ++ cover ∷ []) k field r
+  fits_run : (k : ℕ) (field : List ℕ) (r : Run) → k ≤ length covers → FitsRun covers k field r → FitsRun (covers ++ cover ∷ []) k field r
   fits_run k field r within f = record {
     older = f.older;
     level = level_old r.block (omega (arith, within, f.older)) ∙ f.level;
@@ -75,10 +77,10 @@ module _ (nodes : List Node) (blocks : List Block) (covers : List Cover) (block 
   fits_old k (Last decision) less f = level_old k less ∙ f
   fits_old k (Layer runs) less f =
       let e = level_old k less in (
-        subst (λ n. n < 5) (sym e) f.0,
+        subst HasField (sym e) f.0,
         subst (λ n. All (FitsRun (covers ++ cover ∷ []) k n) runs.items) (sym e)
-            (All-weaker (FitsRun covers k (cover_at covers k).level) (FitsRun (covers ++ cover ∷ []) k (cover_at covers k).level)
-            (λ r h. fits_run k (cover_at covers k).level r (omega (arith, less)) h) runs.items f.1),
+            (All-weaker (FitsRun covers k (cover_at covers k).level.now) (FitsRun (covers ++ cover ∷ []) k (cover_at covers k).level.now)
+            (λ r h. fits_run k (cover_at covers k).level.now r (omega (arith, less)) h) runs.items f.1),
         f.2,
       )
   fits_old k (Two first second) less f =
@@ -135,7 +137,7 @@ module _ (nodes : List Node) (blocks : List Block) (covers : List Cover) (block 
   -- the new block and its cover, of old blocks
   built : (old_nodes : List Node) (old new : Blocks) → Grows old_nodes nodes → old.blocks.items ≡ blocks → old.covers.items ≡ covers → new.blocks.items ≡ blocks ++ block ∷ [] → new.covers.items ≡ covers ++ cover ∷ [] →
       AreBlocks nodes blocks covers → FitsAt (covers ++ cover ∷ []) (length blocks) block → HasCover nodes cover (rows_by (rows_of blocks) (Some block)) →
-      IsBuilt old_nodes nodes old new cover.level (rows_by (rows_of blocks) (Some block)) (length blocks)
+      IsBuilt old_nodes nodes old new cover.level.now (rows_by (rows_of blocks) (Some block)) (length blocks)
   built old_nodes old new g ob oc nb nc h f c = record {
     grows = g;
     blocks = subst (λ bs. AreBlocks nodes bs new.covers.items) (sym nb) (subst (AreBlocks nodes (blocks ++ block ∷ [])) (sym nc) (add_new h f c));
@@ -143,7 +145,7 @@ module _ (nodes : List Node) (blocks : List Block) (covers : List Cover) (block 
     rows_stay = λ k less. ap (λ bs. rows_of bs k) nb ∙ rows_stay blocks (block ∷ []) k (lead_old h) (omega (arith, less, ap (λ (bs : List Block). length bs) ob)) ∙ sym (ap (λ bs. rows_of bs k) ob);
     covers_stay = λ k less. ap (λ cs. cover_at cs k) nc ∙ cover_old k (omega (arith, h.count, less, ap (λ (bs : List Block). length bs) ob)) ∙ sym (ap (λ cs. cover_at cs k) oc);
     number_in = omega (arith, ap (λ (bs : List Block). length bs) nb, length-append blocks (block ∷ []));
-    level_is = ap (λ cs. (cover_at cs (length blocks)).level) nc ∙ ap (λ (d : Cover). d.level) (here h);
+    level_is = ap (λ cs. (cover_at cs (length blocks)).level.now) nc ∙ ap (λ (d : Cover). d.level.now) (here h);
     rows_are = ap (λ bs. rows_of bs (length blocks)) nb ∙ new_rows (lead_old h) (lead_all h f);
   }
 
@@ -151,22 +153,23 @@ module _ (nodes : List Node) (blocks : List Block) (covers : List Cover) (block 
 pub added : (s0 s1 : List Node) (old new : Blocks) (block : Block) (cover : Cover) (number : ℕ) → Grows s0 s1 → IsBlocks s0 old →
     (cover_at (old.covers.items ++ cover ∷ []) (length old.blocks.items) ≡ cover → FitsAt (old.covers.items ++ cover ∷ []) (length old.blocks.items) block) →
     HasCover s1 cover (rows_by (rows_of old.blocks.items) (Some block)) → IsAdded old new block cover number →
-    IsBuilt s0 s1 old new cover.level (rows_by (rows_of old.blocks.items) (Some block)) number
+    IsBuilt s0 s1 old new cover.level.now (rows_by (rows_of old.blocks.items) (Some block)) number
 added s0 s1 old new block cover number g h f c a =
     let h1 = blocks_stay s0 s1 old.blocks.items old.covers.items g h in
-    subst (IsBuilt s0 s1 old new cover.level (rows_by (rows_of old.blocks.items) (Some block))) (sym a.number_is)
+    subst (IsBuilt s0 s1 old new cover.level.now (rows_by (rows_of old.blocks.items) (Some block))) (sym a.number_is)
     (built s1 old.blocks.items old.covers.items block cover s0 old new g refl refl a.blocks a.covers h1 (f (here s1 old.blocks.items old.covers.items block cover h1)) c)
 
 -- the three kinds
-pub last_built : (s : List Node) (old new : Blocks) (set : NodeId) (decision number : ℕ) → IsBlocks s old → level_of s set.0 ≡ 5 → is_in s set.0 [] ≡ true →
-    IsAdded old new (Last decision) (record { level = 5; set = set }) number → IsBuilt s s old new 5 (last_row decision ∷ []) number
-last_built s old new set decision number h e full a =
-    added s s old new (Last decision) (record { level = 5; set = set }) number (stays s) h (λ at. ap (λ (c : Cover). c.level) at)
-    (record { within = omega arith; level = e; set = cover-last s set.0 decision full }) a
+pub last_built : (s : List Node) (old new : Blocks) (set : NodeId) (empty : Bor (List ℕ)) (decision number : ℕ) → IsBlocks s old → empty.now ≡ [] → level_of s set.0 ≡ [] → is_in s set.0 [] ≡ true →
+    IsAdded old new (Last decision) (record { level = empty; set = set }) number → IsBuilt s s old new [] (last_row decision ∷ []) number
+last_built s old new set empty decision number h none e full a =
+    subst (λ level. IsBuilt s s old new level (last_row decision ∷ []) number) none
+    (added s s old new (Last decision) (record { level = empty; set = set }) number (stays s) h (λ at. ap (λ (c : Cover). c.level.now) at ∙ none)
+    (record { within = subst IsLevel (sym none) tt; level = e ∙ sym none; set = subst (λ level. IsCover s level set.0 (last_row decision ∷ [])) (sym none) (cover-last s set.0 decision full) }) a)
 
-pub two_built : (s0 s1 : List Node) (old new : Blocks) (set : NodeId) (level first second number : ℕ) → Grows s0 s1 → IsBlocks s0 old → level ≤ 5 → StandsAt old level first → StandsAt old level second →
-    level_of s1 set.0 ≡ level → IsUnion s1 level (cover_at old.covers.items first).set.0 (cover_at old.covers.items second).set.0 set.0 →
-    IsAdded old new (Two first second) (record { level = level; set = set }) number → IsBuilt s0 s1 old new level (rows_of old.blocks.items first ++ rows_of old.blocks.items second) number
+pub two_built : (s0 s1 : List Node) (old new : Blocks) (set : NodeId) (level : Bor (List ℕ)) (first second number : ℕ) → Grows s0 s1 → IsBlocks s0 old → IsLevel level.now → StandsAt old level.now first → StandsAt old level.now second →
+    level_of s1 set.0 ≡ level.now → IsUnion s1 level.now (cover_at old.covers.items first).set.0 (cover_at old.covers.items second).set.0 set.0 →
+    IsAdded old new (Two first second) (record { level = level; set = set }) number → IsBuilt s0 s1 old new level.now (rows_of old.blocks.items first ++ rows_of old.blocks.items second) number
 two_built s0 s1 old new set level first second number g h five f k e u a =
     let cover : Cover = record { level = level; set = set } in
     let h1 = blocks_stay s0 s1 old.blocks.items old.covers.items g h in
@@ -174,40 +177,40 @@ two_built s0 s1 old new set level first second number g h five f k e u a =
     (λ at. (
       f.0,
       k.0,
-      level_old s1 old.blocks.items old.covers.items (Two first second) cover first (omega (arith, f.0, h.count)) ∙ f.1 ∙ sym (ap (λ (c : Cover). c.level) at),
-      level_old s1 old.blocks.items old.covers.items (Two first second) cover second (omega (arith, k.0, h.count)) ∙ k.1 ∙ sym (ap (λ (c : Cover). c.level) at),
+      level_old s1 old.blocks.items old.covers.items (Two first second) cover first (omega (arith, f.0, h.count)) ∙ f.1 ∙ sym (ap (λ (c : Cover). c.level.now) at),
+      level_old s1 old.blocks.items old.covers.items (Two first second) cover second (omega (arith, k.0, h.count)) ∙ k.1 ∙ sym (ap (λ (c : Cover). c.level.now) at),
     ))
     (record {
       within = five;
       level = e;
-      set = cover-two s1 level (cover_at old.covers.items first).set.0 (cover_at old.covers.items second).set.0 set.0 (rows_of old.blocks.items first) (rows_of old.blocks.items second)
+      set = cover-two s1 level.now (cover_at old.covers.items first).set.0 (cover_at old.covers.items second).set.0 set.0 (rows_of old.blocks.items first) (rows_of old.blocks.items second)
           (subst (λ n. IsCover s1 n (cover_at old.covers.items first).set.0 (rows_of old.blocks.items first)) f.1 (h1.covered first f.0).set)
           (subst (λ n. IsCover s1 n (cover_at old.covers.items second).set.0 (rows_of old.blocks.items second)) k.1 (h1.covered second k.0).set) u;
     })
     a
 
-pub layer_built : (s0 s1 : List Node) (old new : Blocks) (set : NodeId) (level number : ℕ) (runs : Vec Run Global) → Grows s0 s1 → IsBlocks s0 old → level < 5 → FitRuns old level runs.items → RiseApart runs.items →
-    level_of s1 set.0 ≡ level → IsCover s1 level set.0 (rows_of_runs (map (run_by (rows_of old.blocks.items)) runs.items)) →
-    IsAdded old new (Layer runs) (record { level = level; set = set }) number → IsBuilt s0 s1 old new level (rows_of_runs (map (run_by (rows_of old.blocks.items)) runs.items)) number
+pub layer_built : (s0 s1 : List Node) (old new : Blocks) (set : NodeId) (level : Bor (List ℕ)) (number : ℕ) (runs : Vec Run Global) → Grows s0 s1 → IsBlocks s0 old → HasField level.now → FitRuns old level.now runs.items → RiseApart runs.items →
+    level_of s1 set.0 ≡ level.now → IsCover s1 level.now set.0 (rows_of_runs (map (run_by (rows_of old.blocks.items)) runs.items)) →
+    IsAdded old new (Layer runs) (record { level = level; set = set }) number → IsBuilt s0 s1 old new level.now (rows_of_runs (map (run_by (rows_of old.blocks.items)) runs.items)) number
 layer_built s0 s1 old new set level number runs g h five f apart e c a =
     let cover : Cover = record { level = level; set = set } in
     let covers = old.covers.items ++ cover ∷ [] in
     let n = length old.blocks.items in
     added s0 s1 old new (Layer runs) cover number g h
     (λ at. (
-      subst (λ d. d < 5) (sym (ap (λ (c : Cover). c.level) at)) five,
-      subst (λ d. All (FitsRun covers n d) runs.items) (sym (ap (λ (c : Cover). c.level) at))
-          (All-weaker (FitsRun old.covers.items n level) (FitsRun covers n level)
-          (λ r k. fits_run s1 old.blocks.items old.covers.items (Layer runs) cover n level r (omega (arith, h.count)) k) runs.items f),
+      subst HasField (sym (ap (λ (c : Cover). c.level.now) at)) five,
+      subst (λ d. All (FitsRun covers n d) runs.items) (sym (ap (λ (c : Cover). c.level.now) at))
+          (All-weaker (FitsRun old.covers.items n level.now) (FitsRun covers n level.now)
+          (λ r k. fits_run s1 old.blocks.items old.covers.items (Layer runs) cover n level.now r (omega (arith, h.count)) k) runs.items f),
       apart,
     ))
-    (record { within = omega (arith, five); level = e; set = c }) a
+    (record { within = is_level level.now five; level = e; set = c }) a
 
 -- the same of a list whose copy the block holds
-pub layer_of : (s0 s1 : List Node) (old new : Blocks) (set : NodeId) (level number : ℕ) (own : Vec Run Global) (runs : List Run) → own.items ≡ runs → Grows s0 s1 → IsBlocks s0 old → level < 5 → FitRuns old level runs → RiseApart runs →
-    level_of s1 set.0 ≡ level → IsCover s1 level set.0 (rows_of_runs (map (run_by (rows_of old.blocks.items)) runs)) →
-    IsAdded old new (Layer own) (record { level = level; set = set }) number → IsBuilt s0 s1 old new level (rows_of_runs (map (run_by (rows_of old.blocks.items)) runs)) number
+pub layer_of : (s0 s1 : List Node) (old new : Blocks) (set : NodeId) (level : Bor (List ℕ)) (number : ℕ) (own : Vec Run Global) (runs : List Run) → own.items ≡ runs → Grows s0 s1 → IsBlocks s0 old → HasField level.now → FitRuns old level.now runs → RiseApart runs →
+    level_of s1 set.0 ≡ level.now → IsCover s1 level.now set.0 (rows_of_runs (map (run_by (rows_of old.blocks.items)) runs)) →
+    IsAdded old new (Layer own) (record { level = level; set = set }) number → IsBuilt s0 s1 old new level.now (rows_of_runs (map (run_by (rows_of old.blocks.items)) runs)) number
 layer_of s0 s1 old new set level number own runs is g h five f apart e c a =
-    subst (λ rs. IsBuilt s0 s1 old new level (rows_of_runs (map (run_by (rows_of old.blocks.items)) rs)) number) is
-    (layer_built s0 s1 old new set level number own g h five (subst (FitRuns old level) (sym is) f) (subst RiseApart (sym is) apart) e
-    (subst (λ rs. IsCover s1 level set.0 (rows_of_runs (map (run_by (rows_of old.blocks.items)) rs))) (sym is) c) a)
+    subst (λ rs. IsBuilt s0 s1 old new level.now (rows_of_runs (map (run_by (rows_of old.blocks.items)) rs)) number) is
+    (layer_built s0 s1 old new set level number own g h five (subst (FitRuns old level.now) (sym is) f) (subst RiseApart (sym is) apart) e
+    (subst (λ rs. IsCover s1 level.now set.0 (rows_of_runs (map (run_by (rows_of old.blocks.items)) rs))) (sym is) c) a)

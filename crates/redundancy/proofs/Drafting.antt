@@ -6,7 +6,8 @@ use Rattle.std.specs.List.{list_any}
 use Rattle.std.proofs.lemmas.Bool.{cases_lt, le-leb, true≢false}
 use Rattle.std.proofs.lemmas.List.Elements.{All-append, All-map, All-push, All-weaker}
 use Rattle.field_boxes.specs.declared.span.Span.{Span}
-use Rattle.field_boxes.specs.Fields.{greatest_of}
+use Rattle.node_store.specs.Levels.{HasField, IsLevel, next as next_level, top_of}
+use Rattle.node_store.proofs.Canonical.{is_level, is_next}
 use Rattle.field_boxes.specs.Classifier.{Interval, interval_holds}
 use Rattle.field_boxes.specs.Spans.{interval_of}
 use Rattle.field_boxes.proofs.Unions.{holds_between, between, not_below, not_past}
@@ -112,11 +113,11 @@ pub change_more : (changes : List Change) (change : Change) (c : ℕ) → placed
 change_more [] change c = append-nil (placed_in change c)
 change_more (x ∷ changes) change c = ap (λ r. placed_in x c ++ r) (change_more changes change c) ∙ sym (append_assoc (placed_in x c) (placed_for changes c) (placed_in change c))
 
-pub placed_stays : (old new : List Node) (level : ℕ) (ps : List Placed) → level ≤ 5 → Grows old new → PlacedAt old level ps → PlacedAt new level ps
+pub placed_stays : (old new : List Node) (level : List ℕ) (ps : List Placed) → IsLevel level → Grows old new → PlacedAt old level ps → PlacedAt new level ps
 placed_stays old new level ps five g h = All-weaker (λ (p : Placed). level_of old p.to.0 ≡ level) (λ (p : Placed). level_of new p.to.0 ≡ level) (λ p e. number_stays old new p.to.0 level five g e) ps h
 
 -- the pairs at the places of the keys
-pub keys_below : (nodes : List Node) (level : ℕ) (span : Interval) (pairs lower keys : List Pair) (lists : List (SmallVec Stretch)) (places : List ℕ) → span.hi ≤ greatest_of level →
+pub keys_below : (nodes : List Node) (level : List ℕ) (span : Interval) (pairs lower keys : List Pair) (lists : List (SmallVec Stretch)) (places : List ℕ) → span.hi ≤ top_of level →
     AreListed nodes span pairs (length pairs) lower lists → AreDistinct lower keys places → AreBelow nodes level span pairs keys (λ c v. slice_index_or places (stretch_at (stretches_at lists c) v) 0)
 keys_below nodes level span pairs lower keys lists places inside listed distinct =
     once-below nodes level span pairs lower keys (λ c v. stretch_at (stretches_at lists c) v) places
@@ -126,29 +127,29 @@ keys_below nodes level span pairs lower keys lists places inside listed distinct
     })
     distinct
 
-module _ (base old new : List Node) (level : ℕ) (rows more : List Row) (pairs lower keys : List Pair) (next : ℕ) (span : Span) (lists : List (SmallVec Stretch)) (places : List ℕ) (inner : Sifted) (d e : Draft) where
+module _ (base old new : List Node) (level : List ℕ) (rows more : List Row) (pairs lower keys : List Pair) (next : ℕ) (span : Span) (lists : List (SmallVec Stretch)) (places : List ℕ) (inner : Sifted) (d e : Draft) where
   abbrev Runs : List Row
   Runs = rows ++ map (in_front (interval_of span)) more
 
   assembled : (kept : List Bool) (changes : List Change) → e.kept.items ≡ kept → e.changes.items ≡ changes → IsSoFar new level Runs pairs kept (leads_of base pairs changes) →
       All (λ (change : Change). length change.placed.items ≡ length pairs) changes → ((c : ℕ) → c < length pairs → RiseUpTo 0 (suc span.hi) (placed_for changes c)) →
-      ((c : ℕ) → c < length pairs → PlacedAt new (suc level) (placed_for changes c)) → IsDraft base new level Runs pairs (suc span.hi) e
+      ((c : ℕ) → c < length pairs → PlacedAt new (next_level level) (placed_for changes c)) → IsDraft base new level Runs pairs (suc span.hi) e
   assembled kept changes ek ec so room rise children = record {
     so_far = subst (λ flags. IsSoFar new level Runs pairs flags (leads_of base pairs e.changes.items)) (sym ek) (subst (λ cs. IsSoFar new level Runs pairs kept (leads_of base pairs cs)) (sym ec) so);
     room = subst (All (λ (change : Change). length change.placed.items ≡ length pairs)) (sym ec) room;
     rise = λ c less. subst (λ cs. RiseUpTo 0 (suc span.hi) (placed_for cs c)) (sym ec) (rise c less);
-    children = λ c less. subst (λ cs. PlacedAt new (suc level) (placed_for cs c)) (sym ec) (children c less);
+    children = λ c less. subst (λ cs. PlacedAt new (next_level level) (placed_for cs c)) (sym ec) (children c less);
   }
 
   -- all that is known of the run
   pub record IsRun : Type 0 where
-    pub five : level < 5
+    pub five : HasField level
     pub grown : Grows old new
     pub are : ArePairs old level pairs
-    pub inside : span.hi ≤ greatest_of level
+    pub inside : span.hi ≤ top_of level
     pub listed : AreListed old (interval_of span) pairs (length pairs) lower lists
     pub distinct : AreDistinct lower keys places
-    pub sifted : IsSifted new (suc level) more keys inner
+    pub sifted : IsSifted new (next_level level) more keys inner
     pub above : next ≤ span.lo
     pub apart : AreApartFrom (interval_of span) rows
     pub draft : IsDraft base old level rows pairs next d
@@ -158,14 +159,14 @@ module _ (base old new : List Node) (level : ℕ) (rows more : List Row) (pairs 
   to c v = slice_index_or places (stretch_at (stretches_at lists c) v) 0
 
   below_new : IsRun → AreBelow new level (interval_of span) pairs keys to
-  below_new h = below-stays old new level (interval_of span) pairs keys to (let five = h.five in omega (arith, five)) h.grown h.are
+  below_new h = below-stays old new level (interval_of span) pairs keys to (is_level level h.five) h.grown h.are
       (keys_below old level (interval_of span) pairs lower keys lists places h.inside h.listed h.distinct)
 
   so_new : IsRun → IsSoFar new level rows pairs d.kept.items (leads_of base pairs d.changes.items)
   so_new h = so-far-stays old new level rows pairs d.kept.items (leads_of base pairs d.changes.items) h.five h.grown h.are h.draft.so_far
 
-  old_children : IsRun → (c : ℕ) → c < length pairs → PlacedAt new (suc level) (placed_for d.changes.items c)
-  old_children h c less = placed_stays old new (suc level) (placed_for d.changes.items c) (let five = h.five in omega (arith, five)) h.grown (h.draft.children c less)
+  old_children : IsRun → (c : ℕ) → c < length pairs → PlacedAt new (next_level level) (placed_for d.changes.items c)
+  old_children h c less = placed_stays old new (next_level level) (placed_for d.changes.items c) (is_next level h.five) h.grown (h.draft.children c less)
 
   -- where nothing is kept
   none_kept : IsRun → list_any (λ b. b) inner.kept.items ≡ false → IsDraft base new level Runs pairs (suc span.hi) e
@@ -188,10 +189,10 @@ module _ (base old new : List Node) (level : ℕ) (rows more : List Row) (pairs 
       placed_for (After change) c ≡ placed_for d.changes.items c ++ map (placed_by places inner.after.items) (stretches_at lists c)
   placed_is h change is c less = change_more d.changes.items change c ∙ ap (λ ps. placed_for d.changes.items c ++ ps) (own_placed h change is c less)
 
-  own_children : IsRun → (c : ℕ) → c < length pairs → PlacedAt new (suc level) (map (placed_by places inner.after.items) (stretches_at lists c))
+  own_children : IsRun → (c : ℕ) → c < length pairs → PlacedAt new (next_level level) (map (placed_by places inner.after.items) (stretches_at lists c))
   own_children h c less =
-      All-map (λ (p : Placed). level_of new p.to.0 ≡ suc level) (placed_by places inner.after.items) (stretches_at lists c)
-      (All-weaker (λ (s : Stretch). s.place < length lower) (λ (s : Stretch). level_of new (placed_by places inner.after.items s).to.0 ≡ suc level)
+      All-map (λ (p : Placed). level_of new p.to.0 ≡ next_level level) (placed_by places inner.after.items) (stretches_at lists c)
+      (All-weaker (λ (s : Stretch). s.place < length lower) (λ (s : Stretch). level_of new (placed_by places inner.after.items s).to.0 ≡ next_level level)
       (λ s small.
       let k = (h.distinct.each s.place small).0 in
       let n = h.sifted.count in
@@ -229,8 +230,8 @@ module _ (base old new : List Node) (level : ℕ) (rows more : List Row) (pairs 
       (λ c less. subst (λ ps. RiseUpTo 0 (suc span.hi) ps) (sym (placed_is h change is c less))
       (rise_joined 0 span.lo (suc span.hi) (placed_for d.changes.items c) (map (placed_by places inner.after.items) (stretches_at lists c))
       (later_end 0 next span.lo (placed_for d.changes.items c) h.above (h.draft.rise c less)) (rise_of places inner.after.items span.lo span.hi (stretches_at lists c) (h.listed.each c less).fill)))
-      (λ c less. subst (PlacedAt new (suc level)) (sym (placed_is h change is c less))
-      (All-append (λ (p : Placed). level_of new p.to.0 ≡ suc level) (placed_for d.changes.items c) (map (placed_by places inner.after.items) (stretches_at lists c)) (old_children h c less) (own_children h c less)))
+      (λ c less. subst (PlacedAt new (next_level level)) (sym (placed_is h change is c less))
+      (All-append (λ (p : Placed). level_of new p.to.0 ≡ next_level level) (placed_for d.changes.items c) (map (placed_by places inner.after.items) (stretches_at lists c)) (old_children h c less) (own_children h c less)))
 
   by_kept : IsRun → (t : Bool) → list_any (λ b. b) inner.kept.items ≡ t → IsDraft base new level Runs pairs (suc span.hi) e
   by_kept h true some = some_kept h some

@@ -1,6 +1,7 @@
 -- What was kept of a block by its kind.
 use Rattle.std.proofs.Common.{◌≡◌, ◌++◌, ℕ, List, ◌<◌, ◌≤◌, length, ap, arith, sym, ◌∙◌, subst}
 use Rattle.node_store.specs.declared.edge.NodeId.{NodeId}
+use Rattle.node_store.specs.Levels.{IsLevel}
 use Rattle.node_store.specs.Diagram.{Node, level_of}
 use Rattle.node_store.specs.Store.{Grows}
 use Rattle.node_store.proofs.Growth.{twice}
@@ -14,35 +15,35 @@ use Rattle.redundancy.specs.Blocks.{HasCover}
 use Rattle.redundancy.proofs.Numbers.{number_stays}
 use Rattle.redundancy.proofs.BlocksStay.{cover_stays}
 
-pub moved : (nodes : List Node) (level wide : ℕ) (rows others : List Row) (pairs : List Pair) (s : Sifted) → wide ≡ level → others ≡ rows → IsSifted nodes level rows pairs s → IsSifted nodes wide others pairs s
+pub moved : (nodes : List Node) (level wide : List ℕ) (rows others : List Row) (pairs : List Pair) (s : Sifted) → wide ≡ level → others ≡ rows → IsSifted nodes level rows pairs s → IsSifted nodes wide others pairs s
 moved nodes level wide rows others pairs s e k h = subst (λ w. IsSifted nodes w others pairs s) (sym e) (subst (λ rs. IsSifted nodes level rs pairs s) (sym k) h)
 
 -- two blocks, by the stores at which each step was worked out
-pub two_end : (first_store second_store third_store nodes : List Node) (first second : List Row) (pairs behind before behind_now before_now : List Pair) (cover read : Cover) (wide : ℕ) (later earlier s : Sifted) →
-    Grows first_store second_store → Grows second_store third_store → Grows third_store nodes → ArePairs first_store cover.level pairs → HasCover first_store cover first → read ≡ cover → wide ≡ cover.level →
-    behind_now ≡ behind → before_now ≡ before → length behind ≡ length pairs → length before ≡ length pairs → ArePairs second_store read.level behind →
-    ((c : ℕ) → c < length pairs → IsBehind second_store read.level read.set (pair_at pairs c) (pair_at behind c)) →
+pub two_end : (first_store second_store third_store nodes : List Node) (first second : List Row) (pairs behind before behind_now before_now : List Pair) (cover read : Cover) (wide : List ℕ) (later earlier s : Sifted) →
+    Grows first_store second_store → Grows second_store third_store → Grows third_store nodes → ArePairs first_store cover.level.now pairs → HasCover first_store cover first → read ≡ cover → wide ≡ cover.level.now →
+    behind_now ≡ behind → before_now ≡ before → length behind ≡ length pairs → length before ≡ length pairs → ArePairs second_store read.level.now behind →
+    ((c : ℕ) → c < length pairs → IsBehind second_store read.level.now read.set (pair_at pairs c) (pair_at behind c)) →
     ((c : ℕ) → c < length pairs → (pair_at before c).after ≡ node_at later.after.items c) → ((c : ℕ) → c < length pairs → (pair_at before c).met ≡ (pair_at pairs c).met) →
-    IsSifted third_store wide second behind_now later → IsSifted nodes cover.level first before_now earlier →
-    s.kept.items ≡ earlier.kept.items ++ later.kept.items → s.after.items ≡ earlier.after.items → IsSifted nodes cover.level (first ++ second) pairs s
+    IsSifted third_store wide second behind_now later → IsSifted nodes cover.level.now first before_now earlier →
+    s.kept.items ≡ earlier.kept.items ++ later.kept.items → s.after.items ≡ earlier.after.items → IsSifted nodes cover.level.now (first ++ second) pairs s
 two_end s0 s1 s2 nodes first second pairs behind before behind_now before_now cover read wide later earlier s g h k are covers is same bn wn cb cw so each after_is met_is l e kept after =
     let five = covers.within in
     let late = twice s1 s2 nodes h k in
-    let behind_in : ArePairs s1 cover.level behind = subst (λ (r : Cover). ArePairs s1 r.level behind) is so in
-    two-sifted nodes cover.level first second pairs behind before cover.set later earlier s (cover_stays s0 nodes cover first (twice s0 s1 nodes g late) covers).set cb cw
+    let behind_in : ArePairs s1 cover.level.now behind = subst (λ (r : Cover). ArePairs s1 r.level.now behind) is so in
+    two-sifted nodes cover.level.now first second pairs behind before cover.set later earlier s (cover_stays s0 nodes cover first (twice s0 s1 nodes g late) covers).set cb cw
     (λ c less.
-    let b : IsBehind s1 cover.level cover.set (pair_at pairs c) (pair_at behind c) = subst (λ (r : Cover). IsBehind s1 r.level r.set (pair_at pairs c) (pair_at behind c)) is (each c less) in (
+    let b : IsBehind s1 cover.level.now cover.set (pair_at pairs c) (pair_at behind c) = subst (λ (r : Cover). IsBehind s1 r.level.now r.set (pair_at pairs c) (pair_at behind c)) is (each c less) in (
       b.0,
-      union-stays s1 nodes cover.level (pair_at pairs c).met.0 cover.set.0 (pair_at behind c).met.0 five late (number_stays s0 s1 _ cover.level five g (are c less).1) (number_stays s0 s1 _ cover.level five g covers.level)
+      union-stays s1 nodes cover.level.now (pair_at pairs c).met.0 cover.set.0 (pair_at behind c).met.0 five late (number_stays s0 s1 _ cover.level.now five g (are c less).1) (number_stays s0 s1 _ cover.level.now five g covers.level)
           (behind_in c (omega (arith, less, cb))).1 b.1,
     ))
     after_is met_is
-    (sifted-stays s2 nodes cover.level second behind later five k (pairs-stay s1 s2 cover.level behind five h behind_in)
+    (sifted-stays s2 nodes cover.level.now second behind later five k (pairs-stay s1 s2 cover.level.now behind five h behind_in)
     (subst (λ w. IsSifted s2 w second behind later) same (subst (λ ps. IsSifted s2 wide second ps later) bn l)))
-    (subst (λ ps. IsSifted nodes cover.level first ps earlier) wn e) kept after
+    (subst (λ ps. IsSifted nodes cover.level.now first ps earlier) wn e) kept after
 
 -- contexts before answers
-pub before_pairs : (old nodes : List Node) (level wide : ℕ) (pairs before before_now : List Pair) (answers : List NodeId) (later : Sifted) → level ≤ 5 → Grows old nodes → ArePairs old level pairs → wide ≡ level →
+pub before_pairs : (old nodes : List Node) (level wide : List ℕ) (pairs before before_now : List Pair) (answers : List NodeId) (later : Sifted) → IsLevel level → Grows old nodes → ArePairs old level pairs → wide ≡ level →
     AreNodes nodes wide later.after.items → length later.after.items ≡ length pairs → answers ≡ later.after.items → length before ≡ length pairs → ((c : ℕ) → c < length pairs → (pair_at before c).after ≡ node_at answers c) →
     ((c : ℕ) → c < length pairs → (pair_at before c).met ≡ (pair_at pairs c).met) → before_now ≡ before → ArePairs nodes level before_now
 before_pairs old nodes level wide pairs before before_now answers later five g are same numbers count an cb after_is met_is bn =

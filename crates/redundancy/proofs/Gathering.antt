@@ -7,7 +7,7 @@ use Rattle.std.proofs.lemmas.List.{length-append}
 use Rattle.std.proofs.lemmas.List.Concat.{flat_map-append}
 use Rattle.std.specs.List.{flat_map}
 use Rattle.std.proofs.lemmas.Option.{slice_get_within}
-use Rattle.field_boxes.specs.Fields.{greatest_of}
+use Rattle.node_store.specs.Levels.{next as next_level, top_of}
 use Rattle.field_boxes.specs.Spans.{interval_of}
 use Rattle.node_store.specs.Diagram.{Node}
 use Rattle.node_store.specs.Store.{Grows}
@@ -37,7 +37,7 @@ lists_then b0 b1 b2 l0 l1 l2 f g = record {
   stay = λ other b. g.stay other (before_more (length l0.links.keys) (length l1.links.keys) other f.count b) ∙ f.stay other b;
 }
 
-pub built_grows : (s0 s1 : List Node) (b0 b1 : Blocks) (level number : ℕ) (rows : List Row) → IsBuilt s0 s1 b0 b1 level rows number → BlocksGrow s0 s1 b0 b1
+pub built_grows : (s0 s1 : List Node) (b0 b1 : Blocks) (level : List ℕ) (number : ℕ) (rows : List Row) → IsBuilt s0 s1 b0 b1 level rows number → BlocksGrow s0 s1 b0 b1
 built_grows s0 s1 b0 b1 level number rows h = record { grows = h.grows; blocks = h.blocks; count = h.count; rows_stay = h.rows_stay; covers_stay = h.covers_stay }
 
 pub blocks_then : (s0 s1 s2 : List Node) (b0 b1 b2 : Blocks) → BlocksGrow s0 s1 b0 b1 → BlocksGrow s1 s2 b1 b2 → BlocksGrow s0 s2 b0 b2
@@ -99,11 +99,11 @@ runs_agree rows others (r ∷ runs) h =
     ap (λ (rs : List Row). map (in_front (interval_of r.span)) rs ++ rows_of_runs (map (run_by others) runs)) (h 0 r (omega arith))
     ∙ ap (λ (rs : List Row). map (in_front (interval_of r.span)) (rows r.block) ++ rs) (runs_agree rows others runs (λ k d less. h (suc k) d (omega (arith, less))))
 
-leads_stay : (s0 s1 : List Node) (b0 b1 : Blocks) (level : ℕ) (runs : List Run) → BlocksGrow s0 s1 b0 b1 → FitRuns b0 level runs → FitRuns b1 level runs
+leads_stay : (s0 s1 : List Node) (b0 b1 : Blocks) (level : List ℕ) (runs : List Run) → BlocksGrow s0 s1 b0 b1 → FitRuns b0 level runs → FitRuns b1 level runs
 leads_stay s0 s1 b0 b1 level runs g h k d less =
     let l = h k d less in
     let older = l.older in
-    record { older = omega (arith, older, g.count); level = ap (λ c. c.level) (g.covers_stay _ older) ∙ l.level; inside = l.inside }
+    record { older = omega (arith, older, g.count); level = ap (λ c. c.level.now) (g.covers_stay _ older) ∙ l.level; inside = l.inside }
 
 old_item : {X : Type 0} (d : X) (xs ys : List X) (c : ℕ) → c < length xs → get_or (xs ++ ys) c d ≡ get_or xs c d
 old_item d [] ys c h = absurd (omega (arith, h))
@@ -118,15 +118,15 @@ all_more P xs x h here k d less = elim (cases_lt k (length xs)) [
       subst (λ n. P (get_or (xs ++ x ∷ []) n d)) (sym is) (subst P (sym (get_or-append_seam xs x [] d)) here)
 ]
 
-pub gathered_none : (s : List Node) (b : Blocks) (lists : Lists) (level : ℕ) → IsBlocks s b → AreLists b lists → AreGathered s s b b lists lists level [] None []
+pub gathered_none : (s : List Node) (b : Blocks) (lists : Lists) (level : List ℕ) → IsBlocks s b → AreLists b lists → AreGathered s s b b lists lists level [] None []
 gathered_none s b lists level blocks h =
     let none = none_listed b lists h in
     record { blocks = blocks_same s b blocks; lists_grow = listed_grows b lists lists [] None none; within = tt; list_is = none.rows_are; runs_are = refl; leads = λ k d less. absurd (omega (arith, less)) }
 
-pub gathered_more : (s0 s1 s2 : List Node) (b0 b1 b2 : Blocks) (l0 l1 l2 l3 : Lists) (level next : ℕ) (done rows : List Row) (list : Option ℕ) (place : ℕ) (runs more : List Run) (run : Run) (piece : Piece) → next ≡ suc level →
+pub gathered_more : (s0 s1 s2 : List Node) (b0 b1 b2 : Blocks) (l0 l1 l2 l3 : Lists) (level next : List ℕ) (done rows : List Row) (list : Option ℕ) (place : ℕ) (runs more : List Run) (run : Run) (piece : Piece) → next ≡ next_level level →
     AreGathered s0 s1 b0 b1 l0 l1 level done list runs → IsBuilt s1 s2 b1 b2 next rows run.block → ListsGrow b1 b2 l1 l2 →
     IsListed b2 l2 l3 (list_rows (rows_of b2.blocks.items) l2.links.keys list ++ item_rows (rows_of b2.blocks.items) (Behind piece)) (Some place) →
-    interval_of_piece piece ≡ interval_of run.span → piece.block ≡ run.block → run.span.hi ≤ greatest_of level → more ≡ runs ++ run ∷ [] →
+    interval_of_piece piece ≡ interval_of run.span → piece.block ≡ run.block → run.span.hi ≤ top_of level → more ≡ runs ++ run ∷ [] →
     AreGathered s0 s2 b0 b2 l0 l3 level (done ++ map (in_front (interval_of run.span)) rows) (Some place) more
 gathered_more s0 s1 s2 b0 b1 b2 l0 l1 l2 l3 level next done rows list place runs more run piece one g built lists listed span block inside to =
     let grown = built_grows s1 s2 b1 b2 next run.block rows built in
@@ -152,21 +152,21 @@ some_runs rows [] done e some = absurd (omega (arith, some, ap length e))
 some_runs rows (r ∷ runs) done e some = omega arith
 
 -- the list has its block
-pub list_known : (s0 s1 : List Node) (b0 b1 : Blocks) (l0 l1 : Lists) (level : ℕ) (done : List Row) (list : Option ℕ) (runs : List Run) (number : ℕ) → AreGathered s0 s1 b0 b1 l0 l1 level done list runs →
-    number < length b1.blocks.items → (cover_at b1.covers.items number).level ≡ level → rows_of b1.blocks.items number ≡ list_rows (rows_of b1.blocks.items) l1.links.keys list → IsBuilt s0 s1 b0 b1 level done number
+pub list_known : (s0 s1 : List Node) (b0 b1 : Blocks) (l0 l1 : Lists) (level : List ℕ) (done : List Row) (list : Option ℕ) (runs : List Run) (number : ℕ) → AreGathered s0 s1 b0 b1 l0 l1 level done list runs →
+    number < length b1.blocks.items → (cover_at b1.covers.items number).level.now ≡ level → rows_of b1.blocks.items number ≡ list_rows (rows_of b1.blocks.items) l1.links.keys list → IsBuilt s0 s1 b0 b1 level done number
 list_known s0 s1 b0 b1 l0 l1 level done list runs number g within at rows =
     let b = g.blocks in
     record { grows = b.grows; blocks = b.blocks; count = b.count; rows_stay = b.rows_stay; covers_stay = b.covers_stay; number_in = within; level_is = at; rows_are = rows ∙ g.list_is }
 
 -- the block of the runs was made
-pub list_made : (s0 s1 s2 : List Node) (b0 b1 b2 : Blocks) (l0 l1 : Lists) (level : ℕ) (done : List Row) (list : Option ℕ) (runs : List Run) (number : ℕ) → AreGathered s0 s1 b0 b1 l0 l1 level done list runs →
+pub list_made : (s0 s1 s2 : List Node) (b0 b1 b2 : Blocks) (l0 l1 : Lists) (level : List ℕ) (done : List Row) (list : Option ℕ) (runs : List Run) (number : ℕ) → AreGathered s0 s1 b0 b1 l0 l1 level done list runs →
     IsBuilt s1 s2 b1 b2 level (rows_of_runs (map (run_by (rows_of b1.blocks.items)) runs)) number → IsBuilt s0 s2 b0 b2 level done number
 list_made s0 s1 s2 b0 b1 b2 l0 l1 level done list runs number g built =
     let b = blocks_then s0 s1 s2 b0 b1 b2 g.blocks (built_grows s1 s2 b1 b2 level number _ built) in
     record { grows = b.grows; blocks = b.blocks; count = b.count; rows_stay = b.rows_stay; covers_stay = b.covers_stay; number_in = built.number_in; level_is = built.level_is; rows_are = built.rows_are ∙ g.runs_are }
 
 -- the same of the lists, where the block is kept of the list
-pub list_kept : (s0 s1 s2 : List Node) (b0 b1 b2 : Blocks) (l0 l1 l2 : Lists) (level : ℕ) (done rows : List Row) (list : Option ℕ) (number : ℕ) → ListsGrow b0 b1 l0 l1 → IsBefore (length l1.links.keys) list →
+pub list_kept : (s0 s1 s2 : List Node) (b0 b1 b2 : Blocks) (l0 l1 l2 : Lists) (level : List ℕ) (done rows : List Row) (list : Option ℕ) (number : ℕ) → ListsGrow b0 b1 l0 l1 → IsBefore (length l1.links.keys) list →
     list_rows (rows_of b1.blocks.items) l1.links.keys list ≡ done → IsBuilt s1 s2 b1 b2 level rows number → rows ≡ done →
     ((blocks : Blocks) → AreLists blocks l1 → IsBefore (length l1.links.keys) list → number < length blocks.blocks.items → rows_of blocks.blocks.items number ≡ list_rows (rows_of blocks.blocks.items) l1.links.keys list → ListsGrow blocks blocks l1 l2) →
     ListsGrow b0 b2 l0 l2
@@ -192,26 +192,26 @@ map_next f xs i x y less is e =
     ap (λ n. map f (take n xs)) one ∙ ap (map f) (take-suc xs i x less) ∙ map-append f (take i xs) (get_or xs i x ∷ []) ∙ ap (λ z. map f (take i xs) ++ z ∷ []) (ap f (sym is) ∙ e)
 
 -- no entry yet
-pub none_built : (s : List Node) (b : Blocks) (level : ℕ) → IsBlocks s b → AreBuilt s s b b level [] []
+pub none_built : (s : List Node) (b : Blocks) (level : List ℕ) → IsBlocks s b → AreBuilt s s b b level [] []
 none_built s b level h = record { grows = grows_same s; blocks = h; count = omega arith; rows_stay = λ k less. refl; covers_stay = λ k less. refl; numbers_in = λ k d less. absurd (omega (arith, less)); rows_are = refl }
 
 -- the block of one more entry
-pub lasts_step : (s : List Node) (b0 b1 b2 : Blocks) (rows : List Row) (row : Row) (numbers more : List ℕ) (number : ℕ) → AreBuilt s s b0 b1 5 rows numbers → IsBuilt s s b1 b2 5 (row ∷ []) number → more ≡ numbers ++ number ∷ [] →
-    AreBuilt s s b0 b2 5 (rows ++ row ∷ []) more
+pub lasts_step : (s : List Node) (b0 b1 b2 : Blocks) (rows : List Row) (row : Row) (numbers more : List ℕ) (number : ℕ) → AreBuilt s s b0 b1 [] rows numbers → IsBuilt s s b1 b2 [] (row ∷ []) number → more ≡ numbers ++ number ∷ [] →
+    AreBuilt s s b0 b2 [] (rows ++ row ∷ []) more
 lasts_step s b0 b1 b2 rows row numbers more number h g em = record {
   grows = grows_same s;
   blocks = g.blocks;
   count = omega (arith, h.count, g.count);
   rows_stay = λ k less. g.rows_stay k (omega (arith, h.count, less)) ∙ h.rows_stay k less;
   covers_stay = λ k less. g.covers_stay k (omega (arith, h.count, less)) ∙ h.covers_stay k less;
-  numbers_in = subst (StandAt b2 5) (sym em) (all_more (StandsAt b2 5) numbers number (stand b1 b2 g.count g.covers_stay 5 numbers h.numbers_in) (g.number_in, g.level_is));
+  numbers_in = subst (StandAt b2 []) (sym em) (all_more (StandsAt b2 []) numbers number (stand b1 b2 g.count g.covers_stay [] numbers h.numbers_in) (g.number_in, g.level_is));
   rows_are = ap (flat_map (rows_of b2.blocks.items)) em ∙ flat_map-append (rows_of b2.blocks.items) numbers (number ∷ [])
-      ∙ ap (λ (rs : List Row). rs ++ (rows_of b2.blocks.items number ++ [])) (flat_stays b1 b2 g.rows_stay 5 numbers h.numbers_in ∙ h.rows_are)
+      ∙ ap (λ (rs : List Row). rs ++ (rows_of b2.blocks.items number ++ [])) (flat_stays b1 b2 g.rows_stay [] numbers h.numbers_in ∙ h.rows_are)
       ∙ ap (λ (rs : List Row). rows ++ rs) (nil-right (rows_of b2.blocks.items number) ∙ g.rows_are);
 }
 
 -- the block of them all
-pub numbers_built : (s0 s1 s2 : List Node) (b0 b1 b2 : Blocks) (level : ℕ) (rows : List Row) (numbers : List ℕ) (number : ℕ) → AreBuilt s0 s1 b0 b1 level rows numbers →
+pub numbers_built : (s0 s1 s2 : List Node) (b0 b1 b2 : Blocks) (level : List ℕ) (rows : List Row) (numbers : List ℕ) (number : ℕ) → AreBuilt s0 s1 b0 b1 level rows numbers →
     IsBuilt s1 s2 b1 b2 level (flat_map (rows_of b1.blocks.items) numbers) number → IsBuilt s0 s2 b0 b2 level rows number
 numbers_built s0 s1 s2 b0 b1 b2 level rows numbers number h g = record {
   grows = growth.twice s0 s1 s2 h.grows g.grows;
@@ -222,4 +222,17 @@ numbers_built s0 s1 s2 b0 b1 b2 level rows numbers number h g = record {
   number_in = g.number_in;
   level_is = g.level_is;
   rows_are = g.rows_are ∙ h.rows_are;
+}
+
+-- the same over a store that grew before
+pub grown_built : (s0 s1 s2 : List Node) (b0 b1 : Blocks) (level : List ℕ) (rows : List Row) (number : ℕ) → Grows s0 s1 → IsBuilt s1 s2 b0 b1 level rows number → IsBuilt s0 s2 b0 b1 level rows number
+grown_built s0 s1 s2 b0 b1 level rows number g h = record {
+  grows = growth.twice s0 s1 s2 g h.grows;
+  blocks = h.blocks;
+  count = h.count;
+  rows_stay = h.rows_stay;
+  covers_stay = h.covers_stay;
+  number_in = h.number_in;
+  level_is = h.level_is;
+  rows_are = h.rows_are;
 }

@@ -6,12 +6,12 @@ use Rattle.std.proofs.lemmas.List.{get_or_default}
 use Rattle.std.proofs.lemmas.List.Folds.{list_any-append}
 use Rattle.std.proofs.lemmas.List.Elements.{All-head, All-tail, All-map, All-weaker}
 use Rattle.field_boxes.specs.Classifier.{interval_holds}
-use Rattle.field_boxes.specs.Fields.{greatest_of}
+use Rattle.field_boxes.specs.Fields.{AreValues}
+use Rattle.node_store.specs.Levels.{HasField, next as next_level, top_of}
 use Rattle.field_boxes.specs.Spans.{interval_of}
 use Rattle.node_store.specs.declared.edge.Edge.{Edge}
 use Rattle.node_store.specs.Edges.{child_of}
 use Rattle.node_store.specs.Diagram.{Node, answer, edges_of, level_of}
-use Rattle.node_store.specs.Store.{AreValuesFrom}
 use Rattle.node_store.proofs.Values.{each, values_from}
 use Rattle.field_sets.specs.Placed.{PlacedAt, RiseFrom, led, placed_at}
 use Rattle.field_sift.specs.Rows.{Row, in_front, matches}
@@ -47,7 +47,7 @@ rise_more runs (suc k) x y some h a less =
     subst (λ n. RiseApart (take n runs)) one (rise_from (λ block. []) 0 runs k x h a (omega (arith, less, ap (λ (r : Run). r.span.hi) at)))
 
 -- the runs with the sets of their blocks
-rise_at : (covers : List Cover) (n level least : ℕ) (runs : List Run) → AreApart least (map (run_by (λ block. [])) runs) → All (FitsRun covers n level) runs → RiseFrom least (greatest_of level) (map (placed_by covers) runs)
+rise_at : (covers : List Cover) (n : ℕ) (level : List ℕ) (least : ℕ) (runs : List Run) → AreApart least (map (run_by (λ block. [])) runs) → All (FitsRun covers n level) runs → RiseFrom least (top_of level) (map (placed_by covers) runs)
 rise_at covers n level least [] a f = tt
 rise_at covers n level least (r ∷ runs) a f = (
   a.0,
@@ -56,16 +56,16 @@ rise_at covers n level least (r ∷ runs) a f = (
       (let one : r.span.hi + 1 ≡ suc r.span.hi = omega arith in subst (λ m. AreApart m (map (run_by (λ block. [])) runs)) one a.2) (All-tail (FitsRun covers n level) r runs f),
 )
 
-pub placed_rise : (b : Blocks) (level : ℕ) (runs : List Run) → RiseApart runs → FitRuns b level runs → RiseFrom 0 (greatest_of level) (map (placed_by b.covers.items) runs)
+pub placed_rise : (b : Blocks) (level : List ℕ) (runs : List Run) → RiseApart runs → FitRuns b level runs → RiseFrom 0 (top_of level) (map (placed_by b.covers.items) runs)
 placed_rise b level runs a f = rise_at b.covers.items (length b.blocks.items) level 0 runs a f
 
-pub placed_stand : (nodes : List Node) (b : Blocks) (level : ℕ) (runs : List Run) → IsBlocks nodes b → FitRuns b level runs → PlacedAt nodes (suc level) (map (placed_by b.covers.items) runs)
+pub placed_stand : (nodes : List Node) (b : Blocks) (level : List ℕ) (runs : List Run) → IsBlocks nodes b → FitRuns b level runs → PlacedAt nodes (next_level level) (map (placed_by b.covers.items) runs)
 placed_stand nodes b level runs h f =
-    All-map (λ p. level_of nodes p.to.0 ≡ suc level) (placed_by b.covers.items) runs
-    (All-weaker (FitsRun b.covers.items (length b.blocks.items) level) (λ (r : Run). level_of nodes (cover_at b.covers.items r.block).set.0 ≡ suc level)
+    All-map (λ p. level_of nodes p.to.0 ≡ next_level level) (placed_by b.covers.items) runs
+    (All-weaker (FitsRun b.covers.items (length b.blocks.items) level) (λ (r : Run). level_of nodes (cover_at b.covers.items r.block).set.0 ≡ next_level level)
     (λ r k. (h.covered r.block k.older).level ∙ k.level) runs f)
 
-module _ (nodes : List Node) (b : Blocks) (level : ℕ) (edges : List Edge) (v : ℕ) (values : List ℕ) where
+module _ (nodes : List Node) (b : Blocks) (level : List ℕ) (edges : List Edge) (v : ℕ) (values : List ℕ) where
   abbrev rows : ℕ → List Row
   rows = rows_of b.blocks.items
 
@@ -101,19 +101,19 @@ module _ (nodes : List Node) (b : Blocks) (level : ℕ) (edges : List Edge) (v :
       ∙ sym (parted r runs
       ∙ none_or (list_any (matches (v ∷ values)) (map (in_front (interval_of r.span)) (rows r.block))) (covered runs) (behind-none v values (interval_of r.span) (rows r.block) is))
 
-  led_covers : (least : ℕ) (runs : List Run) → IsBlocks nodes b → FitRuns b level runs → AreApart least (map (run_by rows) runs) → AreValuesFrom (suc level) values → is_in nodes (child_of edges v) values ≡ false →
+  led_covers : (least : ℕ) (runs : List Run) → IsBlocks nodes b → FitRuns b level runs → AreApart least (map (run_by rows) runs) → AreValues (next_level level) values → is_in nodes (child_of edges v) values ≡ false →
       is_in nodes (led (map (placed_by b.covers.items) runs) edges v) values ≡ covered runs
   led_covers least [] h f a ok none = none
   led_covers least (r ∷ runs) h f a ok none =
       let k = All-head (FitsRun b.covers.items (length b.blocks.items) level) r runs f in
       by_test r runs (interval_holds v (interval_of r.span)) refl a.2
-      ((h.covered r.block k.older).set values (subst (λ n. AreValuesFrom n values) (sym k.level) ok))
+      ((h.covered r.block k.older).set values (subst (λ n. AreValues n values) (sym k.level) ok))
       (led_covers (r.span.hi + 1) runs h (All-tail (FitsRun b.covers.items (length b.blocks.items) level) r runs f) a.2 ok none)
 
 -- the node that leads to the sets of the runs' blocks, and elsewhere to nothing
-pub laid_covers : (old new : List Node) (b : Blocks) (level none set : ℕ) (runs : List Run) → level < 5 → IsBlocks old b → FitRuns b level runs → RiseApart runs →
-    ((values : List ℕ) → AreValuesFrom level values → answer old none values ≡ 0) →
-    ((v : ℕ) (values : List ℕ) → v ≤ greatest_of level → answer new set (v ∷ values) ≡ answer old (led (map (placed_by b.covers.items) runs) (edges_of old none) v) values) →
+pub laid_covers : (old new : List Node) (b : Blocks) (level : List ℕ) (none set : ℕ) (runs : List Run) → HasField level → IsBlocks old b → FitRuns b level runs → RiseApart runs →
+    ((values : List ℕ) → AreValues level values → answer old none values ≡ 0) →
+    ((v : ℕ) (values : List ℕ) → v ≤ top_of level → answer new set (v ∷ values) ≡ answer old (led (map (placed_by b.covers.items) runs) (edges_of old none) v) values) →
     IsCover new level set (rows_of_runs (map (run_by (rows_of b.blocks.items)) runs))
 laid_covers old new b level none set runs five h f a empty answers =
     each (λ values. is_in new set values ≡ list_any (matches values) (rows_of_runs (map (run_by (rows_of b.blocks.items)) runs))) level five

@@ -5,7 +5,8 @@ use Rattle.std.proofs.Math.Seq.{take-length}
 use Rattle.std.proofs.lemmas.List.{length-map}
 use Rattle.std.proofs.lemmas.Option.{slice_get-map}
 use Rattle.std.proofs.lemmas.List.Elements.{All-head, All-tail, All-nil}
-use Rattle.field_boxes.specs.Fields.{greatest_of}
+use Rattle.node_store.specs.Levels.{HasField, next as next_level, top_of}
+use Rattle.node_store.proofs.Canonical.{is_level, is_next}
 use Rattle.field_boxes.specs.Spans.{interval_of}
 use Rattle.node_store.specs.declared.edge.NodeId.{NodeId}
 use Rattle.node_store.specs.Diagram.{Node, answer, level_of, edges_of}
@@ -50,7 +51,7 @@ module _ (rows : ℕ → List Row) (runs : List Run) (k : ℕ) (r : Run) where
   pub apart_front : RiseApart runs → slice_get runs k ≡ Some r → AreApartFrom (interval_of r.span) (rows_of_runs Front)
   apart_front apart e = apart-from 0 (map (run_by rows) runs) k (run_by rows r) (apart_by (λ block. []) rows 0 runs apart) (run_there e)
 
-  pub draft_next : (base new : List Node) (level : ℕ) (pairs : List Pair) (d : Draft) → RiseApart runs → slice_get runs k ≡ Some r →
+  pub draft_next : (base new : List Node) (level : List ℕ) (pairs : List Pair) (d : Draft) → RiseApart runs → slice_get runs k ≡ Some r →
       IsDraft base new level (rows_of_runs Front ++ map (in_front (interval_of r.span)) (rows r.block)) pairs (suc r.span.hi) d →
       IsDraft base new level (rows_of_runs (take (k + 1) (map (run_by rows) runs))) pairs (end_of 0 (take (k + 1) (map (run_by rows) runs))) d
   draft_next base new level pairs d apart e h =
@@ -63,60 +64,60 @@ module _ (rows : ℕ → List Row) (runs : List Run) (k : ℕ) (r : Run) where
       (subst (λ rs. IsDraft base new level rs pairs (suc r.span.hi) d) (sym more) h))
 
 -- no run was taken in
-pub draft_start : (nodes : List Node) (level : ℕ) (pairs : List Pair) (d : Draft) → IsStore nodes → level < 5 → ArePairs nodes level pairs → d.kept.items ≡ [] → d.changes.items ≡ [] → IsDraft nodes nodes level [] pairs 0 d
+pub draft_start : (nodes : List Node) (level : List ℕ) (pairs : List Pair) (d : Draft) → IsStore nodes → HasField level → ArePairs nodes level pairs → d.kept.items ≡ [] → d.changes.items ≡ [] → IsDraft nodes nodes level [] pairs 0 d
 draft_start nodes level pairs d store five are ek ec = record {
   so_far = subst (λ flags. IsSoFar nodes level [] pairs flags (leads_of nodes pairs d.changes.items)) (sym ek) (subst (λ cs. IsSoFar nodes level [] pairs [] (leads_of nodes pairs cs)) (sym ec) (none-so-far nodes level pairs store five are));
   room = subst (All (λ (change : Change). length change.placed.items ≡ length pairs)) (sym ec) (All-nil (λ (change : Change). length change.placed.items ≡ length pairs));
   rise = λ c less. subst (λ cs. RiseUpTo 0 0 (placed_for cs c)) (sym ec) (omega arith);
-  children = λ c less. subst (λ cs. All (λ p. level_of nodes p.to.0 ≡ suc level) (placed_for cs c)) (sym ec) (All-nil (λ p. level_of nodes p.to.0 ≡ suc level));
+  children = λ c less. subst (λ cs. All (λ p. level_of nodes p.to.0 ≡ next_level level) (placed_for cs c)) (sym ec) (All-nil (λ p. level_of nodes p.to.0 ≡ next_level level));
 }
 
 -- all runs end inside the field
-pub end_inside : (covers : List Cover) (number level least : ℕ) (rows : ℕ → List Row) (runs : List Run) → least ≤ suc (greatest_of level) → All (FitsRun covers number level) runs → end_of least (map (run_by rows) runs) ≤ suc (greatest_of level)
+pub end_inside : (covers : List Cover) (number : ℕ) (level : List ℕ) (least : ℕ) (rows : ℕ → List Row) (runs : List Run) → least ≤ suc (top_of level) → All (FitsRun covers number level) runs → end_of least (map (run_by rows) runs) ≤ suc (top_of level)
 end_inside covers number level least rows [] le all = le
 end_inside covers number level least rows (r ∷ runs) le all =
     let inside = (All-head (FitsRun covers number level) r runs all).inside in
     end_inside covers number level (r.span.hi + 1) rows runs (omega (arith, inside)) (All-tail (FitsRun covers number level) r runs all)
 
-module _ (base now : List Node) (level : ℕ) (pairs : List Pair) (changes : List Change) where
+module _ (base now : List Node) (level : List ℕ) (pairs : List Pair) (changes : List Change) where
   -- contexts lead as they did
-  leads_same : level < 5 → Grows base now → ArePairs base level pairs → (c v : ℕ) → c < length pairs → leads_of now pairs changes c v ≡ leads_of base pairs changes c v
-  leads_same five g are c v less = ap (λ es. led (placed_for changes c) es v) (edges_stay base now (pair_at pairs c).after.0 level (omega (arith, five)) g (are c less).0)
+  leads_same : HasField level → Grows base now → ArePairs base level pairs → (c v : ℕ) → c < length pairs → leads_of now pairs changes c v ≡ leads_of base pairs changes c v
+  leads_same five g are c v less = ap (λ es. led (placed_for changes c) es v) (edges_stay base now (pair_at pairs c).after.0 level (is_level level five) g (are c less).0)
 
-  pub numbers_now : (rows : List Row) (d : Draft) (next : ℕ) → level < 5 → Grows base now → ArePairs base level pairs → d.changes.items ≡ changes → IsDraft base now level rows pairs next d →
-      (c v : ℕ) → c < length pairs → v ≤ greatest_of level → level_of now (leads_of now pairs changes c v) ≡ suc level
+  pub numbers_now : (rows : List Row) (d : Draft) (next : ℕ) → HasField level → Grows base now → ArePairs base level pairs → d.changes.items ≡ changes → IsDraft base now level rows pairs next d →
+      (c v : ℕ) → c < length pairs → v ≤ top_of level → level_of now (leads_of now pairs changes c v) ≡ next_level level
   numbers_now rows d next five g are ec draft c v less small =
       ap (level_of now) (leads_same five g are c v less ∙ sym (ap (λ cs. leads_of base pairs cs c v) ec)) ∙ draft.so_far.numbers c v less small
 
-  pub changes_now : (rows : List Row) (d : Draft) (next : ℕ) → next ≤ suc (greatest_of level) → d.changes.items ≡ changes → IsDraft base now level rows pairs next d → AreChanges now level (length pairs) changes
+  pub changes_now : (rows : List Row) (d : Draft) (next : ℕ) → next ≤ suc (top_of level) → d.changes.items ≡ changes → IsDraft base now level rows pairs next d → AreChanges now level (length pairs) changes
   changes_now rows d next le ec draft =
       subst (AreChanges now level (length pairs)) ec
       (record {
         room = draft.room;
-        rise = λ c less. rise_inside 0 (greatest_of level) (placed_for d.changes.items c) (later_end 0 next (suc (greatest_of level)) (placed_for d.changes.items c) le (draft.rise c less));
+        rise = λ c less. rise_inside 0 (top_of level) (placed_for d.changes.items c) (later_end 0 next (suc (top_of level)) (placed_for d.changes.items c) le (draft.rise c less));
         children = draft.children;
       })
 
   -- a context's node leads as the changes say
-  pub finished_next : (new : List Node) (c : ℕ) (placed : List Placed) (id : NodeId) → level < 5 → Grows base now → Grows now new → ArePairs base level pairs → c < length pairs →
-      placed ≡ placed_for changes c → ((k v : ℕ) → k < length pairs → v ≤ greatest_of level → level_of base (leads_of base pairs changes k v) ≡ suc level) → level_of new id.0 ≡ level →
-      ((v : ℕ) (values : List ℕ) → v ≤ greatest_of level → answer new id.0 (v ∷ values) ≡ answer now (led placed (edges_of now (pair_at pairs c).after.0) v) values) →
+  pub finished_next : (new : List Node) (c : ℕ) (placed : List Placed) (id : NodeId) → HasField level → Grows base now → Grows now new → ArePairs base level pairs → c < length pairs →
+      placed ≡ placed_for changes c → ((k v : ℕ) → k < length pairs → v ≤ top_of level → level_of base (leads_of base pairs changes k v) ≡ next_level level) → level_of new id.0 ≡ level →
+      ((v : ℕ) (values : List ℕ) → v ≤ top_of level → answer new id.0 (v ∷ values) ≡ answer now (led placed (edges_of now (pair_at pairs c).after.0) v) values) →
       LeadsAs new level (leads_of base pairs changes) c id
   finished_next new c placed id five first g are less is numbers number answers =
-      made now new level (leads_of base pairs changes) c id five g (λ v small. number_stays base now _ (suc level) (omega (arith, five)) first (numbers c v less small)) number
+      made now new level (leads_of base pairs changes) c id five g (λ v small. number_stays base now _ (next_level level) (is_next level five) first (numbers c v less small)) number
       (λ v values small.
       answers v values small
       ∙ ap (λ ps. answer now (led ps (edges_of now (pair_at pairs c).after.0) v) values) is
       ∙ ap (λ n. answer now n values) (leads_same five first are c v less))
 
 -- the layer by its nodes
-pub layer_end : (base now new : List Node) (level next : ℕ) (rows : List Row) (pairs : List Pair) (d : Draft) (changes : List Change) (s : Sifted) → level < 5 → Grows base now → Grows now new → ArePairs base level pairs →
+pub layer_end : (base now new : List Node) (level : List ℕ) (next : ℕ) (rows : List Row) (pairs : List Pair) (d : Draft) (changes : List Change) (s : Sifted) → HasField level → Grows base now → Grows now new → ArePairs base level pairs →
     IsDraft base now level rows pairs next d → d.changes.items ≡ changes → s.kept.items ≡ d.kept.items → length s.after.items ≡ length pairs →
     ((c : ℕ) → c < length pairs → LeadsAs new level (leads_of now pairs changes) c (node_at s.after.items c)) → IsSifted new level rows pairs s
 layer_end base now new level next rows pairs d changes s five first g are draft ec ek count each =
     layer-sifted new level rows pairs (leads_of base pairs changes) s five
     (subst (λ flags. IsSoFar new level rows pairs flags (leads_of base pairs changes)) (sym ek)
-    (so-far-stays now new level rows pairs d.kept.items (leads_of base pairs changes) five g (pairs-stay base now level pairs (omega (arith, five)) first are)
+    (so-far-stays now new level rows pairs d.kept.items (leads_of base pairs changes) five g (pairs-stay base now level pairs (is_level level five) first are)
     (subst (λ cs. IsSoFar now level rows pairs d.kept.items (leads_of base pairs cs)) ec draft.so_far)))
     count
     (λ c less. let l = each c less in record {
@@ -125,21 +126,21 @@ layer_end base now new level next rows pairs d changes s five first g are draft 
     })
 
 -- a node more
-pub finished_more : (base now new : List Node) (level : ℕ) (pairs : List Pair) (changes : List Change) (placed_now placed : List Placed) (id : NodeId) (ids longer : List NodeId) (n : ℕ) → level < 5 → Grows base now → Grows now new →
+pub finished_more : (base now new : List Node) (level : List ℕ) (pairs : List Pair) (changes : List Change) (placed_now placed : List Placed) (id : NodeId) (ids longer : List NodeId) (n : ℕ) → HasField level → Grows base now → Grows now new →
     ArePairs base level pairs → n < length pairs → placed_now ≡ placed → placed ≡ placed_for changes n →
-    ((k v : ℕ) → k < length pairs → v ≤ greatest_of level → level_of base (leads_of base pairs changes k v) ≡ suc level) → level_of new id.0 ≡ level →
-    ((v : ℕ) (values : List ℕ) → v ≤ greatest_of level → answer new id.0 (v ∷ values) ≡ answer now (led placed_now (edges_of now (pair_at pairs n).after.0) v) values) →
+    ((k v : ℕ) → k < length pairs → v ≤ top_of level → level_of base (leads_of base pairs changes k v) ≡ next_level level) → level_of new id.0 ≡ level →
+    ((v : ℕ) (values : List ℕ) → v ≤ top_of level → answer new id.0 (v ∷ values) ≡ answer now (led placed_now (edges_of now (pair_at pairs n).after.0) v) values) →
     length ids ≡ n → ((c : ℕ) → c < n → LeadsAs now level (leads_of base pairs changes) c (node_at ids c)) → longer ≡ ids ++ id ∷ [] →
     Grows base new × (length longer ≡ n + 1) × ((c : ℕ) → c < n + 1 → LeadsAs new level (leads_of base pairs changes) c (node_at longer c))
 finished_more base now new level pairs changes placed_now placed id ids longer n five first g are less pn is numbers number answers count each longer_is =
     let p = pushed_to (λ c (i : NodeId). LeadsAs new level (leads_of base pairs changes) c i) no_node ids longer id n longer_is count
     (λ c small. made-stays now new level (leads_of base pairs changes) c (node_at ids c) five g
-    (λ v low. number_stays base now _ (suc level) (omega (arith, five)) first (numbers c v (omega (arith, small, less)) low)) (each c small))
+    (λ v low. number_stays base now _ (next_level level) (is_next level five) first (numbers c v (omega (arith, small, less)) low)) (each c small))
     (finished_next base now level pairs changes new n placed_now id five first g are less (pn ∙ is) numbers number answers) in
     (twice base now new first g, p.0, p.1)
 
 -- all runs were taken in
-pub draft_full : (rows : ℕ → List Row) (runs : List Run) (k : ℕ) (base now : List Node) (level : ℕ) (pairs : List Pair) (d : Draft) → k ≡ length runs →
+pub draft_full : (rows : ℕ → List Row) (runs : List Run) (k : ℕ) (base now : List Node) (level : List ℕ) (pairs : List Pair) (d : Draft) → k ≡ length runs →
     IsDraft base now level (rows_of_runs (take k (map (run_by rows) runs))) pairs (end_of 0 (take k (map (run_by rows) runs))) d →
     IsDraft base now level (rows_of_runs (map (run_by rows) runs)) pairs (end_of 0 (map (run_by rows) runs)) d
 draft_full rows runs k base now level pairs d e draft =

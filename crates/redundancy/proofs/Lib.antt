@@ -17,3 +17,4 @@ pub mod Recalled
 pub mod Rooms
 pub mod Running
 pub mod Sequences
+pub mod FirstRows

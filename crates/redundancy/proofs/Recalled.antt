@@ -66,6 +66,6 @@ pub memo_stays : (old new : List Node) (blocks : Blocks) (done : Asked → Optio
 memo_stays old new blocks done g all q s e =
     let h = all q s e in record {
       within = h.within;
-      contexts = pairs-stay old new (cover_at blocks.covers.items q.number).level q.contexts.items h.within g h.contexts;
-      sifted = sifted-stays old new (cover_at blocks.covers.items q.number).level (rows_of blocks.blocks.items q.number) q.contexts.items s h.within g h.contexts h.sifted;
+      contexts = pairs-stay old new (cover_at blocks.covers.items q.number).level.now q.contexts.items h.within g h.contexts;
+      sifted = sifted-stays old new (cover_at blocks.covers.items q.number).level.now (rows_of blocks.blocks.items q.number) q.contexts.items s h.within g h.contexts h.sifted;
     }

@@ -24,7 +24,7 @@ have_room nodes span pairs lower keys lists places listed distinct k d less =
     subst (λ n. All (λ (s : Stretch). s.place < n) (get_or lists k d).items) (sym distinct.count)
     (subst (All (λ (s : Stretch). s.place < length lower)) (get_or-map (λ (own : SmallVec Stretch). own.items) lists k d [] less) (listed.each k (let n = listed.number in omega (arith, less, n))).within)
 
-pub places_room : (nodes : List Node) (level : ℕ) (rows : List Row) (lower keys : List Pair) (places : List ℕ) (inner : Sifted) → AreDistinct lower keys places → IsSifted nodes level rows keys inner → All (λ (p : ℕ). p < length inner.after.items) places
+pub places_room : (nodes : List Node) (level : List ℕ) (rows : List Row) (lower keys : List Pair) (places : List ℕ) (inner : Sifted) → AreDistinct lower keys places → IsSifted nodes level rows keys inner → All (λ (p : ℕ). p < length inner.after.items) places
 places_room nodes level rows lower keys places inner distinct sifted =
     All-from_get_or (λ (p : ℕ). p < length inner.after.items) places 0
     (λ k less. let n = distinct.count in let e = (distinct.each k (omega (arith, less, n))).0 in let m = sifted.count in omega (arith, e, m))

@@ -18,7 +18,7 @@ use Rattle.redundancy.specs.Built.{AreBuilt, FitRuns, IsBuilt, StandAt, StandsAt
 use Rattle.redundancy.proofs.BlockRows.{same_runs}
 
 -- one step after another
-pub then : (s0 s1 s2 : List Node) (b0 b1 b2 : Blocks) (w v m n : ℕ) (rows others : List Row) → IsBuilt s0 s1 b0 b1 w rows m → IsBuilt s1 s2 b1 b2 v others n → IsBuilt s0 s2 b0 b2 v others n
+pub then : (s0 s1 s2 : List Node) (b0 b1 b2 : Blocks) (w v : List ℕ) (m n : ℕ) (rows others : List Row) → IsBuilt s0 s1 b0 b1 w rows m → IsBuilt s1 s2 b1 b2 v others n → IsBuilt s0 s2 b0 b2 v others n
 then s0 s1 s2 b0 b1 b2 w v m n rows others f g = record {
   grows = twice s0 s1 s2 f.grows g.grows;
   blocks = g.blocks;
@@ -31,7 +31,7 @@ then s0 s1 s2 b0 b1 b2 w v m n rows others f g = record {
 }
 
 -- the same rows by other words
-pub as_rows : (s0 s1 : List Node) (b0 b1 : Blocks) (level n : ℕ) (rows others : List Row) → rows ≡ others → IsBuilt s0 s1 b0 b1 level rows n → IsBuilt s0 s1 b0 b1 level others n
+pub as_rows : (s0 s1 : List Node) (b0 b1 : Blocks) (level : List ℕ) (n : ℕ) (rows others : List Row) → rows ≡ others → IsBuilt s0 s1 b0 b1 level rows n → IsBuilt s0 s1 b0 b1 level others n
 as_rows s0 s1 b0 b1 level n rows others e f = subst (λ rs. IsBuilt s0 s1 b0 b1 level rs n) e f
 
 same_flat : (f g : ℕ → List Row) (numbers : List ℕ) → All (λ n. f n ≡ g n) numbers → flat_map f numbers ≡ flat_map g numbers
@@ -41,25 +41,25 @@ same_flat f g (n ∷ numbers) h =
 
 -- old numbers after blocks were added
 module _ (b0 b1 : Blocks) (count : length b0.blocks.items ≤ length b1.blocks.items) (covers_stay : (k : ℕ) → k < length b0.blocks.items → cover_at b1.covers.items k ≡ cover_at b0.covers.items k) where
-  stands : (level n : ℕ) → StandsAt b0 level n → StandsAt b1 level n
-  stands level n h = (omega (arith, count, h.0), ap (λ (c : Cover). c.level) (covers_stay n h.0) ∙ h.1)
+  stands : (level : List ℕ) (n : ℕ) → StandsAt b0 level n → StandsAt b1 level n
+  stands level n h = (omega (arith, count, h.0), ap (λ (c : Cover). c.level.now) (covers_stay n h.0) ∙ h.1)
 
-  pub stand : (level : ℕ) (numbers : List ℕ) → StandAt b0 level numbers → StandAt b1 level numbers
+  pub stand : (level : List ℕ) (numbers : List ℕ) → StandAt b0 level numbers → StandAt b1 level numbers
   stand level numbers h = All-weaker (StandsAt b0 level) (StandsAt b1 level) (λ n k. stands level n k) numbers h
 
 module _ (b0 b1 : Blocks) (rows_stay : (k : ℕ) → k < length b0.blocks.items → rows_of b1.blocks.items k ≡ rows_of b0.blocks.items k) where
-  pub flat_stays : (level : ℕ) (numbers : List ℕ) → StandAt b0 level numbers → flat_map (rows_of b1.blocks.items) numbers ≡ flat_map (rows_of b0.blocks.items) numbers
+  pub flat_stays : (level : List ℕ) (numbers : List ℕ) → StandAt b0 level numbers → flat_map (rows_of b1.blocks.items) numbers ≡ flat_map (rows_of b0.blocks.items) numbers
   flat_stays level numbers h =
       same_flat (rows_of b1.blocks.items) (rows_of b0.blocks.items) numbers
       (All-weaker (StandsAt b0 level) (λ n. rows_of b1.blocks.items n ≡ rows_of b0.blocks.items n) (λ n k. rows_stay n k.0) numbers h)
 
-  runs_stay : (level : ℕ) (runs : List Run) → FitRuns b0 level runs → rows_of_runs (map (run_by (rows_of b1.blocks.items)) runs) ≡ rows_of_runs (map (run_by (rows_of b0.blocks.items)) runs)
+  runs_stay : (level : List ℕ) (runs : List Run) → FitRuns b0 level runs → rows_of_runs (map (run_by (rows_of b1.blocks.items)) runs) ≡ rows_of_runs (map (run_by (rows_of b0.blocks.items)) runs)
   runs_stay level runs h =
       ap rows_of_runs (same_runs (rows_of b1.blocks.items) (rows_of b0.blocks.items) runs
       (All-weaker (FitsRun b0.covers.items (length b0.blocks.items) level) (λ (r : Run). rows_of b1.blocks.items r.block ≡ rows_of b0.blocks.items r.block) (λ r k. rows_stay r.block k.older) runs h))
 
 -- two halves in sequence
-pub halves_built : (s0 s1 s2 s3 : List Node) (b0 b1 b2 b3 : Blocks) (level i first second number : ℕ) (numbers xs ys : List ℕ) → xs ≡ take i numbers → ys ≡ drop i numbers → StandAt b0 level numbers →
+pub halves_built : (s0 s1 s2 s3 : List Node) (b0 b1 b2 b3 : Blocks) (level : List ℕ) (i first second number : ℕ) (numbers xs ys : List ℕ) → xs ≡ take i numbers → ys ≡ drop i numbers → StandAt b0 level numbers →
     IsBuilt s0 s1 b0 b1 level (flat_map (rows_of b0.blocks.items) xs) first → IsBuilt s1 s2 b1 b2 level (flat_map (rows_of b1.blocks.items) ys) second →
     IsBuilt s2 s3 b2 b3 level (rows_of b2.blocks.items first ++ rows_of b2.blocks.items second) number → IsBuilt s0 s3 b0 b3 level (flat_map (rows_of b0.blocks.items) numbers) number
 halves_built s0 s1 s2 s3 b0 b1 b2 b3 level i first second number numbers xs ys ex ey h f g k =
@@ -73,7 +73,7 @@ halves_built s0 s1 s2 s3 b0 b1 b2 b3 level i first second number numbers xs ys e
     (then s0 s1 s2 b0 b1 b2 level level first second (flat_map (rows_of b0.blocks.items) xs) (flat_map (rows_of b1.blocks.items) ys) f g) k)
 
 -- the blocks of some layers, with runs left
-pub record AreLaid (s0 s : List Node) (b0 b : Blocks) (level : ℕ) (runs rest : List Run) (numbers : List ℕ) : Type 0 where
+pub record AreLaid (s0 s : List Node) (b0 b : Blocks) (level : List ℕ) (runs rest : List Run) (numbers : List ℕ) : Type 0 where
   pub built : AreBuilt s0 s b0 b level (flat_map (rows_of b.blocks.items) numbers) numbers
   pub fit : FitRuns b0 level rest
   pub rows : flat_map (rows_of b.blocks.items) numbers ++ rows_of_runs (map (run_by (rows_of b0.blocks.items)) rest) ≡ rows_of_runs (map (run_by (rows_of b0.blocks.items)) runs)
@@ -87,7 +87,7 @@ in_turn : (a f o : List Row) → (a ++ (f ++ [])) ++ o ≡ a ++ (f ++ o)
 in_turn a f o = ap (λ rows. (a ++ rows) ++ o) (append-nil f) ∙ append_assoc a f o
 
 -- the front's layer is built
-pub laid_step : (s0 s1 s2 : List Node) (b0 b1 b2 : Blocks) (level n number : ℕ) (runs rest front others : List Run) (numbers more : List ℕ) → AreLaid s0 s1 b0 b1 level runs rest numbers →
+pub laid_step : (s0 s1 s2 : List Node) (b0 b1 b2 : Blocks) (level : List ℕ) (n number : ℕ) (runs rest front others : List Run) (numbers more : List ℕ) → AreLaid s0 s1 b0 b1 level runs rest numbers →
     front ≡ take n rest → others ≡ drop n rest → IsBuilt s1 s2 b1 b2 level (rows_of_runs (map (run_by (rows_of b1.blocks.items)) front)) number → more ≡ numbers ++ number ∷ [] →
     AreLaid s0 s2 b0 b2 level runs others more
 laid_step s0 s1 s2 b0 b1 b2 level n number runs rest front others numbers more h ef eo g em = record {

@@ -1,6 +1,6 @@
 -- Blocks of rows by number.
 use Rattle.std.specs.Prelude.{◌≡◌, ℕ, zero, suc, ◌<◌, ◌≤◌, ◌++◌, List, [], ◌∷◌, Option, Some, None, All, length, map, slice_get, slice_index_or}
-use Rattle.field_boxes.specs.Fields.{greatest_of}
+use Rattle.node_store.specs.Levels.{HasField, IsLevel, next as next_level, top_of}
 use Rattle.field_boxes.specs.Spans.{interval_of}
 use Rattle.node_store.specs.Diagram.{Node, level_of}
 use Rattle.field_sift.specs.Rows.{Row, last_row}
@@ -34,16 +34,16 @@ unfoldable pub rows_of : List Block → ℕ → List Row
 rows_of blocks number = rows_within (suc number) blocks number
 
 abbrev pub no_cover : Cover
-no_cover = record { level = 0; set = record { 0 = 0 } }
+no_cover = record { level = record { ref_ptr = (0, 0); now = [] }; set = record { 0 = 0 } }
 
 abbrev pub cover_at : List Cover → ℕ → Cover
 cover_at covers number = slice_index_or covers number no_cover
 
 -- the run leads to a block before the number, of the level after the field, and its span ends within the field
-pub record FitsRun (covers : List Cover) (number field : ℕ) (r : Run) : Type 0 where
+pub record FitsRun (covers : List Cover) (number : ℕ) (field : List ℕ) (r : Run) : Type 0 where
   pub older : r.block < number
-  pub level : (cover_at covers r.block).level ≡ suc field
-  pub inside : r.span.hi ≤ greatest_of field
+  pub level : (cover_at covers r.block).level.now ≡ next_level field
+  pub inside : r.span.hi ≤ top_of field
 
 -- the spans of the runs rise and are apart
 abbrev pub RiseApart : List Run → Type 0
@@ -51,17 +51,17 @@ RiseApart runs = AreApart 0 (map (run_by (λ block. [])) runs)
 
 -- the block leads to smaller numbers, at the levels that its own asks for
 abbrev pub FitsAt : List Cover → ℕ → Block → Type 0
-FitsAt covers number (Last decision) = (cover_at covers number).level ≡ 5
+FitsAt covers number (Last decision) = (cover_at covers number).level.now ≡ []
 FitsAt covers number (Layer runs) =
-    ((cover_at covers number).level < 5) × All (FitsRun covers number (cover_at covers number).level) runs.items × RiseApart runs.items
+    HasField (cover_at covers number).level.now × All (FitsRun covers number (cover_at covers number).level.now) runs.items × RiseApart runs.items
 FitsAt covers number (Two first second) =
-    (first < number) × (second < number) × ((cover_at covers first).level ≡ (cover_at covers number).level) × ((cover_at covers second).level ≡ (cover_at covers number).level)
+    (first < number) × (second < number) × ((cover_at covers first).level.now ≡ (cover_at covers number).level.now) × ((cover_at covers second).level.now ≡ (cover_at covers number).level.now)
 
 -- the set stands at its level, and is that of the values which some row matches
 pub record HasCover (nodes : List Node) (cover : Cover) (rows : List Row) : Type 0 where
-  pub within : cover.level ≤ 5
-  pub level : level_of nodes cover.set.0 ≡ cover.level
-  pub set : IsCover nodes cover.level cover.set.0 rows
+  pub within : IsLevel cover.level.now
+  pub level : level_of nodes cover.set.0 ≡ cover.level.now
+  pub set : IsCover nodes cover.level.now cover.set.0 rows
 
 -- each block fits where it stands, and has its cover
 pub record AreBlocks (nodes : List Node) (blocks : List Block) (covers : List Cover) : Type 0 where

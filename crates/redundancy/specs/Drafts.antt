@@ -3,7 +3,7 @@ use Rattle.std.specs.Prelude.{◌≡◌, ◌++◌, ℕ, suc, ◌<◌, ◌≤◌,
 use Rattle.std.specs.Global.{Vec}
 use Rattle.smallvec.specs.SmallVec.{SmallVec}
 use Rattle.std.specs.List.{list_any}
-use Rattle.field_boxes.specs.Fields.{greatest_of}
+use Rattle.node_store.specs.Levels.{next as next_level, top_of}
 use Rattle.node_store.specs.declared.edge.NodeId.{NodeId}
 use Rattle.node_store.specs.Diagram.{Node, edges_of}
 use Rattle.field_sets.specs.declared.placed.Placed.{Placed}
@@ -55,14 +55,14 @@ RiseUpTo lo end [] = lo ≤ end
 RiseUpTo lo end (p ∷ ps) = (lo ≤ p.span.lo) × RiseUpTo (suc p.span.hi) end ps
 
 -- the changes are of so many contexts, their spans rise and end inside the field, and they lead to the next level
-pub record AreChanges (nodes : List Node) (level count : ℕ) (changes : List Change) : Type 0 where
+pub record AreChanges (nodes : List Node) (level : List ℕ) (count : ℕ) (changes : List Change) : Type 0 where
   pub room : All (λ (change : Change). length change.placed.items ≡ count) changes
-  pub rise : (c : ℕ) → c < count → RiseFrom 0 (greatest_of level) (placed_for changes c)
-  pub children : (c : ℕ) → c < count → PlacedAt nodes (suc level) (placed_for changes c)
+  pub rise : (c : ℕ) → c < count → RiseFrom 0 (top_of level) (placed_for changes c)
+  pub children : (c : ℕ) → c < count → PlacedAt nodes (next_level level) (placed_for changes c)
 
 -- what was kept of the rows so far, whose spans end before the next value, where contexts led as in the base
-pub record IsDraft (base nodes : List Node) (level : ℕ) (rows : List Row) (pairs : List Pair) (next : ℕ) (draft : Draft) : Type 0 where
+pub record IsDraft (base nodes : List Node) (level : List ℕ) (rows : List Row) (pairs : List Pair) (next : ℕ) (draft : Draft) : Type 0 where
   pub so_far : IsSoFar nodes level rows pairs draft.kept.items (leads_of base pairs draft.changes.items)
   pub room : All (λ (change : Change). length change.placed.items ≡ length pairs) draft.changes.items
   pub rise : (c : ℕ) → c < length pairs → RiseUpTo 0 next (placed_for draft.changes.items c)
-  pub children : (c : ℕ) → c < length pairs → PlacedAt nodes (suc level) (placed_for draft.changes.items c)
+  pub children : (c : ℕ) → c < length pairs → PlacedAt nodes (next_level level) (placed_for draft.changes.items c)

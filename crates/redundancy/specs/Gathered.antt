@@ -11,7 +11,7 @@ use Rattle.redundancy.specs.Built.{BlocksGrow, FitRuns}
 use Rattle.redundancy.specs.Lists.{IsBefore, ListsGrow, list_rows}
 
 -- these rows are those of the list and of the runs, which lead on to blocks that are there
-pub record AreGathered (old_nodes nodes : List Node) (old new : Blocks) (old_lists lists : Lists) (level : ℕ) (rows : List Row) (list : Option ℕ) (runs : List Run) : Type 0 where
+pub record AreGathered (old_nodes nodes : List Node) (old new : Blocks) (old_lists lists : Lists) (level : List ℕ) (rows : List Row) (list : Option ℕ) (runs : List Run) : Type 0 where
   pub blocks : BlocksGrow old_nodes nodes old new
   pub lists_grow : ListsGrow old new old_lists lists
   pub within : IsBefore (length lists.links.keys) list

@@ -2,6 +2,7 @@
 use Rattle.std.specs.Prelude.{◌≡◌, ◌≤◌, ℕ, ◌&&◌, nat_eq, Bool, List, Some}
 use Rattle.std.specs.Cmp.Lexicographic.{pointwise}
 use Rattle.std.specs.HashMap.{get}
+use Rattle.node_store.specs.Levels.{IsLevel}
 use Rattle.node_store.specs.Diagram.{Node}
 use Rattle.field_sift.specs.declared.pair.Pair.{Pair}
 use Rattle.field_sift.specs.declared.sifted.Sifted.{Sifted}
@@ -17,9 +18,9 @@ same_pair p q = nat_eq p.after.0 q.after.0 && nat_eq p.met.0 q.met.0
 
 -- the block under the number was gone through for these contexts
 pub record IsAnswered (nodes : List Node) (blocks : Blocks) (number : ℕ) (pairs : List Pair) (s : Sifted) : Type 0 where
-  pub within : (cover_at blocks.covers.items number).level ≤ 5
-  pub contexts : ArePairs nodes (cover_at blocks.covers.items number).level pairs
-  pub sifted : IsSifted nodes (cover_at blocks.covers.items number).level (rows_of blocks.blocks.items number) pairs s
+  pub within : IsLevel (cover_at blocks.covers.items number).level.now
+  pub contexts : ArePairs nodes (cover_at blocks.covers.items number).level.now pairs
+  pub sifted : IsSifted nodes (cover_at blocks.covers.items number).level.now (rows_of blocks.blocks.items number) pairs s
 
 -- the blocks are the same and the contexts too
 abbrev pub same_asked : Asked → Asked → Bool

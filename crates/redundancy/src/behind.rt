@@ -1,5 +1,6 @@
 //! Contexts behind other entries, and before answers.
 ghost use Rattle.std.specs.Prelude.{◌≡◌, ◌<◌, ◌≤◌, ℕ, length, IfOk};
+ghost use Rattle.node_store.specs.Levels.{IsLevel};
 ghost use Rattle.node_store.specs.Diagram.{level_of};
 ghost use Rattle.node_store.specs.Store.{Grows};
 ghost use Rattle.field_sift.specs.Sifted.{ArePairs, IsBehind, node_at, pair_at};
@@ -17,15 +18,15 @@ use std::alloc::Global;
 pub(crate) fn behind_cover(
     alloc: Global,
     sets: &mut Sets,
-    cover: Cover,
+    cover: Cover<'_>,
     contexts: &[Pair],
 ) -> Result<Contexts, Memory>
-    requires within { cover.level ≤ 5 }
-    requires cover { level_of sets.old cover.set.0 ≡ cover.level }
-    requires contexts { ArePairs sets.old cover.level contexts.now }
+    requires within { IsLevel cover.level.now }
+    requires cover { level_of sets.old cover.set.0 ≡ cover.level.now }
+    requires contexts { ArePairs sets.old cover.level.now contexts.now }
     ensures count { IfOk result (λ pairs. length pairs.items ≡ length contexts.now) }
-    ensures level { IfOk result (λ pairs. ArePairs sets.new cover.level pairs.items) }
-    ensures each { IfOk result (λ pairs. (c : ℕ) → c < length contexts.now → IsBehind sets.new cover.level cover.set (pair_at contexts.now c) (pair_at pairs.items c)) }
+    ensures level { IfOk result (λ pairs. ArePairs sets.new cover.entry.level.now pairs.items) }
+    ensures each { IfOk result (λ pairs. (c : ℕ) → c < length contexts.now → IsBehind sets.new cover.entry.level.now cover.entry.set (pair_at contexts.now c) (pair_at pairs.items c)) }
     ensures grows { Grows sets.old sets.new }
 {
     let mut pairs = SmallVec::with_capacity(alloc, contexts.len())?;

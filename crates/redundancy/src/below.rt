@@ -1,6 +1,6 @@
 //! Contexts below a span of values: the pairs of nodes to which they lead.
 ghost use Rattle.std.specs.Prelude.{◌≡◌, ◌≤◌, ◌<◌, ◌++◌, length, map, IfOk, OnOk};
-ghost use Rattle.field_boxes.specs.Fields.{greatest_of};
+ghost use Rattle.node_store.specs.Levels.{HasField, top_of};
 ghost use Rattle.field_boxes.specs.Spans.{interval_of};
 ghost use Rattle.node_store.specs.Split.{to_left};
 ghost use Rattle.field_sets.specs.Fill.{Fill};
@@ -44,13 +44,13 @@ pub(crate) struct Below {
 pub(crate) fn listed_below(
     alloc: Global,
     sets: &Sets,
-    level: u8,
+    level: &[u8],
     span: Span,
     contexts: &[Pair],
 ) -> Result<Below, Memory>
-    requires level { level < 5 }
-    requires inside { span.hi ≤ greatest_of level }
-    requires contexts { ArePairs sets.now level contexts.now }
+    requires level { HasField level.now }
+    requires inside { span.hi ≤ top_of level.now }
+    requires contexts { ArePairs sets.now level.now contexts.now }
     ensures { IfOk result (λ b. AreListed sets.now (interval_of span) contexts.now (length contexts.now) b.pairs.items b.stretches.items) }
 {
     let _level = level;

@@ -17,7 +17,7 @@ impl Default for Run {
     }
 }
 
-/// A list of entries over the fields from a level on.
+/// A list of entries over the fields of a level.
 ///
 /// Blocks have numbers, and lead to blocks of smaller numbers.
 #[derive(Drop)]
@@ -30,9 +30,10 @@ pub enum Block {
     Two(usize, usize),
 }
 
-/// The level of a block, and the set of the values of the fields from there on that some of its entries match.
+/// The level of a block, which are the fields that its entries read, and the set of their values that some of its
+/// entries match.
 #[derive(Clone, Copy, Debug)]
-pub struct Cover {
-    pub level: u8,
+pub struct Cover<'a> {
+    pub level: &'a [u8],
     pub set: NodeId,
 }

@@ -5,18 +5,18 @@ use std::alloc::Global;
 
 /// Blocks, and for each its cover.
 #[derive(Drop)]
-pub struct Blocks {
+pub struct Blocks<'a> {
     pub blocks: Vec<Block>,
-    pub covers: Vec<Cover>,
+    pub covers: Vec<Cover<'a>>,
 }
 
-impl Blocks {
+impl<'a> Blocks<'a> {
     ghost use Rattle.std.specs.Prelude.{◌≡◌, ◌<◌, ℕ, List, Some, length, slice_get};
     ghost use Rattle.node_store.specs.Diagram.{Node};
     ghost use Rattle.redundancy.specs.Blocks.{IsBlocks, cover_at};
 
     /// No blocks.
-    pub fn new(alloc: Global) -> Blocks
+    pub fn new(alloc: Global) -> Blocks<'a>
         ensures { (nodes : List Node) → IsBlocks nodes result }
     {
         Blocks {
@@ -34,7 +34,7 @@ impl Blocks {
     }
 
     /// The cover of the block under the number.
-    pub fn cover(&self, number: usize) -> Cover
+    pub fn cover(&self, number: usize) -> Cover<'a>
         requires { number < length self.now.covers.items }
         ensures { result ≡ cover_at self.now.covers.items number }
     {

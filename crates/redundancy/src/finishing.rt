@@ -1,6 +1,6 @@
 //! The nodes that lead on as a draft says.
-ghost use Rattle.std.specs.Prelude.{◌≡◌, ◌≤◌, ◌<◌, ℕ, suc, length, All, IfOk};
-ghost use Rattle.field_boxes.specs.Fields.{greatest_of};
+ghost use Rattle.std.specs.Prelude.{◌≡◌, ◌≤◌, ◌<◌, ℕ, length, All, IfOk};
+ghost use Rattle.node_store.specs.Levels.{HasField, next, top_of};
 ghost use Rattle.node_store.specs.Diagram.{level_of};
 ghost use Rattle.node_store.specs.Store.{Grows};
 ghost use Rattle.field_sets.specs.Placed.{PlacedAt, RiseFrom};
@@ -19,16 +19,16 @@ use std::alloc::Global;
 pub(crate) fn finished(
     alloc: Global,
     sets: &mut Sets,
-    level: u8,
+    level: &[u8],
     contexts: &[Pair],
     changes: &[Change],
 ) -> Result<Vec<NodeId>, Memory>
-    requires level { level < 5 }
-    requires contexts { ArePairs sets.old level contexts.now }
-    requires changes { AreChanges sets.old level (length contexts.now) changes.now }
-    requires numbers { (c v : ℕ) → c < length contexts.now → v ≤ greatest_of level → level_of sets.old (leads_of sets.old contexts.now changes.now c v) ≡ suc level }
+    requires level { HasField level.now }
+    requires contexts { ArePairs sets.old level.now contexts.now }
+    requires changes { AreChanges sets.old level.now (length contexts.now) changes.now }
+    requires numbers { (c v : ℕ) → c < length contexts.now → v ≤ top_of level.now → level_of sets.old (leads_of sets.old contexts.now changes.now c v) ≡ next level.now }
     ensures count { IfOk result (λ ids. length ids.items ≡ length contexts.now) }
-    ensures each { IfOk result (λ ids. (c : ℕ) → c < length contexts.now → LeadsAs sets.new level (leads_of sets.old contexts.now changes.now) c (node_at ids.items c)) }
+    ensures each { IfOk result (λ ids. (c : ℕ) → c < length contexts.now → LeadsAs sets.new level.now (leads_of sets.old contexts.now changes.now) c (node_at ids.items c)) }
     ensures grows { Grows sets.old sets.new }
 {
     let mut after = Vec::with_capacity(alloc, contexts.len())?;

@@ -19,8 +19,8 @@ pub(crate) fn last(
     decision: u32,
     contexts: &[Pair],
 ) -> Result<Sifted, Memory>
-    requires { ArePairs sets.old 5 contexts.now }
-    ensures sifted { IfOk result (λ s. IsSifted sets.new 5 (last_row decision ∷ []) contexts.now s) }
+    requires { ArePairs sets.old [] contexts.now }
+    ensures sifted { IfOk result (λ s. IsSifted sets.new [] (last_row decision ∷ []) contexts.now s) }
     ensures grows { Grows sets.old sets.new }
 {
     let wanted = wanted(sets, decision, contexts);
@@ -33,7 +33,7 @@ pub(crate) fn last(
 
 /// Whether some context wants an entry with the decision.
 fn wanted(sets: &Sets, decision: u32, contexts: &[Pair]) -> bool
-    requires { ArePairs sets.now 5 contexts.now }
+    requires { ArePairs sets.now [] contexts.now }
     ensures { IsWanted (contexts_of sets.now contexts.now) result (last_row decision) }
 {
     for pair in contexts {
@@ -46,8 +46,8 @@ fn wanted(sets: &Sets, decision: u32, contexts: &[Pair]) -> bool
 
 /// Whether no entry before matches, and another decision is answered.
 fn wants(sets: &Sets, decision: u32, pair: Pair) -> bool
-    requires after { level_of sets.now pair.after.0 ≡ 5 }
-    requires met { level_of sets.now pair.met.0 ≡ 5 }
+    requires after { level_of sets.now pair.after.0 ≡ [] }
+    requires met { level_of sets.now pair.met.0 ≡ [] }
     ensures clear { result ≡ true → is_in sets.now pair.met.0 [] ≡ false }
     ensures other { result ≡ true → answer sets.now pair.after.0 [] ≢ decision }
     ensures same { result ≡ false → is_in sets.now pair.met.0 [] ≡ false → answer sets.now pair.after.0 [] ≡ decision }

@@ -24,7 +24,11 @@ pub(crate) fn layer_len(runs: &[Run]) -> usize
 }
 
 /// The span of each run, and the set of its block.
-pub(crate) fn placed(alloc: Global, covers: &[Cover], runs: &[Run]) -> Result<Vec<Placed>, Memory>
+pub(crate) fn placed(
+    alloc: Global,
+    covers: &[Cover<'_>],
+    runs: &[Run],
+) -> Result<Vec<Placed>, Memory>
     requires { All (λ r. r.block < length covers.now) runs.now }
     ensures { IfOk result (λ placed. placed.items ≡ map (placed_by covers.now) runs.now) }
 {

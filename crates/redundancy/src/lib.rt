@@ -2,13 +2,14 @@
 //!
 //! [`remove`] tries the entries of a table from the last to the first. An entry stays where some header meets it
 //! first and is answered otherwise by what stays of the entries after it. So the answers are the same, and no
-//! entry that stays can be left out alone. The words have to be prefixes in each field ([`are_prefixes`]).
+//! entry that stays can be left out alone. The words have to be prefixes in each field ([`are_prefixes`]). [`remove_in`]
+//! does the same in an order of the fields: what stays doesn't depend on it, but what it costs does.
 //!
 //! ```text
 //! let tight = remove(alloc, entries)?;
 //! ```
 //!
-//! Entries are seen field by field, as *blocks*: lists of entries over the fields from a level on. A block is one
+//! Entries are seen field by field, as *blocks*: lists of entries over the fields of a level. A block is one
 //! entry with no field left, a *layer*, or two blocks in sequence. A layer has runs whose spans of the level's field
 //! rise and are apart, each in front of a block of the next level; so no run sees the entries of another. Composed
 //! tables repeat the same entries under many prefixes: lists of runs have numbers, equal ones one, and a list that was
@@ -36,6 +37,7 @@ mod draft;
 mod finishing;
 mod last;
 mod layering;
+mod level;
 mod lists;
 mod memo;
 mod prefixes;
@@ -46,4 +48,4 @@ mod sifting;
 mod tables;
 
 pub use prefixes::are_prefixes;
-pub use removing::remove;
+pub use removing::{remove, remove_in};

@@ -78,7 +78,7 @@ impl Lists {
 
     /// The list of the entries with no field left.
     pub fn lasts(&mut self, entries: &[Entry]) -> Result<Option<usize>, Memory>
-        ensures { (blocks : Blocks) → AreLists blocks self.old → IfOk result (λ list. IsListed blocks self.old self.new (map (row_at 5) entries.now) list) }
+        ensures { (blocks : Blocks) → AreLists blocks self.old → IfOk result (λ list. IsListed blocks self.old self.new (map (row_at []) entries.now) list) }
     {
         let mut list = None;
         for entry in entries {
@@ -120,13 +120,13 @@ impl Lists {
     }
 }
 
-ghost use Rattle.std.specs.Prelude.{◌≡◌};
+ghost use Rattle.std.specs.Prelude.{◌≡◌, []};
 ghost use Rattle.field_sift.specs.Built.{row_at};
 ghost use Rattle.field_sift.specs.Rows.{last_row};
 
 /// The decision of an entry of which no field is left.
 pub(crate) fn decision_of(entry: &Entry) -> u32
-    ensures { row_at 5 entry.now ≡ last_row result }
+    ensures { row_at [] entry.now ≡ last_row result }
 {
     entry.decision
 }

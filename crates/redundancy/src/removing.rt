@@ -4,13 +4,15 @@ ghost use Rattle.field_sift.specs.Built.{ArePrefixes};
 ghost use Rattle.field_sift.specs.Entries.{AnswerAlike, IsPart, IsTight};
 ghost use Rattle.field_sift.specs.Pass.{Keeps};
 ghost use Rattle.field_sift.specs.Flags.{AreRightFlags, with_flags};
+ghost use Rattle.field_sift.specs.Orders.{IsOrder};
 
 use crate::blocks::Blocks;
 use crate::lists::Lists;
 use crate::memo::Memo;
 use crate::sets::Sets;
 use field_sift::Pair;
-use field_sift::laws::{one_pass, whole_table};
+use field_sift::laws::{one_pass, orders, whole_table};
+use node_store::stated_order;
 use razor_base::Memory;
 use std::alloc::Global;
 use ternary_words::Entry;
@@ -27,27 +29,41 @@ pub fn remove(alloc: Global, entries: Vec<Entry>) -> Result<Vec<Entry>, Memory>
     ensures alike { IfOk result (λ kept. AnswerAlike kept.items entries.items) }
     ensures tight { IfOk result (λ kept. IsTight kept.items) }
 {
+    orders();
+    remove_in(alloc, &stated_order(), entries)
+}
+
+/// The same by blocks that read the fields in the order, which suits entries that were composed in it.
+pub fn remove_in(alloc: Global, order: &[u8], entries: Vec<Entry>) -> Result<Vec<Entry>, Memory>
+    requires order { IsOrder order.now }
+    requires prefixes { ArePrefixes entries.items }
+    ensures pass { IfOk result (λ kept. Keeps [] entries.items kept.items) }
+    ensures part { IfOk result (λ kept. IsPart kept.items entries.items) }
+    ensures alike { IfOk result (λ kept. AnswerAlike kept.items entries.items) }
+    ensures tight { IfOk result (λ kept. IsTight kept.items) }
+{
     if entries.is_empty() {
         return Ok(entries);
     }
     whole_table();
     one_pass();
-    let flags = flags(alloc, entries.as_slice())?;
+    let flags = flags(alloc, order, entries.as_slice())?;
     let kept = flagged(alloc, entries.as_slice(), flags.as_slice())?;
     Ok(kept)
 }
 
 /// Which entries stay.
-fn flags(alloc: Global, entries: &[Entry]) -> Result<Vec<bool>, Memory>
-    requires { 0 < length entries.now }
-    ensures { IfOk result (λ flags. AreRightFlags entries.now flags.items) }
+fn flags(alloc: Global, order: &[u8], entries: &[Entry]) -> Result<Vec<bool>, Memory>
+    requires order { IsOrder order.now }
+    requires some { 0 < length entries.now }
+    ensures { IfOk result (λ flags. AreRightFlags order.now entries.now flags.items) }
 {
     whole_table();
-    let mut sets = Sets::new(alloc)?;
+    let mut sets = Sets::new(alloc);
     let mut blocks = Blocks::new(alloc);
     let mut lists = Lists::new(alloc);
-    let root = blocks.of(alloc, &mut sets, &mut lists, entries, 0)?;
-    let none = sets.none(0);
+    let root = blocks.of(alloc, &mut sets, &mut lists, entries, order)?;
+    let none = sets.none(order)?;
     let context = Pair {
         after: none,
         met: none,

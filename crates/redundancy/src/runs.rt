@@ -1,8 +1,9 @@
-//! Neighbouring entries with one span in a field.
+//! Neighbouring entries with one span in the first field of a level.
 ghost use Rattle.std.specs.Prelude.{◌≡◌, ◌<◌, ◌≤◌, ◌+◌, ◌-◌, ◌/◌, ◌%◌, ◌^◌, ◌++◌, length, map, take, true, IfSome, IfNone, []};
 ghost use Rattle.field_boxes.specs.Fields.{greatest_of};
+ghost use Rattle.node_store.specs.Levels.{HasField, next, top_of};
 ghost use Rattle.field_boxes.specs.Spans.{interval_of};
-ghost use Rattle.field_sift.specs.Built.{row_at};
+ghost use Rattle.field_sift.specs.Built.{row_at, span_at};
 ghost use Rattle.field_sift.specs.Rows.{in_front};
 
 use field_boxes::Span;
@@ -16,49 +17,60 @@ pub(crate) struct FirstRun<'a> {
     pub rest: &'a [Entry],
 }
 
-/// The entries at the front that have the first one's span in the field, and the others; none where there are none.
-pub(crate) fn first_run(entries: &[Entry], field: u8) -> Option<FirstRun<'_>>
-    requires { field < 5 }
+/// The entries at the front that have the first one's span in the level's first field, and the others; none where there
+/// are none.
+pub(crate) fn first_run<'a>(entries: &'a [Entry], level: &[u8]) -> Option<FirstRun<'a>>
+    requires { HasField level.now }
     ensures none { IfNone result (entries.now ≡ []) }
-    ensures rows { IfSome result (λ first. map (row_at field) entries.now ≡ map (in_front (interval_of first.span)) (map (row_at (field + 1)) first.run.now) ++ map (row_at field) first.rest.now) }
+    ensures rows { IfSome result (λ first. map (row_at level.now) entries.now ≡ map (in_front (interval_of first.span)) (map (row_at (next level.now)) first.run.now) ++ map (row_at level.now) first.rest.now) }
     ensures some { IfSome result (λ first. 0 < length first.run.now) }
     ensures shorter { IfSome result (λ first. length first.rest.now < length entries.now) }
-    ensures inside { IfSome result (λ first. first.span.hi ≤ greatest_of field) }
+    ensures inside { IfSome result (λ first. first.span.hi ≤ top_of level.now) }
 {
     let (first, others) = entries.split_first()?;
-    let span = span_in(first, field);
-    let len = run_len(others, field, span);
+    let span = span_in(first, level);
+    let len = run_len(others, level, span);
     let (run, rest) = entries.split_at(len + 1);
     Some(FirstRun { span, run, rest })
 }
 
-/// How many entries at the front have the span in the field.
-fn run_len(entries: &[Entry], field: u8, span: Span) -> usize
-    requires { field < 5 }
+/// How many entries at the front have the span in the level's first field.
+fn run_len(entries: &[Entry], level: &[u8], span: Span) -> usize
+    requires { HasField level.now }
     ensures within { result ≤ length entries.now }
-    ensures rows { map (row_at field) (take result entries.now) ≡ map (in_front (interval_of span)) (map (row_at (field + 1)) (take result entries.now)) }
+    ensures rows { map (row_at level.now) (take result entries.now) ≡ map (in_front (interval_of span)) (map (row_at (next level.now)) (take result entries.now)) }
 {
     for (place, entry) in entries.iter().enumerate() {
-        if !has_span(entry, field, span) {
+        if !has_span(entry, level, span) {
             return place;
         }
     }
     entries.len()
 }
 
-/// Whether the entry has the span in the field.
-fn has_span(entry: &Entry, field: u8, span: Span) -> bool
-    requires { field < 5 }
-    ensures { result ≡ true → row_at field entry.now ≡ in_front (interval_of span) (row_at (field + 1) entry.now) }
+/// Whether the entry has the span in the level's first field.
+fn has_span(entry: &Entry, level: &[u8], span: Span) -> bool
+    requires { HasField level.now }
+    ensures { result ≡ true → row_at level.now entry.now ≡ in_front (interval_of span) (row_at (next level.now) entry.now) }
 {
-    let own = span_in(entry, field);
+    let own = span_in(entry, level);
     own.lo == span.lo && own.hi == span.hi
 }
 
+/// The span of the entry in the level's first field.
+#[tactic(auto, using(crate::proofs::FirstRows::front, crate::proofs::FirstRows::inside))]
+fn span_in(entry: &Entry, level: &[u8]) -> Span
+    requires { HasField level.now }
+    ensures row { row_at level.now entry.now ≡ in_front (interval_of result) (row_at (next level.now) entry.now) }
+    ensures inside { result.hi ≤ top_of level.now }
+{
+    field_span(entry, level[0])
+}
+
 /// The span of the entry in the field.
-fn span_in(entry: &Entry, field: u8) -> Span
+fn field_span(entry: &Entry, field: u8) -> Span
     requires { field < 5 }
-    ensures row { row_at field entry.now ≡ in_front (interval_of result) (row_at (field + 1) entry.now) }
+    ensures span { span_at field entry.now ≡ interval_of result }
     ensures inside { result.hi ≤ greatest_of field }
 {
     match field {

@@ -14,9 +14,9 @@ use field_sift::{Pair, Sifted};
 use razor_base::Memory;
 use std::alloc::Global;
 
-impl Blocks {
+impl<'a> Blocks<'a> {
     ghost use Rattle.std.specs.Prelude.{◌≡◌, ◌<◌, ◌≤◌, ◌++◌, ℕ, suc, List, length, map, All, IfOk, OnOk};
-    ghost use Rattle.field_boxes.specs.Fields.{greatest_of};
+    ghost use Rattle.node_store.specs.Levels.{HasField, next as next_level, top_of};
     ghost use Rattle.field_boxes.specs.Spans.{interval_of};
     ghost use Rattle.node_store.specs.Diagram.{Node};
     ghost use Rattle.node_store.specs.Store.{Grows};
@@ -40,8 +40,8 @@ impl Blocks {
         requires blocks { IsBlocks sets.old self.now }
         requires memo { IsMemo sets.old self.now memo.old }
         requires number { number < length self.now.blocks.items }
-        requires contexts { ArePairs sets.old (cover_at self.now.covers.items number).level contexts.now }
-        ensures sifted { IfOk result (λ s. IsSifted sets.new (cover_at self.now.covers.items number).level (rows_of self.now.blocks.items number) contexts.now s) }
+        requires contexts { ArePairs sets.old (cover_at self.now.covers.items number).level.now contexts.now }
+        ensures sifted { IfOk result (λ s. IsSifted sets.new (cover_at self.now.covers.items number).level.now (rows_of self.now.blocks.items number) contexts.now s) }
         ensures memo { OnOk result (IsMemo sets.new self.now memo.new) }
         ensures grows { Grows sets.old sets.new }
     {
@@ -85,9 +85,9 @@ impl Blocks {
         requires memo { IsMemo sets.old self.now memo.old }
         requires first { first < length self.now.blocks.items }
         requires second { second < length self.now.blocks.items }
-        requires level { (cover_at self.now.covers.items second).level ≡ (cover_at self.now.covers.items first).level }
-        requires contexts { ArePairs sets.old (cover_at self.now.covers.items first).level contexts.now }
-        ensures sifted { IfOk result (λ s. IsSifted sets.new (cover_at self.now.covers.items first).level (rows_of self.now.blocks.items first ++ rows_of self.now.blocks.items second) contexts.now s) }
+        requires level { (cover_at self.now.covers.items second).level.now ≡ (cover_at self.now.covers.items first).level.now }
+        requires contexts { ArePairs sets.old (cover_at self.now.covers.items first).level.now contexts.now }
+        ensures sifted { IfOk result (λ s. IsSifted sets.new (cover_at self.now.covers.items first).level.now (rows_of self.now.blocks.items first ++ rows_of self.now.blocks.items second) contexts.now s) }
         ensures memo { OnOk result (IsMemo sets.new self.now memo.new) }
         ensures grows { Grows sets.old sets.new }
     {
@@ -107,19 +107,19 @@ impl Blocks {
         alloc: Global,
         sets: &mut Sets,
         memo: &mut Memo,
-        level: u8,
+        level: &[u8],
         number: usize,
         runs: &[Run],
         contexts: &[Pair],
     ) -> Result<Sifted, Memory>
         requires blocks { IsBlocks sets.old self.now }
         requires memo { IsMemo sets.old self.now memo.old }
-        requires level { level < 5 }
+        requires level { HasField level.now }
         requires number { number < length self.now.blocks.items }
-        requires fit { All (FitsRun self.now.covers.items number level) runs.now }
+        requires fit { All (FitsRun self.now.covers.items number level.now) runs.now }
         requires apart { RiseApart runs.now }
-        requires contexts { ArePairs sets.old level contexts.now }
-        ensures sifted { IfOk result (λ s. IsSifted sets.new level (rows_of_runs (map (run_by (rows_of self.now.blocks.items)) runs.now)) contexts.now s) }
+        requires contexts { ArePairs sets.old level.now contexts.now }
+        ensures sifted { IfOk result (λ s. IsSifted sets.new level.now (rows_of_runs (map (run_by (rows_of self.now.blocks.items)) runs.now)) contexts.now s) }
         ensures memo { OnOk result (IsMemo sets.new self.now memo.new) }
         ensures grows { Grows sets.old sets.new }
     {
@@ -143,20 +143,20 @@ impl Blocks {
         alloc: Global,
         sets: &mut Sets,
         memo: &mut Memo,
-        level: u8,
+        level: &[u8],
         run: Run,
         contexts: &[Pair],
         draft: &mut Draft,
     ) -> Result<(), Memory>
         requires blocks { IsBlocks sets.old self.now }
         requires memo { IsMemo sets.old self.now memo.old }
-        requires level { level < 5 }
+        requires level { HasField level.now }
         requires block { run.block < length self.now.blocks.items }
-        requires next { (cover_at self.now.covers.items run.block).level ≡ suc level }
-        requires inside { run.span.hi ≤ greatest_of level }
-        requires contexts { ArePairs sets.old level contexts.now }
-        ensures draft { (base : List Node) (rows : List Row) (next : ℕ) → next ≤ run.span.lo → AreApartFrom (interval_of run.span) rows → IsDraft base sets.old level rows contexts.now next draft.old →
-            OnOk result (IsDraft base sets.new level (rows ++ map (in_front (interval_of run.span)) (rows_of self.now.blocks.items run.block)) contexts.now (suc run.span.hi) draft.new) }
+        requires next { (cover_at self.now.covers.items run.block).level.now ≡ next_level level.now }
+        requires inside { run.span.hi ≤ top_of level.now }
+        requires contexts { ArePairs sets.old level.now contexts.now }
+        ensures draft { (base : List Node) (rows : List Row) (least : ℕ) → least ≤ run.span.lo → AreApartFrom (interval_of run.span) rows → IsDraft base sets.old level.now rows contexts.now least draft.old →
+            OnOk result (IsDraft base sets.new level.now (rows ++ map (in_front (interval_of run.span)) (rows_of self.now.blocks.items run.block)) contexts.now (suc run.span.hi) draft.new) }
         ensures memo { OnOk result (IsMemo sets.new self.now memo.new) }
         ensures grows { Grows sets.old sets.new }
     {

@@ -2,9 +2,11 @@
 
 use crate::block::Run;
 use crate::blocks::Blocks;
+use crate::level::after;
 use crate::lists::{Item, Lists, Piece, decision_of};
 use crate::runs::first_run;
 use crate::sets::Sets;
+use node_store::NodeId;
 use razor_base::Memory;
 use smallvec::SmallVec;
 use std::alloc::Global;
@@ -17,16 +19,19 @@ pub(crate) struct Gathered {
     pub runs: SmallVec<Run, 4>,
 }
 
-impl Blocks {
-    ghost use Rattle.std.specs.Prelude.{◌≡◌, ◌<◌, ◌≤◌, ◌+◌, ◌∷◌, [], ℕ, All, length, map, IfOk, IfSome, OnOk};
+impl<'a> Blocks<'a> {
+    ghost use Rattle.std.specs.Prelude.{◌≡◌, ◌<◌, ◌≤◌, ◌+◌, ◌∷◌, [], ℕ, true, All, length, map, IfOk, IfSome, OnOk};
+    ghost use Rattle.node_store.specs.Levels.{HasField, IsLevel};
     ghost use Rattle.field_sift.specs.Built.{row_at};
     ghost use Rattle.field_sift.specs.Rows.{Row};
+    ghost use Rattle.field_sift.specs.Sifted.{is_in};
+    ghost use Rattle.node_store.specs.Diagram.{level_of};
     ghost use Rattle.redundancy.specs.Blocks.{IsBlocks, cover_at, rows_of};
     ghost use Rattle.redundancy.specs.Built.{AreBuilt, IsBuilt};
     ghost use Rattle.redundancy.specs.Gathered.{AreGathered};
     ghost use Rattle.redundancy.specs.Lists.{AreLists, IsBefore, ListsGrow, list_rows};
 
-    /// The block of the entries over the fields from the level on.
+    /// The block of the entries over the fields of the level.
     ///
     /// A list of entries that was met before has its block.
     #[cycle(of)]
@@ -36,16 +41,16 @@ impl Blocks {
         sets: &mut Sets,
         lists: &mut Lists,
         entries: &[Entry],
-        level: u8,
+        level: &'a [u8],
     ) -> Result<usize, Memory>
         requires blocks { IsBlocks sets.old self.old }
         requires lists { AreLists self.old lists.old }
         requires some { 0 < length entries.now }
-        requires level { level ≤ 5 }
-        ensures built { IfOk result (λ number. IsBuilt sets.old sets.new self.old self.new level (map (row_at level) entries.now) number) }
+        requires level { IsLevel level.now }
+        ensures built { IfOk result (λ number. IsBuilt sets.old sets.new self.old self.new level.now (map (row_at level.now) entries.now) number) }
         ensures lists { OnOk result (ListsGrow self.old self.new lists.old lists.new) }
     {
-        if level == 5 {
+        if level.is_empty() {
             self.of_lasts(alloc, sets, lists, entries)
         } else {
             self.of_fields(alloc, sets, lists, entries, level)
@@ -60,13 +65,13 @@ impl Blocks {
         sets: &mut Sets,
         lists: &mut Lists,
         entries: &[Entry],
-        level: u8,
+        level: &'a [u8],
     ) -> Result<usize, Memory>
         requires blocks { IsBlocks sets.old self.old }
         requires lists { AreLists self.old lists.old }
         requires some { 0 < length entries.now }
-        requires level { level < 5 }
-        ensures built { IfOk result (λ number. IsBuilt sets.old sets.new self.old self.new level (map (row_at level) entries.now) number) }
+        requires level { HasField level.now }
+        ensures built { IfOk result (λ number. IsBuilt sets.old sets.new self.old self.new level.now (map (row_at level.now) entries.now) number) }
         ensures lists { OnOk result (ListsGrow self.old self.new lists.old lists.new) }
     {
         let gathered = self.gather(alloc, sets, lists, entries, level)?;
@@ -86,18 +91,18 @@ impl Blocks {
         sets: &mut Sets,
         lists: &mut Lists,
         entries: &[Entry],
-        level: u8,
+        level: &'a [u8],
     ) -> Result<Gathered, Memory>
         requires blocks { IsBlocks sets.old self.old }
         requires lists { AreLists self.old lists.old }
-        requires level { level < 5 }
-        ensures { IfOk result (λ g. AreGathered sets.old sets.new self.old self.new lists.old lists.new level (map (row_at level) entries.now) g.list g.runs.items) }
+        requires level { HasField level.now }
+        ensures { IfOk result (λ g. AreGathered sets.old sets.new self.old self.new lists.old lists.new level.now (map (row_at level.now) entries.now) g.list g.runs.items) }
     {
         let mut runs = SmallVec::new(alloc);
         let mut list = None;
         let mut rest = entries;
         'runs: while let Some(first) = first_run(rest, level) {
-            let block = self.of(alloc, sets, lists, first.run, level + 1)?;
+            let block = self.of(alloc, sets, lists, first.run, after(level))?;
             let piece = Piece {
                 lo: first.span.lo,
                 hi: first.span.hi,
@@ -115,12 +120,12 @@ impl Blocks {
     }
 
     /// The block of the level that is known of the list.
-    fn known(&self, lists: &Lists, list: Option<usize>, level: u8) -> Option<usize>
+    fn known(&self, lists: &Lists, list: Option<usize>, level: &'a [u8]) -> Option<usize>
         requires lists { AreLists self.now lists.now }
         requires blocks { length self.now.covers.items ≡ length self.now.blocks.items }
         requires list { IsBefore (length lists.now.links.keys) list }
         ensures within { IfSome result (λ number. number < length self.now.blocks.items) }
-        ensures level { IfSome result (λ number. (cover_at self.now.covers.items number).level ≡ level) }
+        ensures level { IfSome result (λ number. (cover_at self.now.covers.items number).level.now ≡ level.now) }
         ensures rows { IfSome result (λ number. rows_of self.now.blocks.items number ≡ list_rows (rows_of self.now.blocks.items) lists.now.links.keys list) }
     {
         let number = lists.known_of(list)?;
@@ -142,11 +147,11 @@ impl Blocks {
         requires blocks { IsBlocks sets.old self.old }
         requires lists { AreLists self.old lists.old }
         requires some { 0 < length entries.now }
-        ensures built { IfOk result (λ number. IsBuilt sets.old sets.new self.old self.new 5 (map (row_at 5) entries.now) number) }
+        ensures built { IfOk result (λ number. IsBuilt sets.old sets.new self.old self.new [] (map (row_at []) entries.now) number) }
         ensures lists { OnOk result (ListsGrow self.old self.new lists.old lists.new) }
     {
         let list = lists.lasts(entries)?;
-        if let Some(known) = self.known(lists, list, 5) {
+        if let Some(known) = self.known(lists, list, &[]) {
             return Ok(known);
         }
         let number = self.lasts(alloc, sets, entries)?;
@@ -158,10 +163,11 @@ impl Blocks {
     fn lasts(&mut self, alloc: Global, sets: &mut Sets, entries: &[Entry]) -> Result<usize, Memory>
         requires blocks { IsBlocks sets.old self.old }
         requires some { 0 < length entries.now }
-        ensures { IfOk result (λ number. IsBuilt sets.old sets.new self.old self.new 5 (map (row_at 5) entries.now) number) }
+        ensures { IfOk result (λ number. IsBuilt sets.old sets.new self.old self.new [] (map (row_at []) entries.now) number) }
     {
-        let numbers = self.each_last(alloc, sets, entries)?;
-        self.sequence(sets, 5, numbers.as_slice())
+        let full = sets.full()?;
+        let numbers = self.each_last(alloc, sets, full, entries)?;
+        self.sequence(sets, &[], numbers.as_slice())
     }
 
     /// The block of each entry with no field left.
@@ -169,15 +175,18 @@ impl Blocks {
         &mut self,
         alloc: Global,
         sets: &Sets,
+        full: NodeId,
         entries: &[Entry],
     ) -> Result<Vec<usize>, Memory>
-        requires { IsBlocks sets.now self.old }
-        ensures built { IfOk result (λ numbers. AreBuilt sets.now sets.now self.old self.new 5 (map (row_at 5) entries.now) numbers.items) }
+        requires blocks { IsBlocks sets.now self.old }
+        requires level { level_of sets.now full.0 ≡ [] }
+        requires full { is_in sets.now full.0 [] ≡ true }
+        ensures built { IfOk result (λ numbers. AreBuilt sets.now sets.now self.old self.new [] (map (row_at []) entries.now) numbers.items) }
         ensures count { IfOk result (λ numbers. length numbers.items ≡ length entries.now) }
     {
         let mut numbers = Vec::new(alloc);
         for entry in entries {
-            let number = self.last(sets, decision_of(entry))?;
+            let number = self.last(sets, full, decision_of(entry))?;
             numbers.push(number)?;
         }
         Ok(numbers)

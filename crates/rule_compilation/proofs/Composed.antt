@@ -4,7 +4,8 @@ use Rattle.std.specs.Prelude.{IfErr, IfOk, MatchResult, Result, Ok, Err, vec_len
 use Rattle.std.specs.Global.{Vec}
 use Rattle.std.specs.List.{All, AllByRecursion}
 use Rattle.field_boxes.specs.declared.rule.Rule as code
-use Rattle.field_boxes.specs.Fields.{IsHeader, stated}
+use Rattle.field_boxes.specs.Fields.{AreValues, IsHeader, stated}
+use Rattle.field_boxes.specs.Classifier.{source}
 use Rattle.field_boxes.specs.NamedRules.{IsNumberedBy, named_rules}
 use Rattle.field_boxes.specs.Names.{AreDistinct, name_at}
 use Rattle.ternary_words.specs.declared.entry.Entry.{Entry}
@@ -20,56 +21,66 @@ use Rattle.table_compose.specs.Diagrams.{DecideAs, IsCostOf, NamesApart}
 use Rattle.table_compose.specs.Composed.{AreComposed, IsAnswer, IsRefusal, decided as decided_first}
 use Rattle.table_compose.specs.declared.composition.ComposeError.{ComposeError}
 use Rattle.table_compose.specs.declared.composition.ComposeError.TheVariants.{TooMany, Memory}
-use Rattle.rule_compilation.specs.Compiled.{IsRefused}
+use Rattle.field_sift.specs.Orders.{IsOrder, picked}
+use Rattle.field_sift.proofs.Orders.{picked_values}
+use Rattle.rule_compilation.specs.Compiled.{IsRefusedIn}
 use Rattle.rule_compilation.specs.Entries.{AreEntriesOf}
 use Rattle.rule_compilation.specs.Pass.{AreComposedOf, IsDiagramOf}
+use Rattle.rule_compilation.proofs.Ordered.{source_in}
 
 -- the node of a store answers every header what the rules decide, and the rules decide numbers of these names
-pub record IsBuiltOf (names : List (List ℕ)) (rules : List code.Rule) (nodes : List Node) (root : ℕ) : Type 0 where
+pub record IsBuiltOf (order : List ℕ) (names : List (List ℕ)) (rules : List code.Rule) (nodes : List Node) (root : ℕ) : Type 0 where
   pub numbered : AllByRecursion (IsNumberedBy names) rules
-  pub answers : (header : List ℕ) → IsHeader header → answer nodes root header ≡ decided rules header
+  pub ordered : IsOrder order
+  pub answers : (values : List ℕ) → AreValues order values → answer nodes root values ≡ decided order rules values
   pub store : IsStore nodes
-  pub level : level_of nodes root ≡ 0
+  pub level : level_of nodes root ≡ order
   pub distinct : AreDistinct names
-  pub apart : ((values : List ℕ) → IsHeader values → answer nodes root values ≤ length names) → NamesApart nodes stated root (name_at names)
+  pub apart : ((values : List ℕ) → AreValues order values → answer nodes root values ≤ length names) → NamesApart nodes order root (name_at names)
 
-bounded : (names : List (List ℕ)) (rules : List code.Rule) (nodes : List Node) (root : ℕ) → IsBuiltOf names rules nodes root → (values : List ℕ) → IsHeader values → answer nodes root values ≤ length names
-bounded names rules nodes root d values ok = subst (λ n. n ≤ length names) (sym (d.answers values ok)) (within names rules values d.numbered)
+bounded : (order : List ℕ) (names : List (List ℕ)) (rules : List code.Rule) (nodes : List Node) (root : ℕ) → IsBuiltOf order names rules nodes root → (values : List ℕ) → AreValues order values → answer nodes root values ≤ length names
+bounded order names rules nodes root d values ok = subst (λ n. n ≤ length names) (sym (d.answers values ok)) (within order names rules values d.numbered)
 
-by_name : (names : List (List ℕ)) (rules : List code.Rule) (nodes : List Node) (root : ℕ) → IsBuiltOf names rules nodes root → DecideAs nodes stated root (name_at names) (named_rules names rules)
-by_name names rules nodes root d values ok = named names rules values d.numbered ∙ ap (name_at names) (sym (d.answers values ok))
+by_name : (order : List ℕ) (names : List (List ℕ)) (rules : List code.Rule) (nodes : List Node) (root : ℕ) → IsBuiltOf order names rules nodes root → DecideAs nodes order root (name_at names) (named_rules names rules)
+by_name order names rules nodes root d values ok = named order names rules values d.numbered ∙ ap (name_at names) (sym (d.answers values ok))
 
-diagram_of : (names : List (List ℕ)) (rules : List code.Rule) (nodes : List Node) (root : ℕ) → IsBuiltOf names rules nodes root → IsDiagramOf names (named_rules names rules) nodes root
-diagram_of names rules nodes root d = record { store = d.store; level = d.level; distinct = d.distinct; answers = λ header is. sym (by_name names rules nodes root d header is) }
+by_header : (order : List ℕ) (names : List (List ℕ)) (rules : List code.Rule) (nodes : List Node) (root : ℕ) → IsBuiltOf order names rules nodes root → (header : List ℕ) → IsHeader header →
+    name_at names (answer nodes root (picked order header)) ≡ source stated header (named_rules names rules)
+by_header order names rules nodes root d header is =
+    sym (by_name order names rules nodes root d (picked order header) (picked_values order header d.ordered.level is)) ∙ source_in order header (named_rules names rules) d.ordered is
+
+diagram_of : (order : List ℕ) (names : List (List ℕ)) (rules : List code.Rule) (nodes : List Node) (root : ℕ) → IsBuiltOf order names rules nodes root → IsDiagramOf order names (named_rules names rules) nodes root
+diagram_of order names rules nodes root d = record { store = d.store; level = d.level; distinct = d.distinct; answers = by_header order names rules nodes root d }
 
 -- the least cost of the diagram is that of the rules
-pub cost_of_rules : (names : List (List ℕ)) (rules : List code.Rule) (nodes : List Node) (root n : ℕ) → IsBuiltOf names rules nodes root → IsCostOf nodes stated root n → IsLeastCost stated (named_rules names rules) n
-cost_of_rules names rules nodes root n d cost =
-    cost (name_at names) (named_rules names rules) (d.apart (bounded names rules nodes root d)) (by_name names rules nodes root d)
+pub cost_of_rules : (order : List ℕ) (names : List (List ℕ)) (rules : List code.Rule) (nodes : List Node) (root n : ℕ) → IsBuiltOf order names rules nodes root → IsCostOf nodes order root n → IsLeastCost order (named_rules names rules) n
+cost_of_rules order names rules nodes root n d cost =
+    cost (name_at names) (named_rules names rules) (d.apart (bounded order names rules nodes root d)) (by_name order names rules nodes root d)
 
 -- each entry decides a number of the names, or 0
-pub are_numbered : (names : List (List ℕ)) (rules : List code.Rule) (nodes : List Node) (root : ℕ) (entries : List Entry) → IsBuiltOf names rules nodes root →
-    All (λ e. IsAnswer nodes stated root e.decision) entries → AreNumbered (length names) entries
-are_numbered names rules nodes root entries d all k e less =
+pub are_numbered : (order : List ℕ) (names : List (List ℕ)) (rules : List code.Rule) (nodes : List Node) (root : ℕ) (entries : List Entry) → IsBuiltOf order names rules nodes root →
+    All (λ e. IsAnswer nodes order root e.decision) entries → AreNumbered (length names) entries
+are_numbered order names rules nodes root entries d all k e less =
     let met = all k e less in
-    subst (λ n. n ≤ length names) met.2 (bounded names rules nodes root d met.0 met.1)
+    subst (λ n. n ≤ length names) met.2 (bounded order names rules nodes root d met.0 met.1)
 
 -- what refuses the diagram refuses the rules
-pub refused : (names : List (List ℕ)) (rules : List code.Rule) (nodes : List Node) (root limit : ℕ) (error : ComposeError) → IsBuiltOf names rules nodes root → IsRefusal nodes root limit error →
-    IsRefused (named_rules names rules) limit error
-refused names rules nodes root limit Memory d h = tt
-refused names rules nodes root limit (TooMany needed most) d h = (cost_of_rules names rules nodes root needed d h.0, h.1, h.2)
+pub refused : (order : List ℕ) (names : List (List ℕ)) (rules : List code.Rule) (nodes : List Node) (root limit : ℕ) (error : ComposeError) → IsBuiltOf order names rules nodes root → IsRefusal nodes order root limit error →
+    IsRefusedIn order (named_rules names rules) limit error
+refused order names rules nodes root limit Memory d h = tt
+refused order names rules nodes root limit (TooMany needed most) d h = (cost_of_rules order names rules nodes root needed d h.0, h.1, h.2)
 
 -- what composing the diagram comes to, said of the rules
-pub compiled : (names : List (List ℕ)) (rules : List code.Rule) (nodes : List Node) (root limit : ℕ) (result : Result (Vec Entry) ComposeError) → IsBuiltOf names rules nodes root →
+pub compiled : (order : List ℕ) (names : List (List ℕ)) (rules : List code.Rule) (nodes : List Node) (root limit : ℕ) (result : Result (Vec Entry) ComposeError) → IsBuiltOf order names rules nodes root →
     ((entries : List Entry) (header : List ℕ) (n : ℕ) → decided_first entries header ≡ Some n → table_answer (map (entry_of names) entries) header ≡ name_at names n) →
-    IfOk result (λ es. AreComposed nodes root es.items) → IfOk result (λ es. IsCostOf nodes stated root (vec_len es)) → IfOk result (λ es. (header : List ℕ) → IsHeader header → decided_first es.items header ≡ Some (answer nodes root header)) →
-    IfOk result (λ es. All (λ e. IsAnswer nodes stated root e.decision) es.items) → IfErr result (λ e. IsRefusal nodes root limit e) →
-    MatchResult result (λ es. AreEntriesOf names (named_rules names rules) es.items) (λ e. IsRefused (named_rules names rules) limit e)
-compiled names rules nodes root limit (Ok es) d have_names order cost answers decisions refusal = record {
-  composed = (nodes, root, diagram_of names rules nodes root d, order);
-  many = cost_of_rules names rules nodes root (length es.items) d (subst (λ n. IsCostOf nodes stated root n) (omega (arith, es.ok.0)) cost);
-  numbered = are_numbered names rules nodes root es.items d decisions;
-  answers = λ header is. have_names es.items header (answer nodes root header) (answers header is) ∙ sym (by_name names rules nodes root d header is);
+    IfOk result (λ es. AreComposed nodes order root es.items) → IfOk result (λ es. IsCostOf nodes order root (vec_len es)) →
+    IfOk result (λ es. (header : List ℕ) → IsHeader header → decided_first es.items header ≡ Some (answer nodes root (picked order header))) →
+    IfOk result (λ es. All (λ e. IsAnswer nodes order root e.decision) es.items) → IfErr result (λ e. IsRefusal nodes order root limit e) →
+    MatchResult result (λ es. AreEntriesOf order names (named_rules names rules) es.items) (λ e. IsRefusedIn order (named_rules names rules) limit e)
+compiled order names rules nodes root limit (Ok es) d have_names composed cost answers decisions refusal = record {
+  composed = (nodes, root, diagram_of order names rules nodes root d, composed);
+  many = cost_of_rules order names rules nodes root (length es.items) d (subst (λ n. IsCostOf nodes order root n) (omega (arith, es.ok.0)) cost);
+  numbered = are_numbered order names rules nodes root es.items d decisions;
+  answers = λ header is. have_names es.items header (answer nodes root (picked order header)) (answers header is) ∙ by_header order names rules nodes root d header is;
 }
-compiled names rules nodes root limit (Err e) d have_names order cost answers decisions refusal = refused names rules nodes root limit e d refusal
+compiled order names rules nodes root limit (Err e) d have_names composed cost answers decisions refusal = refused order names rules nodes root limit e d refusal

@@ -1,3 +1,4 @@
+pub mod Ordered
 pub mod Composed
 pub mod Removed
 pub mod Prefixed

@@ -15,17 +15,26 @@ abbrev pub IsTight : List Entry → Type 0
 IsTight entries = (place : ℕ) → place < length entries → (header : List ℕ) × IsHeader header × (answer (remove entries place) header ≢ answer entries header)
 
 -- the table decides every header as the rules do by words that are prefixes in each field, and says their field-by-field
--- least cost; its entries are what a pass keeps of a composed table of so many entries, and of these none can go
-pub record IsCompiled (rules : List (Rule (List ℕ))) (width : ℕ) (table : Table) : Type 0 where
+-- least cost in the order of the fields; its entries are what a pass keeps of a table of so many entries that is composed
+-- in the order, and of these none can go
+pub record IsCompiledIn (order : List ℕ) (rules : List (Rule (List ℕ))) (width : ℕ) (table : Table) : Type 0 where
   pub slot : table.slot ≡ width
-  pub composed : IsLeastCost stated rules table.composed
+  pub composed : IsLeastCost order rules table.composed
   pub few : length table.entries ≤ table.composed
   pub answers : (header : List ℕ) → IsHeader header → answer table.entries header ≡ source stated header rules
   pub prefixes : All (λ e. IsPrefixInEach e.word) table.entries
-  pub pass : IsKept rules table.composed table.entries
+  pub pass : IsKept order rules table.composed table.entries
   pub tight : IsTight table.entries
 
--- the least cost is more than the limit, or memory was refused
+-- the same in the stated order
+abbrev pub IsCompiled : List (Rule (List ℕ)) → ℕ → Table → Type 0
+IsCompiled rules width table = IsCompiledIn stated rules width table
+
+-- the least cost in the order is more than the limit, or memory was refused
+abbrev pub IsRefusedIn : List ℕ → List (Rule (List ℕ)) → ℕ → ComposeError → Type 0
+IsRefusedIn order rules limit Memory = Unit {0}
+IsRefusedIn order rules limit (TooMany needed most) = IsLeastCost order rules needed × (most ≡ limit) × (limit < needed)
+
+-- the same in the stated order
 abbrev pub IsRefused : List (Rule (List ℕ)) → ℕ → ComposeError → Type 0
-IsRefused rules limit Memory = Unit {0}
-IsRefused rules limit (TooMany needed most) = IsLeastCost stated rules needed × (most ≡ limit) × (limit < needed)
+IsRefused rules limit error = IsRefusedIn stated rules limit error

@@ -5,14 +5,16 @@ ghost use Rattle.field_boxes.specs.NamedRules.{IsNumberedBy, named_rules};
 ghost use Rattle.ternary_words.specs.Limits.{IsSlotWidth};
 ghost use Rattle.ternary_words.specs.Views.{table_of};
 ghost use Rattle.field_sift.specs.Built.{ArePrefixes};
+ghost use Rattle.field_sift.specs.Orders.{IsOrder};
 ghost use Rattle.table_compose.specs.LeastCost.{IsLeastCost};
-ghost use Rattle.rule_compilation.specs.Compiled.{IsCompiled, IsRefused};
+ghost use Rattle.rule_compilation.specs.Compiled.{IsCompiled, IsCompiledIn, IsRefused, IsRefusedIn};
 ghost use Rattle.rule_compilation.specs.Entries.{AreEntriesOf};
 
 use fdd_build::build;
 use field_boxes::{Decisions, Rule};
-use node_store::Store;
-use redundancy::remove;
+use field_sift::laws::orders;
+use node_store::{Store, stated_order};
+use redundancy::remove_in;
 use std::alloc::Global;
 use table_compose::laws::{decisions_have_names, distinct_names_tell_apart, one_least_cost};
 use table_compose::{ComposeError, compose};
@@ -41,11 +43,34 @@ pub fn compile(
     ensures names { IfOk result (λ table. table.names ≡ names.now) }
     ensures room { IfOk result (λ table. (needed : ℕ) → IsLeastCost stated (named_rules names.now rules.now) needed → needed ≤ limit) }
 {
+    orders();
+    compile_in(alloc, &stated_order(), rules, names, limit, slot)
+}
+
+/// The same by diagrams and tables that read the fields in the order: `composed` is the least cost in that order.
+pub fn compile_in(
+    alloc: Global,
+    order: &[u8],
+    rules: &[Rule],
+    names: &Decisions,
+    limit: u32,
+    slot: u16,
+) -> Result<Table, ComposeError>
+    requires order { IsOrder order.now }
+    requires numbered { All (IsNumberedBy names.now) rules.now }
+    requires limit { limit ≤ 262144 }
+    requires slot { ∥ IsSlotWidth slot ∥₁ }
+    ensures table { MatchResult result
+        (λ table. IsCompiledIn order.now (named_rules names.now rules.now) slot (table_of table))
+        (λ e. IsRefusedIn order.now (named_rules names.now rules.now) limit e) }
+    ensures names { IfOk result (λ table. table.names ≡ names.now) }
+    ensures room { IfOk result (λ table. (needed : ℕ) → IsLeastCost order.now (named_rules names.now rules.now) needed → needed ≤ limit) }
+{
     one_least_cost();
     names.are_names();
-    let entries = composed_entries(alloc, rules, names, limit)?;
+    let entries = composed_entries(alloc, order, rules, names, limit)?;
     let composed = entries.len() as u32;
-    let entries = remove(alloc, entries)?;
+    let entries = remove_in(alloc, order, entries)?;
     let names = names.copy(alloc)?;
     Ok(Table {
         slot,
@@ -55,17 +80,19 @@ pub fn compile(
     })
 }
 
-/// The entries of the composed table, as many as the least cost.
+/// The entries of the table that is composed in the order, as many as the least cost.
 fn composed_entries(
     alloc: Global,
+    order: &[u8],
     rules: &[Rule],
     names: &Decisions,
     limit: u32,
 ) -> Result<Vec<Entry>, ComposeError>
-    requires { All (IsNumberedBy names.now) rules.now }
+    requires order { IsOrder order.now }
+    requires numbered { All (IsNumberedBy names.now) rules.now }
     ensures entries { MatchResult result
-        (λ entries. AreEntriesOf names.now (named_rules names.now rules.now) entries.items)
-        (λ e. IsRefused (named_rules names.now rules.now) limit e) }
+        (λ entries. AreEntriesOf order.now names.now (named_rules names.now rules.now) entries.items)
+        (λ e. IsRefusedIn order.now (named_rules names.now rules.now) limit e) }
     ensures prefixes { IfOk result (λ entries. ArePrefixes entries.items) }
     ensures within { IfOk result (λ entries. length entries.items ≤ limit) }
 {
@@ -73,7 +100,7 @@ fn composed_entries(
     distinct_names_tell_apart();
     decisions_have_names();
     let mut store = Store::new(alloc);
-    let root = build(alloc, &mut store, rules)?;
+    let root = build(alloc, &mut store, order, rules)?;
     store.same_answers();
-    compose(alloc, &store, root, limit)
+    compose(alloc, &store, order, root, limit)
 }

@@ -7,9 +7,11 @@
 //! let table = compile(alloc, &list.rules, &list.names, 262_144, 144)?;
 //! ```
 //!
+//! [`compile_in`] reads the fields in another order, in which the least cost may be another.
+//!
 //! `specs/Compiled.antt` says what the table is; it stands on rules, headers and plans, and on no diagram.
 #![tactic(auto)]
 
 mod compiling;
 
-pub use compiling::compile;
+pub use compiling::{compile, compile_in};

@@ -1,27 +1,27 @@
 -- The table of a node: how many boxes it has, and which one is first for a header.
-use Rattle.std.proofs.Common.{◌≡◌, ◌∷◌, ◌++◌, ℕ, zero, suc, List, [], ◌+◌, ◌<◌, Bool, true, false, length, map, ap, arith, refl, sym, ◌∙◌, subst, drop}
+use Rattle.std.proofs.Common.{◌≡◌, ◌∷◌, ◌++◌, ℕ, suc, List, [], ◌<◌, Bool, true, false, length, map, ap, arith, refl, sym, ◌∙◌, subst}
 use Rattle.std.specs.Prelude.{cond, find, ◌&&◌, Option, Some, option_map, slice_index, slice_index_or}
 use Rattle.std.specs.List.{All, flat_map}
 use Rattle.std.proofs.lemmas.Option.{none-some, same_Some}
 use Rattle.std.proofs.lemmas.List.{length-append, length-map}
-use Rattle.std.proofs.lemmas.List.Elements.{All-head, All-tail}
+use Rattle.std.proofs.lemmas.List.Elements.{All-nil, All-cons, All-append, All-map, All-head, All-tail}
 use Rattle.std.proofs.lemmas.List.Sums.{sum_by-cons}
 use Rattle.field_boxes.specs.declared.prefix.Prefix.{Prefix}
-use Rattle.field_boxes.specs.Fields.{width, stated, AreValues}
+use Rattle.field_boxes.specs.Fields.{width, AreValues}
+use Rattle.node_store.specs.Levels.{HasField, IsLevel, next}
 use Rattle.field_boxes.specs.Prefix.{prefix_holds}
 use Rattle.ternary_words.specs.Prefixes.{all_hold}
 use Rattle.node_store.specs.Edges.{child_of}
 use Rattle.node_store.specs.Diagram.{Node, level_of, edges_of, answer}
 use Rattle.node_store.specs.Store.{IsStore}
 use Rattle.prefix_min.specs.declared.row.PrefixRow.{PrefixRow}
-use Rattle.prefix_min.specs.PrefixList.{front, weight}
+use Rattle.prefix_min.specs.PrefixList.{IsRight, front, weight}
 use Rattle.std.specs.Global.{Vec}
 use Rattle.table_compose.specs.declared.row.Row.{Row}
 use Rattle.table_compose.specs.Rows.{rows_at}
-use Rattle.table_compose.specs.Plans.{IsMarked, AreClosedFrom, IsListOf, ArePlanned}
-use Rattle.table_compose.specs.Composed.{Box, behind, boxes, HaveLists}
+use Rattle.table_compose.specs.Plans.{IsMarked, AreClosedFrom, IsListOf, ArePlanned, width_of}
+use Rattle.table_compose.specs.Composed.{Box, behind, boxes, in_turn, HaveLists}
 use Rattle.table_compose.proofs.Later.{child_older, child_marked, inner_of}
-use Rattle.table_compose.proofs.NodeCost.{fields_from}
 
 -- as many boxes as the rows' children have together
 length_rows : (lists : ℕ → List Box) (costs : List ℕ) (rows : List PrefixRow) → All (λ r. length (lists r.label) ≡ slice_index costs r.label) rows →
@@ -95,28 +95,24 @@ decide_leaf : (nodes : List Node) (lists : ℕ → List PrefixRow) (id : ℕ) �
 decide_leaf nodes lists id [] ok = refl
 decide_leaf nodes lists id (v ∷ values) ok = absurd ok
 
-decide_inner : (nodes : List Node) (lists : ℕ → List PrefixRow) (id : ℕ) (fields : List ℕ) → IsListOf nodes id (lists id) → All (λ r. DecideAll nodes lists fields r.label) (lists id) →
-    DecideAll nodes lists (level_of nodes id ∷ fields) id
-decide_inner nodes lists id fields list all [] ok = absurd ok
-decide_inner nodes lists id fields list all (v ∷ values) ok =
-    first_rows (level_of nodes id) fields v values (boxes nodes lists fields) (λ c. answer nodes c values) (lists id) (child_of (edges_of nodes id) v)
-    (λ k d less. all k d less values ok.1) (list.right.answers v ok.0)
+decide_inner : (nodes : List Node) (lists : ℕ → List PrefixRow) (id f : ℕ) (fields : List ℕ) → level_of nodes id ≡ f ∷ fields → IsListOf nodes id (lists id) → All (λ r. DecideAll nodes lists fields r.label) (lists id) →
+    DecideAll nodes lists (f ∷ fields) id
+decide_inner nodes lists id f fields level list all [] ok = absurd ok
+decide_inner nodes lists id f fields level list all (v ∷ values) ok =
+    let right = subst (λ k. IsRight (width_of k) (child_of (edges_of nodes id)) (lists id)) level list.right in
+    first_rows f fields v values (boxes nodes lists fields) (λ c. answer nodes c values) (lists id) (child_of (edges_of nodes id) v)
+    (λ k d less. all k d less values ok.1) (right.answers v ok.0)
 
--- the first box that holds a header decides what the node answers
-pub decide_by : (nodes : List Node) (lists : ℕ → List PrefixRow) → IsStore nodes → (left f id : ℕ) → f + left ≡ 5 → level_of nodes id ≡ f → HaveLists nodes lists (drop f stated) id →
-    DecideAll nodes lists (drop f stated) id
-decide_by nodes lists s zero f id five level have =
-    let e : 5 ≡ f = omega (arith, five) in subst (λ k. DecideAll nodes lists (drop k stated) id) e (decide_leaf nodes lists id)
-decide_by nodes lists s (suc left) f id five level have =
-    let small : f < 5 = omega (arith, five) in
-    let h = subst (λ fields. HaveLists nodes lists fields id) (sym (fields_from f small)) have in
-    subst (λ fields. DecideAll nodes lists fields id) (fields_from f small)
-    (subst (λ k. DecideAll nodes lists (k ∷ drop (suc f) stated) id) level
-    (decide_inner nodes lists id (drop (suc f) stated) h.0
+-- the first box that holds values of the fields decides what the node answers
+pub decide_by : (nodes : List Node) (lists : ℕ → List PrefixRow) → IsStore nodes → (level : List ℕ) (id : ℕ) → IsLevel level → level_of nodes id ≡ level → HaveLists nodes lists level id →
+    DecideAll nodes lists level id
+decide_by nodes lists s [] id is level have = decide_leaf nodes lists id
+decide_by nodes lists s (f ∷ fields) id is level h =
+    decide_inner nodes lists id f fields level h.0
     (λ k d less.
     let r = slice_index_or (lists id) k d in
-    let child = child_older nodes id r.label s (omega (arith, level, small)) (h.0.children k d less) in
-    decide_by nodes lists s left (suc f) r.label (omega (arith, five)) (child.1 ∙ ap suc level) (h.1 k d less))))
+    let child = child_older nodes id r.label s (subst HasField (sym level) is) (h.0.children k d less) in
+    decide_by nodes lists s fields r.label is.1 (child.1 ∙ ap next level) (h.1 k d less))
 
 -- each node of the diagram has its list, and its rows cost what their children do
 abbrev pub CostLists : List Node → (ℕ → List PrefixRow) → List ℕ → List ℕ → ℕ → Type 0
@@ -131,21 +127,29 @@ count nodes lists costs (f ∷ fields) id h =
 
 -- what is planned of a diagram gives each of its nodes its list, with the costs of its rows
 pub have_by : (nodes : List Node) (marks : List Bool) (costs : List ℕ) (lists : List (Vec Row)) → IsStore nodes → AreClosedFrom nodes 0 marks → ArePlanned nodes marks costs lists →
-    (left f id : ℕ) → f + left ≡ 5 → level_of nodes id ≡ f → id < length costs → IsMarked marks id →
-    HaveLists nodes (rows_at lists) (drop f stated) id × CostLists nodes (rows_at lists) costs (drop f stated) id
-have_by nodes marks costs lists s closed planned zero f id five level less marked =
-    let e : 5 ≡ f = omega (arith, five) in
-    subst (λ k. HaveLists nodes (rows_at lists) (drop k stated) id × CostLists nodes (rows_at lists) costs (drop k stated) id) e (tt, (planned id less marked).leaf (omega (arith, level, five)))
-have_by nodes marks costs lists s closed planned (suc left) f id five level less marked =
-    let small : f < 5 = omega (arith, five) in
-    let at_five : level_of nodes id < 5 = omega (arith, level, small) in
+    (level : List ℕ) (id : ℕ) → IsLevel level → level_of nodes id ≡ level → id < length costs → IsMarked marks id →
+    HaveLists nodes (rows_at lists) level id × CostLists nodes (rows_at lists) costs level id
+have_by nodes marks costs lists s closed planned [] id is level less marked = (tt, (planned id less marked).leaf level)
+have_by nodes marks costs lists s closed planned (f ∷ fields) id is level less marked =
+    let has : HasField (level_of nodes id) = subst HasField (sym level) is in
     let p = planned id less marked in
-    let below : (k : ℕ) (d : PrefixRow) → k < length (rows_at lists id) → HaveLists nodes (rows_at lists) (drop (suc f) stated) (slice_index_or (rows_at lists id) k d).label × CostLists nodes (rows_at lists) costs (drop (suc f) stated) (slice_index_or (rows_at lists id) k d).label =
+    let below : (k : ℕ) (d : PrefixRow) → k < length (rows_at lists id) → HaveLists nodes (rows_at lists) fields (slice_index_or (rows_at lists id) k d).label × CostLists nodes (rows_at lists) costs fields (slice_index_or (rows_at lists id) k d).label =
     λ k d within.
     let r = slice_index_or (rows_at lists id) k d in
-    let c = (p.list at_five).children k d within in
-    let child = child_older nodes id r.label s at_five c in
-    let mark = subst (IsMarked marks) c.2 (child_marked nodes marks id c.0 closed marked (inner_of nodes id s at_five) c.1) in
-    have_by nodes marks costs lists s closed planned left (suc f) r.label (omega (arith, five)) (child.1 ∙ ap suc level) (omega (arith, child.0, less)) mark in
-    subst (λ fields. HaveLists nodes (rows_at lists) fields id × CostLists nodes (rows_at lists) costs fields id) (fields_from f small)
-    ((p.list at_five, λ k d within. (below k d within).0), (p.sum at_five, λ k d within. (below k d within).1))
+    let c = (p.list has).children k d within in
+    let child = child_older nodes id r.label s has c in
+    let mark = subst (IsMarked marks) c.2 (child_marked nodes marks id c.0 closed marked (inner_of nodes id s has) c.1) in
+    have_by nodes marks costs lists s closed planned fields r.label is.1 (child.1 ∙ ap next level) (omega (arith, child.0, less)) mark in
+    ((p.list has, λ k d within. (below k d within).0), (p.sum has, λ k d within. (below k d within).1))
+
+count_rows : (tables : ℕ → List Box) (n : ℕ) (rows : List PrefixRow) → ((id : ℕ) → All (λ b. length b.prefixes ≡ n) (tables id)) → All (λ b. length b.prefixes ≡ suc n) (in_turn tables rows)
+count_rows tables n [] h = All-nil (λ (b : Box). length b.prefixes ≡ suc n)
+count_rows tables n (r ∷ rows) h =
+    All-append (λ (b : Box). length b.prefixes ≡ suc n) (map (behind (r.prefix ∷ [])) (tables r.label)) (in_turn tables rows)
+    (All-map (λ (b : Box). length b.prefixes ≡ suc n) (behind (r.prefix ∷ [])) (tables r.label) (λ k d less. ap suc (h r.label k d less)))
+    (count_rows tables n rows h)
+
+-- a box has a prefix for each field
+pub prefix_count : (nodes : List Node) (lists : ℕ → List PrefixRow) (fields : List ℕ) (id : ℕ) → All (λ b. length b.prefixes ≡ length fields) (boxes nodes lists fields id)
+prefix_count nodes lists [] id = All-cons (λ (b : Box). length b.prefixes ≡ 0) (record { prefixes = []; decision = answer nodes id [] }) [] refl (All-nil (λ (b : Box). length b.prefixes ≡ 0))
+prefix_count nodes lists (f ∷ fields) id = count_rows (boxes nodes lists fields) (length fields) (lists id) (λ n. prefix_count nodes lists fields n)

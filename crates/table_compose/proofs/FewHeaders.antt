@@ -5,7 +5,8 @@ use Rattle.std.proofs.lemmas.Nat.{pow-add}
 use Rattle.field_boxes.specs.Fields.{width}
 use Rattle.field_boxes.specs.Prefix.{prefix_holds}
 use Rattle.field_boxes.specs.Classifier.{Rule, residue}
-use Rattle.table_compose.specs.LeastCost.{Choice, IsPlan, IsLeastCost, AreAlike, bits_of}
+use Rattle.table_compose.specs.LeastCost.{Choice, IsPlan, IsLeastCost, AreAlike}
+use Rattle.node_store.specs.Levels.{bits_of}
 use Rattle.table_compose.proofs.OneCost.{alike-cost, alike-sym}
 use Rattle.table_compose.proofs.Plans.{All-found}
 use Rattle.table_compose.proofs.Singles.{AreSingles, singles}

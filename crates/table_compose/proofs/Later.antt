@@ -1,5 +1,5 @@
 -- Plans of more nodes: what was planned stays.
-use Rattle.std.proofs.Common.{◌≡◌, ◌∷◌, ◌++◌, ℕ, zero, suc, List, [], ◌<◌, ◌≤◌, Bool, true, false, length, ap, arith, refl, sym, ◌∙◌, subst, inl, inr, drop}
+use Rattle.std.proofs.Common.{◌≡◌, ◌∷◌, ◌++◌, ℕ, zero, suc, List, [], ◌<◌, ◌≤◌, Bool, true, false, length, ap, arith, refl, sym, ◌∙◌, subst, inl, inr}
 use Rattle.std.specs.Prelude.{slice_get, slice_index, slice_index_or, Option, Some, None}
 use Rattle.std.specs.List.{All}
 use Rattle.std.specs.Option.{option_map_or}
@@ -9,7 +9,7 @@ use Rattle.std.proofs.lemmas.Option.{none-some, same_Some, slice_get-get_or}
 use Rattle.std.proofs.lemmas.List.{length-append}
 use Rattle.std.proofs.lemmas.List.Elements.{All-head, All-tail, All-weaker}
 use Rattle.std.proofs.lemmas.List.Sums.{sum_by-cons}
-use Rattle.field_boxes.specs.Fields.{greatest_of, stated}
+use Rattle.node_store.specs.Levels.{HasField, next, top_of}
 use Rattle.node_store.specs.Edges.{child_of}
 use Rattle.node_store.specs.Diagram.{Node, node_level, node_edges, level_of, edges_of}
 use Rattle.node_store.specs.Diagram.Node.{Leaf, Inner}
@@ -45,14 +45,14 @@ weight_kept costs more (r ∷ rows) h =
     omega (arith, a, b, e, i)
 
 -- a child is older, and stands at the next level
-pub child_older : (nodes : List Node) (id child : ℕ) → IsStore nodes → level_of nodes id < 5 → IsChild nodes id child → (child < id) × (level_of nodes child ≡ suc (level_of nodes id))
-child_older nodes id child s five c = subst (λ n. (n < id) × (level_of nodes n ≡ suc (level_of nodes id))) c.2 (leads_on nodes id c.0 s five c.1)
+pub child_older : (nodes : List Node) (id child : ℕ) → IsStore nodes → HasField (level_of nodes id) → IsChild nodes id child → (child < id) × (level_of nodes child ≡ next (level_of nodes id))
+child_older nodes id child s five c = subst (λ n. (n < id) × (level_of nodes n ≡ next (level_of nodes id))) c.2 (leads_on nodes id c.0 s five c.1)
 
 -- a child of a marked node is marked
 pub child_marked : (nodes : List Node) (marks : List Bool) (id v : ℕ) → AreClosedFrom nodes 0 marks → IsMarked marks id → IsInner nodes id (level_of nodes id) (edges_of nodes id) →
-    v ≤ greatest_of (level_of nodes id) → IsMarked marks (child_of (edges_of nodes id) v)
+    v ≤ top_of (level_of nodes id) → IsMarked marks (child_of (edges_of nodes id) v)
 child_marked nodes marks id v closed marked inner le =
-    chosen (λ n. IsMarked marks n) (greatest_of (level_of nodes id)) 0 (edges_of nodes id) v (rise_of (greatest_of (level_of nodes id)) (edges_of nodes id) inner.full) le (closed id (omega arith) marked)
+    chosen (λ n. IsMarked marks n) (top_of (level_of nodes id)) 0 (edges_of nodes id) v (rise_of (top_of (level_of nodes id)) (edges_of nodes id) inner.full) le (closed id (omega arith) marked)
 
 planned_later : (nodes : List Node) (costs more : List ℕ) (id : ℕ) (rows : List PrefixRow) (n : ℕ) → IsStore nodes → id ≤ length costs → IsPlanned nodes costs id rows n →
     IsPlanned nodes (costs ++ more) id rows n
@@ -84,18 +84,18 @@ planned_more nodes marks costs lists cost rows s beside old new id h marked = el
       (planned_later nodes costs (cost ∷ []) (length costs) (rows_of rows.items) cost s (omega arith) (new (subst (IsMarked marks) (sym here) marked)))))
 ]
 
-inner_by : (nodes : List Node) (id : ℕ) (m : Option Node) → IsStore nodes → slice_get nodes id ≡ m → node_level m < 5 → IsInner nodes id (node_level m) (node_edges m)
-inner_by nodes id None s at five = absurd (omega (arith, five))
-inner_by nodes id (Some (Leaf d)) s at five = absurd (omega (arith, five))
+inner_by : (nodes : List Node) (id : ℕ) (m : Option Node) → IsStore nodes → slice_get nodes id ≡ m → HasField (node_level m) → IsInner nodes id (node_level m) (node_edges m)
+inner_by nodes id None s at five = absurd (omega (arith, five.0.0))
+inner_by nodes id (Some (Leaf d)) s at five = absurd five
 inner_by nodes id (Some (Inner f es)) s at five = s.fits id (Inner f es) at
 
 -- a node above the leaves is an inner node
-pub inner_of : (nodes : List Node) (id : ℕ) → IsStore nodes → level_of nodes id < 5 → IsInner nodes id (level_of nodes id) (edges_of nodes id)
+pub inner_of : (nodes : List Node) (id : ℕ) → IsStore nodes → HasField (level_of nodes id) → IsInner nodes id (level_of nodes id) (edges_of nodes id)
 inner_of nodes id s five = inner_by nodes id (slice_get nodes id) s refl five
 
 -- the children of a marked node have their costs
 pub children_costed : (nodes : List Node) (marks : List Bool) (costs : List ℕ) (lists : List (Vec Row)) (id v : ℕ) → IsStore nodes → AreClosedFrom nodes 0 marks →
-    ArePlanned nodes marks costs lists → id ≤ length costs → IsMarked marks id → level_of nodes id < 5 → v ≤ greatest_of (level_of nodes id) →
+    ArePlanned nodes marks costs lists → id ≤ length costs → IsMarked marks id → HasField (level_of nodes id) → v ≤ top_of (level_of nodes id) →
     IsCosted nodes (child_of (edges_of nodes id) v) (slice_index costs (child_of (edges_of nodes id) v))
 children_costed nodes marks costs lists id v s closed planned room marked five le =
     let low = (leads_on nodes id v s five le).0 in
@@ -110,9 +110,9 @@ mark_of (m ∷ marks) (suc id) h = mark_of marks id h
 pub of_mark : (marks : List Bool) (id : ℕ) → id < length marks → slice_index_or marks id false ≡ true → IsMarked marks id
 of_mark marks id less h = slice_get-get_or marks id false less ∙ ap Some h
 
--- a root's least cost is that of rule lists over all five fields
-pub root_cost : (nodes : List Node) (root n : ℕ) → level_of nodes root ≡ 0 → IsCosted nodes root n → IsCostOf nodes stated root n
-root_cost nodes root n level c = subst (λ k. IsCostOf nodes (drop k stated) root n) level c.least
+-- a root's least cost is that of rule lists over the fields of its level
+pub root_cost : (nodes : List Node) (fields : List ℕ) (root n : ℕ) → level_of nodes root ≡ fields → IsCosted nodes root n → IsCostOf nodes fields root n
+root_cost nodes fields root n level c = subst (λ k. IsCostOf nodes k root n) level c.least
 
 -- the root is planned
 pub root_planned : (nodes : List Node) (root : ℕ) (costs : List ℕ) (lists : List (Vec Row)) → ArePlans nodes root costs lists → IsPlanned nodes costs root (rows_at lists root) (slice_index costs root)

@@ -10,8 +10,10 @@ pub mod NodeCost
 pub mod Planned
 pub mod Inputs
 pub mod Later
+pub mod KeptCosts
 pub mod Boxes
 pub mod Gaining
+pub mod Placing
 pub mod Tables
 pub mod Naming
 pub mod Occurring

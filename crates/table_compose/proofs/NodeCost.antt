@@ -1,12 +1,13 @@
 -- From the children of a node to the node: what every rule list that decides as it answers costs.
-use Rattle.std.proofs.Common.{◌≡◌, ◌∷◌, ℕ, zero, suc, List, [], ◌<◌, ◌≤◌, ◌^◌, length, ap, arith, refl, sym, ◌∙◌, subst, drop}
+use Rattle.std.proofs.Common.{◌≡◌, ◌∷◌, ℕ, zero, suc, List, [], ◌<◌, ◌≤◌, ◌^◌, length, ap, arith, refl, sym, ◌∙◌, subst}
 use Rattle.std.specs.Prelude.{map, Option, Some, slice_get, slice_index, slice_index_or}
 use Rattle.std.specs.List.{All}
 use Rattle.std.proofs.lemmas.Nat.{pow_pos}
 use Rattle.std.proofs.lemmas.Option.{none-some, same_Some, slice_get-get_or}
 use Rattle.std.proofs.lemmas.List.Elements.{All-weaker}
 use Rattle.std.proofs.lemmas.List.{length-map}
-use Rattle.field_boxes.specs.Fields.{width, greatest_of, stated}
+use Rattle.field_boxes.specs.Fields.{width, greatest_of}
+use Rattle.node_store.specs.Levels.{HasField, next, top_of}
 use Rattle.field_boxes.specs.Classifier.{Rule, residue}
 use Rattle.field_boxes.proofs.Residues.{source-residue}
 use Rattle.node_store.specs.declared.edge.NodeId.{NodeId}
@@ -39,30 +40,17 @@ map_at g [] k x h = absurd (none-some x h)
 map_at g (y ∷ xs) zero x h = ap g (same_Some y x h)
 map_at g (y ∷ xs) (suc k) x h = map_at g xs k x h
 
--- the fields from a level on: that of the level, and those from the next one on
-pub fields_from : (f : ℕ) → f < 5 → f ∷ drop (suc f) stated ≡ drop f stated
-fields_from zero h = refl
-fields_from (suc zero) h = refl
-fields_from (suc (suc zero)) h = refl
-fields_from (suc (suc (suc zero))) h = refl
-fields_from (suc (suc (suc (suc zero)))) h = refl
-fields_from (suc (suc (suc (suc (suc f))))) h = absurd (omega (arith, h))
-
 pub up_to : (f v : ℕ) → v < 2 ^ width f → v ≤ greatest_of f
 up_to f v h = omega (arith, h)
 
 pub in_width : (f v : ℕ) → v ≤ greatest_of f → v < 2 ^ width f
 in_width f v h = let p = pow_pos (width f) in omega (arith, h, p)
 
-module _ (nodes : List Node) (s : IsStore nodes) (id f : ℕ) (five : f < 5) (level : level_of nodes id ≡ f) (full : AreFull (greatest_of f) (edges_of nodes id))
+module _ (nodes : List Node) (s : IsStore nodes) (id f : ℕ) (rest : List ℕ) (has : HasField (f ∷ rest)) (level : level_of nodes id ≡ f ∷ rest) (full : AreFull (greatest_of f) (edges_of nodes id))
     (pieces : List Piece) (are : ArePieces (children_of (edges_of nodes id)) (edges_of nodes id) pieces) where
   -- where a value leads
   abbrev pub child : ℕ → ℕ
   child v = child_of (edges_of nodes id) v
-
-  -- the fields that are left
-  abbrev pub rest : List ℕ
-  rest = drop (suc f) stated
 
   pub rise : Rise (greatest_of f) 0 (edges_of nodes id)
   rise = rise_of (greatest_of f) (edges_of nodes id) full
@@ -83,8 +71,8 @@ module _ (nodes : List Node) (s : IsStore nodes) (id f : ℕ) (five : f < 5) (le
       let b = labelled u low in
       sym a.2 ∙ ap (λ (c : NodeId). c.0) (same_Some a.0 b.0 (sym a.1 ∙ ap (slice_get (children_of (edges_of nodes id))) e ∙ b.1)) ∙ b.2
 
-  pub child_level : (v : ℕ) → v < 2 ^ width f → level_of nodes (child v) ≡ suc f
-  child_level v small = (leads_on nodes id v s (omega (arith, level, five)) (subst (λ g. v ≤ greatest_of g) (sym level) (up_to f v small))).1 ∙ ap suc level
+  pub child_level : (v : ℕ) → v < 2 ^ width f → level_of nodes (child v) ≡ rest
+  child_level v small = (leads_on nodes id v s (subst HasField (sym level) has) (subst (λ k. v ≤ top_of k) (sym level) (up_to f v small))).1 ∙ ap next level
 
   -- each place of a child is the label of a value
   pub used : (k : ℕ) → k < length (children_of (edges_of nodes id)) → IsTaken (width f) (label_at pieces) k
@@ -114,7 +102,7 @@ module _ (nodes : List Node) (s : IsStore nodes) (id f : ℕ) (five : f < 5) (le
       -- two children whose answers have the same names are one
       one_of : (v u : ℕ) → v < 2 ^ width f → u < 2 ^ width f → AreAlike rest (residue f v R) (residue f u R) → child v ≡ child u
       one_of v u small low alike =
-          one nodes (suc f) (child v) (child u) s (omega (arith, five)) (child_level v small) (child_level u low)
+          one nodes rest (child v) (child u) s has.1 (child_level v small) (child_level u low)
           (λ values ok. apart (v ∷ values) (u ∷ values) (small, ok) (low, ok) (sym (at v small values ok) ∙ alike values ok ∙ at u low values ok))
 
       tells : LabelsResidues f rest R (label_at pieces)
@@ -143,8 +131,8 @@ module _ (nodes : List Node) (s : IsStore nodes) (id f : ℕ) (five : f < 5) (le
 
     -- the node's least cost is what a minimiser gives for its field
     pub node-cost : ((v : ℕ) → v < 2 ^ width f → IsCostOf nodes rest (child v) (slice_index costs (child v))) → (rows : List PrefixRow) (n : ℕ) →
-        AreMinimal (width f) (label_at pieces) weights rows n → IsCostOf nodes (drop f stated) id n
-    node-cost below rows n minimal = subst (λ fields. IsCostOf nodes fields id n) (fields_from f five) (λ name R apart decide. least below rows n minimal name R apart decide)
+        AreMinimal (width f) (label_at pieces) weights rows n → IsCostOf nodes (f ∷ rest) id n
+    node-cost below rows n minimal = λ name R apart decide. least below rows n minimal name R apart decide
 
 -- where no field is left, every rule list costs one entry
 pub leaf-cost : {A : Type 0} (R : List (Rule A)) → IsLeastCost [] R 1

@@ -1,8 +1,9 @@
 -- What a node's plan is made of: what a minimiser asks, and what its rows come to.
-use Rattle.std.proofs.Common.{◌≡◌, ◌∷◌, ℕ, zero, suc, List, [], ◌+◌, ◌-◌, ◌*◌, ◌<◌, ◌≤◌, ◌^◌, Bool, true, false, length, ap, arith, refl, sym, ◌∙◌, subst, drop, take, ◌++◌}
-use Rattle.std.specs.Prelude.{cond, find, map, Option, Some, option_map, slice_get, slice_index, slice_index_or}
+use Rattle.std.proofs.Common.{◌≡◌, ◌∷◌, ℕ, zero, suc, List, [], ◌+◌, ◌-◌, ◌*◌, ◌<◌, ◌≤◌, ◌^◌, Bool, true, false, length, ap, arith, refl, sym, ◌∙◌, subst, take, ◌++◌}
+use Rattle.std.specs.Prelude.{cond, nat_eq, find, map, Option, Some, option_map, slice_get, slice_index, slice_index_or}
 use Rattle.std.specs.List.{All}
 use Rattle.std.specs.Option.{option_map_or}
+use Rattle.std.proofs.lemmas.Bool.{eqb-true}
 use Rattle.std.proofs.lemmas.Nat.{pow_pos, pow-add}
 use Rattle.std.proofs.lemmas.Option.{none-some, same_Some, slice_get-get_or}
 use Rattle.std.proofs.lemmas.List.{length-map, get_or-map, map-append}
@@ -10,7 +11,7 @@ use Rattle.std.proofs.Math.Seq.{take-suc}
 use Rattle.std.proofs.lemmas.List.Elements.{All-head, All-tail, All-map, All-weaker}
 use Rattle.std.proofs.lemmas.List.Sums.{sum_by-cons}
 use Rattle.std.proofs.Math.Pow.{pow_mono}
-use Rattle.field_boxes.specs.Fields.{width, greatest_of, stated}
+use Rattle.field_boxes.specs.Fields.{width, greatest_of}
 use Rattle.field_boxes.specs.Prefix.{FitsWidth, prefix_holds}
 use Rattle.node_store.specs.declared.edge.NodeId.{NodeId}
 use Rattle.node_store.specs.declared.edge.Edge.{Edge}
@@ -23,31 +24,24 @@ use Rattle.prefix_min.specs.declared.row.PrefixRow.{PrefixRow}
 use Rattle.prefix_min.specs.Pieces.{Follow, reach, label_at, weight_from}
 use Rattle.prefix_min.specs.PrefixList.{IsRight, front, weight}
 use Rattle.prefix_min.specs.Order.{ComesBefore, InOrder}
-use Rattle.table_compose.specs.LeastCost.{Choice, bits_of}
+use Rattle.table_compose.specs.LeastCost.{Choice}
+use Rattle.node_store.specs.Levels.{HasField, next, top_of, bits_of}
 use Rattle.table_compose.specs.Diagrams.{IsCostOf}
 use Rattle.table_compose.specs.Labels.{children_of, ArePieces}
 use Rattle.table_compose.specs.declared.row.Row.{Row}
-use Rattle.table_compose.specs.Plans.{IsCosted, IsChild, IsPlanned}
+use Rattle.table_compose.specs.Plans.{IsCosted, IsChild, IsPlanned, width_of}
 use Rattle.table_compose.specs.Rows.{child_at, led, rows_of as leading_of, row_of as as_label}
 use Rattle.table_compose.proofs.FewHeaders.{narrow}
 use Rattle.table_compose.proofs.Plans.{row_of, rows_of, front-rows, weight-rows}
 use Rattle.table_compose.proofs.Singles.{AreSingles, singles}
 use Rattle.table_compose.proofs.Children.{taken}
 use Rattle.table_compose.proofs.Labelled.{follow, whole, light}
-use Rattle.table_compose.proofs.NodeCost.{AreMinimal, fields_from, up_to, in_width, map_at, leaf-cost}
+use Rattle.table_compose.proofs.NodeCost.{AreMinimal, up_to, in_width, map_at, leaf-cost}
 use Rattle.table_compose.proofs.NodeCost as node
 
--- the headers of the fields from a level on
-pub headers_from : (f : ℕ) → f < 5 → 2 ^ width f * 2 ^ bits_of (drop (suc f) stated) ≡ 2 ^ bits_of (drop f stated)
-headers_from f five = sym (pow-add 2 (width f) (bits_of (drop (suc f) stated))) ∙ ap (λ fields. 2 ^ bits_of fields) (fields_from f five)
-
-bits_within : (f : ℕ) → f < 5 → bits_of (drop f stated) ≤ 104
-bits_within zero h = omega arith
-bits_within (suc zero) h = omega arith
-bits_within (suc (suc zero)) h = omega arith
-bits_within (suc (suc (suc zero))) h = omega arith
-bits_within (suc (suc (suc (suc zero)))) h = omega arith
-bits_within (suc (suc (suc (suc (suc f))))) h = absurd (omega (arith, h))
+-- the headers of a level's fields
+pub headers_from : (f : ℕ) (rest : List ℕ) → 2 ^ width f * 2 ^ bits_of rest ≡ 2 ^ bits_of (f ∷ rest)
+headers_from f rest = sym (pow-add 2 (width f) (bits_of rest))
 
 -- edges that rise are no more than the values
 few_edges : (greatest lo : ℕ) (es : List Edge) → Rise greatest lo es → length es + lo ≤ greatest + 1
@@ -114,15 +108,12 @@ All_at P (y ∷ xs) zero x all h = subst P (same_Some y x h) (All-head P y xs al
 All_at P (y ∷ xs) (suc k) x all h = All_at P xs k x (All-tail P y xs all) h
 
 -- the children are older than the node
-pub older : (nodes : List Node) (id field : ℕ) (es : List Edge) → IsInner nodes id field es → (k : ℕ) (c : NodeId) → slice_get (children_of es) k ≡ Some c → c.0 < id
-older nodes id field es inner k c at =
-    taken (λ a. a.0 < id) es (λ i e there. (All_at (λ (x : Edge). (x.to.0 < id) × (level_of nodes x.to.0 ≡ suc field)) es i e inner.children there).0) k c at
+pub older : (nodes : List Node) (id : ℕ) (level : List ℕ) (es : List Edge) → IsInner nodes id level es → (k : ℕ) (c : NodeId) → slice_get (children_of es) k ≡ Some c → c.0 < id
+older nodes id level es inner k c at =
+    taken (λ a. a.0 < id) es (λ i e there. (All_at (λ (x : Edge). (x.to.0 < id) × (level_of nodes x.to.0 ≡ next level)) es i e inner.children there).0) k c at
 
-module _ (nodes : List Node) (s : IsStore nodes) (id : ℕ) (five : level_of nodes id < 5) (inner : IsInner nodes id (level_of nodes id) (edges_of nodes id))
+module _ (nodes : List Node) (s : IsStore nodes) (id f : ℕ) (rest : List ℕ) (has : HasField (f ∷ rest)) (level : level_of nodes id ≡ f ∷ rest) (inner : IsInner nodes id (f ∷ rest) (edges_of nodes id))
     (pieces : List Piece) (are : ArePieces (children_of (edges_of nodes id)) (edges_of nodes id) pieces) where
-  abbrev f : ℕ
-  f = level_of nodes id
-
   abbrev es : List Edge
   es = edges_of nodes id
 
@@ -139,73 +130,73 @@ module _ (nodes : List Node) (s : IsStore nodes) (id : ℕ) (five : level_of nod
   wholes = let p = pow_pos (width f) in let w = whole children (greatest_of f) 0 es pieces rise are in omega (arith, w, p)
 
   abbrev most : ℕ
-  most = 2 ^ bits_of (drop (suc f) stated)
+  most = 2 ^ bits_of rest
 
   module _ (costs weights : List ℕ) (weigh : weights ≡ map (λ (c : NodeId). slice_index costs c.0) children)
       (below : (v : ℕ) → v ≤ greatest_of f → IsCosted nodes (child_of es v) (slice_index costs (child_of es v))) where
     weighs_most : (v : ℕ) → v < 2 ^ width f → slice_index weights (label_at pieces v) ≤ most
     weighs_most v small =
-        let level = node.child_level nodes s id f five refl inner.full pieces are v small in
-        let is = node.weight_of nodes s id f five refl inner.full pieces are costs weights weigh v small in
+        let at = node.child_level nodes s id f rest has level inner.full pieces are v small in
+        let is = node.weight_of nodes s id f rest has level inner.full pieces are costs weights weigh v small in
         let few = (below v (up_to f v small)).few in
-        let room : slice_index costs (child_of es v) ≤ most = subst (λ k. slice_index costs (child_of es v) ≤ 2 ^ bits_of (drop k stated)) level few in
+        let room : slice_index costs (child_of es v) ≤ most = subst (λ k. slice_index costs (child_of es v) ≤ 2 ^ bits_of k) at few in
         omega (arith, is, room)
 
     -- a place of a child is the label of a value that leads to it, and weighs what it costs
     pub leads_to : (k : ℕ) → k < length children → IsChild nodes id (child_at children k)
     leads_to k less =
-        let u = node.used nodes s id f five refl inner.full pieces are k less in
-        let c = node.labelled nodes s id f five refl inner.full pieces are u.0 u.1 in
-        (u.0, up_to f u.0 u.1, sym c.2 ∙ ap (λ o. option_map_or (λ x. x.0) o 0) (sym c.1) ∙ ap (child_at children) u.2)
+        let u = node.used nodes s id f rest has level inner.full pieces are k less in
+        let c = node.labelled nodes s id f rest has level inner.full pieces are u.0 u.1 in
+        (u.0, subst (λ k. u.0 ≤ top_of k) (sym level) (up_to f u.0 u.1), sym c.2 ∙ ap (λ o. option_map_or (λ x. x.0) o 0) (sym c.1) ∙ ap (child_at children) u.2)
 
     weighs_as : (k : ℕ) → k < length children → slice_index weights k ≡ slice_index costs (child_at children k)
     weighs_as k less =
-        let u = node.used nodes s id f five refl inner.full pieces are k less in
-        let c = node.labelled nodes s id f five refl inner.full pieces are u.0 u.1 in
+        let u = node.used nodes s id f rest has level inner.full pieces are k less in
+        let c = node.labelled nodes s id f rest has level inner.full pieces are u.0 u.1 in
         let child : child_of es u.0 ≡ child_at children k = sym c.2 ∙ ap (λ o. option_map_or (λ x. x.0) o 0) (sym c.1) ∙ ap (child_at children) u.2 in
-        ap (slice_index weights) (sym u.2) ∙ node.weight_of nodes s id f five refl inner.full pieces are costs weights weigh u.0 u.1 ∙ ap (slice_index costs) child
+        ap (slice_index weights) (sym u.2) ∙ node.weight_of nodes s id f rest has level inner.full pieces are costs weights weigh u.0 u.1 ∙ ap (slice_index costs) child
 
     pub lights : weight_from weights 0 pieces ≤ 2 ^ 104
     lights =
         let bound = light (length children) 0 weights most pieces follows
-        (λ k less. let u = node.used nodes s id f five refl inner.full pieces are k less in subst (λ l. slice_index weights l ≤ most) u.2 (weighs_most u.0 u.1)) in
-        let all : reach 0 pieces * most ≡ 2 ^ bits_of (drop f stated) = ap (λ n. n * most) wholes ∙ headers_from f five in
-        let room : 2 ^ bits_of (drop f stated) ≤ 2 ^ 104 = pow_mono (bits_within f five) in
+        (λ k less. let u = node.used nodes s id f rest has level inner.full pieces are k less in subst (λ l. slice_index weights l ≤ most) u.2 (weighs_most u.0 u.1)) in
+        let all : reach 0 pieces * most ≡ 2 ^ bits_of (f ∷ rest) = ap (λ n. n * most) wholes ∙ headers_from f rest in
+        let room : 2 ^ bits_of (f ∷ rest) ≤ 2 ^ 104 = pow_mono has.0.1 in
         omega (arith, bound, all, room)
 
     module _ (rows : List PrefixRow) (n : ℕ) (minimal : AreMinimal (width f) (label_at pieces) weights rows n) (order : InOrder rows) where
       within : (k : ℕ) → k < length weights → k < length children
       within k less = let e = ap length weigh ∙ length-map children (λ (c : NodeId). slice_index costs c.0) in omega (arith, less, e)
 
-      n_few : n ≤ 2 ^ bits_of (drop f stated)
+      n_few : n ≤ 2 ^ bits_of (f ∷ rest)
       n_few =
           let Costs : ℕ → ℕ → Type 0 = λ v c. c ≡ slice_index weights (label_at pieces v) in
           let each = singles (width f) Costs most (narrow f) (λ v small. (slice_index weights (label_at pieces v), refl, weighs_most v small)) (2 ^ width f) (omega arith) in
           let plan = each.0 in
           let least = minimal.least (rows_of (label_at pieces) plan) (singles_right (width f) (label_at pieces) Costs most plan each.1) in
           let cost = weight-rows (label_at pieces) weights plan each.1.costs in
-          let all = headers_from f five in
+          let all = headers_from f rest in
           omega (arith, least, cost, each.1.few, all)
 
       right_led : IsRight (width f) (child_of es) (map (led children) rows)
       right_led = record {
         fits = All-map (λ r. FitsWidth (width f) r.prefix) (led children) rows minimal.right.fits;
         answers = λ v small.
-            let c = node.labelled nodes s id f five refl inner.full pieces are v small in
+            let c = node.labelled nodes s id f rest has level inner.full pieces are v small in
             front_led children (width f) v rows ∙ ap (option_map (child_at children)) (minimal.right.answers v small) ∙ ap Some (ap (λ o. option_map_or (λ x. x.0) o 0) c.1 ∙ c.2);
       }
 
       pub planned : IsPlanned nodes costs id (map (led children) rows) n
       planned = record {
         costed = record {
-          least = node.node-cost nodes s id f five refl inner.full pieces are costs weights weigh
-              (λ v small. subst (λ k. IsCostOf nodes (drop k stated) (child_of es v) (slice_index costs (child_of es v))) (node.child_level nodes s id f five refl inner.full pieces are v small)
+          least = subst (λ k. IsCostOf nodes k id n) (sym level) (node.node-cost nodes s id f rest has level inner.full pieces are costs weights weigh
+              (λ v small. subst (λ k. IsCostOf nodes k (child_of es v) (slice_index costs (child_of es v))) (node.child_level nodes s id f rest has level inner.full pieces are v small)
               (below v (up_to f v small)).least)
-              rows n minimal;
-          few = n_few;
+              rows n minimal);
+          few = subst (λ k. n ≤ 2 ^ bits_of k) (sym level) n_few;
         };
         list = λ h. record {
-          right = right_led;
+          right = subst (λ k. IsRight (width_of k) (child_of es) (map (led children) rows)) (sym level) right_led;
           order = in_order_led children rows order;
           children = All-map (λ r. IsChild nodes id r.label) (led children) rows
               (All-weaker (λ r. r.label < length weights) (λ r. IsChild nodes id (child_at children r.label)) (λ r low. leads_to r.label (within r.label low)) rows minimal.labels);
@@ -213,7 +204,7 @@ module _ (nodes : List Node) (s : IsStore nodes) (id : ℕ) (five : level_of nod
         sum = λ h. weight_led children costs weights rows
             (All-weaker (λ r. r.label < length weights) (λ r. slice_index weights r.label ≡ slice_index costs (child_at children r.label)) (λ r low. weighs_as r.label (within r.label low)) rows minimal.labels)
             ∙ minimal.weighs;
-        leaf = λ h. absurd (omega (arith, h, five));
+        leaf = λ h. absurd (subst HasField h (subst HasField (sym level) has));
       }
 
 -- what a row leads to
@@ -235,17 +226,31 @@ leading_more children rows leading k d e less within h =
     ∙ sym (map-append (led children) (take k rows) (r ∷ []))
     ∙ ap (map (led children)) (sym (take-suc rows k d less) ∙ ap (λ n. take n rows) (let n : suc k ≡ k + 1 = omega arith in n))
 
-leaf_few : (f : ℕ) → f ≡ 5 → 1 ≤ 2 ^ bits_of (drop f stated)
-leaf_few f e = pow_pos (bits_of (drop f stated))
+-- a level with a field is the field and what is left
+pub head_of : (level : List ℕ) → HasField level → (f : ℕ) × (rest : List ℕ) × (level ≡ f ∷ rest)
+head_of [] has = absurd has
+head_of (f ∷ rest) has = (f, rest, refl)
+
+pub width_head : (level : List ℕ) (d : ℕ) → HasField level → width (slice_index_or level 0 d) ≡ width_of level
+width_head [] d has = absurd has
+width_head (f ∷ rest) d has = refl
+
+pub few_at : (level : List ℕ) (es : List Edge) → HasField level → AreFull (top_of level) es → length es ≤ 2 ^ 32
+few_at [] es has full = absurd has
+few_at (f ∷ rest) es has full = few f es full
+
+pub no_fields : (level : List ℕ) → nat_eq (length level) 0 ≡ true → level ≡ []
+no_fields [] h = refl
+no_fields (f ∷ level) h = let e = eqb-true (length (f ∷ level)) 0 h in absurd (omega (arith, e))
 
 -- a leaf costs one entry
-pub leaf_planned : (nodes : List Node) (costs : List ℕ) (id : ℕ) (rows : List PrefixRow) → level_of nodes id ≡ 5 → IsPlanned nodes costs id rows 1
+pub leaf_planned : (nodes : List Node) (costs : List ℕ) (id : ℕ) (rows : List PrefixRow) → level_of nodes id ≡ [] → IsPlanned nodes costs id rows 1
 leaf_planned nodes costs id rows level = record {
   costed = record {
-    least = subst (λ k. IsCostOf nodes (drop k stated) id 1) (sym level) (λ name R apart decide. leaf-cost R);
-    few = leaf_few (level_of nodes id) level;
+    least = subst (λ k. IsCostOf nodes k id 1) (sym level) (λ name R apart decide. leaf-cost R);
+    few = pow_pos (bits_of (level_of nodes id));
   };
-  list = λ five. absurd (omega (arith, level, five));
-  sum = λ five. absurd (omega (arith, level, five));
+  list = λ five. absurd (subst HasField level five);
+  sum = λ five. absurd (subst HasField level five);
   leaf = λ h. refl;
 }

@@ -1,5 +1,5 @@
 -- Composed tables: the order of their entries, and what each is.
-use Rattle.std.specs.Prelude.{◌≡◌, ℕ, ◌<◌, List, [], ◌∷◌, ◌++◌, Option, All, find, length, map, option_map}
+use Rattle.std.specs.Prelude.{◌≡◌, ℕ, ◌<◌, List, [], ◌∷◌, ◌++◌, Option, All, find, length, map, option_map, slice_set, slice_index, ◌≢◌}
 use Rattle.std.specs.List.{AllZip, flat_map}
 use Rattle.field_boxes.specs.declared.prefix.Prefix.{Prefix}
 use Rattle.field_boxes.specs.Fields.{stated, AreValues, IsHeader}
@@ -45,15 +45,39 @@ pub record IsWordOf (word : Word) (prefixes : List Prefix) : Type 0 where
   pub trits : word_of word ≡ fields_trits stated prefixes
   pub holds : (header : List ℕ) → IsHeader header → agrees (word_of word) (header_bits header) ≡ all_hold stated prefixes header
 
--- the entry is the box
-abbrev pub IsEntry : Box → Entry → Type 0
-IsEntry box entry = IsWordOf entry.word box.prefixes × (entry.decision ≡ box.decision)
+-- the prefixes of the level's fields, each put at its field's place
+abbrev pub placed : List ℕ → List Prefix → List Prefix → List Prefix
+placed [] base ps = base
+placed (f ∷ level) base [] = base
+placed (f ∷ level) base (p ∷ ps) = placed level (slice_set base f p) ps
 
--- the entries are the table of the diagram, by prefix lists of its nodes
-pub record AreComposed (nodes : List Node) (root : ℕ) (entries : List Entry) : Type 0 where
+-- the entry is the box of the level's fields, with these prefixes in the other fields
+abbrev pub IsPlaced : List ℕ → List Prefix → Box → Entry → Type 0
+IsPlaced level base box entry = IsWordOf entry.word (placed level base box.prefixes) × (entry.decision ≡ box.decision)
+
+-- the whole of each field
+abbrev pub open_all : List Prefix
+open_all = let p : Prefix = record { value = 0; len = 0 } in p ∷ p ∷ p ∷ p ∷ p ∷ []
+
+-- the header's values of these fields, in their order
+abbrev pub picked : List ℕ → List ℕ → List ℕ
+picked level header = map (λ f. slice_index header f) level
+
+-- the field isn't among these
+abbrev pub Missing : ℕ → List ℕ → Type 0
+Missing f [] = Unit {0}
+Missing f (g ∷ level) = (g ≢ f) × Missing f level
+
+-- no field stands twice
+abbrev pub AreDistinct : List ℕ → Type 0
+AreDistinct [] = Unit {0}
+AreDistinct (f ∷ level) = Missing f level × AreDistinct level
+
+-- the entries are the table of the diagram over the level's fields, by prefix lists of its nodes
+pub record AreComposed (nodes : List Node) (level : List ℕ) (root : ℕ) (entries : List Entry) : Type 0 where
   pub lists : ℕ → List PrefixRow
-  pub have : HaveLists nodes lists stated root
-  pub entries_are : AllZip IsEntry (boxes nodes lists stated root) entries
+  pub have : HaveLists nodes lists level root
+  pub entries_are : AllZip (IsPlaced level open_all) (boxes nodes lists level root) entries
 
 -- what the first entry that matches the header decides
 abbrev pub decided : List Entry → List ℕ → Option ℕ
@@ -68,10 +92,10 @@ abbrev pub IsPrefixWord : Word → Type 0
 IsPrefixWord word = (prefixes : List Prefix) × IsWordOf word prefixes
 
 -- entries of these boxes were added
-abbrev pub Gains : List Entry → List Entry → List Box → Type 0
-Gains old new bs = (more : List Entry) × (new ≡ old ++ more) × AllZip IsEntry bs more
+abbrev pub Gains : List ℕ → List Prefix → List Entry → List Entry → List Box → Type 0
+Gains level base old new bs = (more : List Entry) × (new ≡ old ++ more) × AllZip (IsPlaced level base) bs more
 
 -- what a refusal says: the least cost, where it is above the limit
-abbrev pub IsRefusal : List Node → ℕ → ℕ → ComposeError → Type 0
-IsRefusal nodes root most Memory = Unit {0}
-IsRefusal nodes root most (TooMany needed limit) = IsCostOf nodes stated root needed × (limit ≡ most) × (most < needed)
+abbrev pub IsRefusal : List Node → List ℕ → ℕ → ℕ → ComposeError → Type 0
+IsRefusal nodes level root most Memory = Unit {0}
+IsRefusal nodes level root most (TooMany needed limit) = IsCostOf nodes level root needed × (limit ≡ most) × (most < needed)

@@ -1,7 +1,7 @@
 -- The field-by-field least cost of a rule list: how many entries it takes where a prefix list of the first
 -- field has, in each row, the cheapest entries for the rules that one value of the field leaves over.
 -- From the multi-field composition of the Razor papers (Meiners, Liu, Torng 2007 and 2010).
-use Rattle.std.specs.Prelude.{◌≡◌, ℕ, ◌+◌, ◌<◌, ◌≤◌, ◌^◌, List, [], ◌∷◌, Option, Some, sum_by, find}
+use Rattle.std.specs.Prelude.{◌≡◌, ℕ, ◌<◌, ◌≤◌, ◌^◌, List, [], ◌∷◌, Option, Some, sum_by, find}
 use Rattle.std.specs.List.{All}
 use Rattle.field_boxes.specs.declared.prefix.Prefix.{Prefix}
 use Rattle.field_boxes.specs.Fields.{width, AreValues}
@@ -43,8 +43,3 @@ pub record IsLeastOfPlans {A : Type 0} (f : ℕ) (fields : List ℕ) (Costs : Li
 unfoldable pub IsLeastCost : {A : Type 0} → List ℕ → List (Rule A) → ℕ → Type 0
 IsLeastCost [] R n = n ≡ 1
 IsLeastCost (f ∷ fields) R n = IsLeastOfPlans f fields (IsLeastCost fields) R n
-
--- the bits of these fields together
-abbrev pub bits_of : List ℕ → ℕ
-bits_of [] = 0
-bits_of (f ∷ fields) = width f + bits_of fields

@@ -4,3 +4,4 @@ pub mod Labels
 pub mod Plans
 pub mod Rows
 pub mod Composed
+pub mod Costs

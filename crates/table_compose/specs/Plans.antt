@@ -1,13 +1,13 @@
 -- What is worked out of each node: its least cost, and the cheapest prefix list of its field.
-use Rattle.std.specs.Prelude.{◌≡◌, ℕ, ◌<◌, ◌≤◌, ◌^◌, ◌+◌, Bool, true, List, Some, All, drop, length, slice_get, slice_index}
+use Rattle.std.specs.Prelude.{◌≡◌, ℕ, ◌<◌, ◌≤◌, ◌^◌, ◌+◌, Bool, true, List, [], ◌∷◌, Some, All, length, slice_get, slice_index}
 use Rattle.std.specs.Global.{Vec}
-use Rattle.field_boxes.specs.Fields.{width, greatest_of, stated}
+use Rattle.field_boxes.specs.Fields.{width}
 use Rattle.node_store.specs.Edges.{child_of}
 use Rattle.node_store.specs.Diagram.{Node, level_of, edges_of}
 use Rattle.prefix_min.specs.declared.row.PrefixRow.{PrefixRow}
 use Rattle.prefix_min.specs.PrefixList.{IsRight, weight}
 use Rattle.prefix_min.specs.Order.{InOrder}
-use Rattle.table_compose.specs.LeastCost.{bits_of}
+use Rattle.node_store.specs.Levels.{HasField, top_of, bits_of}
 use Rattle.table_compose.specs.Diagrams.{IsCostOf}
 use Rattle.table_compose.specs.declared.row.Row.{Row}
 use Rattle.table_compose.specs.Rows.{rows_at}
@@ -21,27 +21,32 @@ abbrev pub AreClosedFrom : List Node → ℕ → List Bool → Type 0
 AreClosedFrom nodes low marks = (id : ℕ) → low ≤ id → IsMarked marks id → All (λ e. IsMarked marks e.to.0) (edges_of nodes id)
 
 -- n is the least cost of every rule list that decides as the node answers, and at most one entry for each
--- header of the fields from the node's on
+-- header of its fields
 pub record IsCosted (nodes : List Node) (id n : ℕ) : Type 0 where
-  pub least : IsCostOf nodes (drop (level_of nodes id) stated) id n
-  pub few : n ≤ 2 ^ bits_of (drop (level_of nodes id) stated)
+  pub least : IsCostOf nodes (level_of nodes id) id n
+  pub few : n ≤ 2 ^ bits_of (level_of nodes id)
 
 -- a value of the node's field leads to the child
 abbrev pub IsChild : List Node → ℕ → ℕ → Type 0
-IsChild nodes id child = (v : ℕ) × (v ≤ greatest_of (level_of nodes id)) × (child_of (edges_of nodes id) v ≡ child)
+IsChild nodes id child = (v : ℕ) × (v ≤ top_of (level_of nodes id)) × (child_of (edges_of nodes id) v ≡ child)
+
+-- the bits of a level's first field
+abbrev pub width_of : List ℕ → ℕ
+width_of [] = 0
+width_of (f ∷ level) = width f
 
 -- a prefix list of an inner node's field: the label of a row is the child to which the row's values lead
 pub record IsListOf (nodes : List Node) (id : ℕ) (rows : List PrefixRow) : Type 0 where
-  pub right : IsRight (width (level_of nodes id)) (child_of (edges_of nodes id)) rows
+  pub right : IsRight (width_of (level_of nodes id)) (child_of (edges_of nodes id)) rows
   pub order : InOrder rows
   pub children : All (λ r. IsChild nodes id r.label) rows
 
 -- the list of an inner node, whose rows cost so much as their children do, and for a leaf one entry
 pub record IsPlanned (nodes : List Node) (costs : List ℕ) (id : ℕ) (rows : List PrefixRow) (n : ℕ) : Type 0 where
   pub costed : IsCosted nodes id n
-  pub list : level_of nodes id < 5 → IsListOf nodes id rows
-  pub sum : level_of nodes id < 5 → weight costs rows ≡ n
-  pub leaf : level_of nodes id ≡ 5 → n ≡ 1
+  pub list : HasField (level_of nodes id) → IsListOf nodes id rows
+  pub sum : HasField (level_of nodes id) → weight costs rows ≡ n
+  pub leaf : level_of nodes id ≡ [] → n ≡ 1
 
 -- each marked node below so many is planned: its cost and its list stand under its number
 abbrev pub ArePlanned : List Node → List Bool → List ℕ → List (Vec Row) → Type 0

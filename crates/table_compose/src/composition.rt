@@ -1,12 +1,13 @@
 //! The composed table of a diagram.
 ghost use Rattle.std.specs.Prelude.{◌≡◌, ◌≤◌, ℕ, List, Some, All, vec_len, IfOk, IfErr};
 ghost use Rattle.std.specs.List.{AllZip};
-ghost use Rattle.field_boxes.specs.Fields.{stated, IsHeader};
+ghost use Rattle.field_boxes.specs.Fields.{IsHeader};
+ghost use Rattle.node_store.specs.Levels.{IsLevel};
 ghost use Rattle.node_store.specs.Diagram.{level_of, answer};
 ghost use Rattle.table_compose.specs.declared.composition.ComposeError.TheVariants.{Memory as OutOfMemory};
 ghost use Rattle.table_compose.specs.Diagrams.{IsCostOf};
 ghost use Rattle.table_compose.specs.Rows.{rows_at};
-ghost use Rattle.table_compose.specs.Composed.{HaveLists, IsEntry, boxes, AreComposed, decided, IsAnswer, IsPrefixWord, IsRefusal};
+ghost use Rattle.table_compose.specs.Composed.{HaveLists, IsPlaced, picked, open_all, AreDistinct, boxes, AreComposed, decided, IsAnswer, IsPrefixWord, IsRefusal};
 
 use crate::diagram_plans::Plans;
 use crate::entries::add_table;
@@ -46,23 +47,26 @@ const OPEN: [Prefix; 5] = [Prefix { value: 0, len: 0 }; 5];
 pub fn compose(
     alloc: Global,
     store: &Store,
+    order: &[u8],
     root: NodeId,
     limit: u32,
 ) -> Result<Vec<Entry>, ComposeError>
-    requires { level_of store.now root.0 ≡ 0 }
+    requires order { IsLevel order.now }
+    requires apart { AreDistinct order.now }
+    requires root { level_of store.now root.0 ≡ order.now }
 
     // As many entries as the least cost, which is within the limit.
-    ensures count { IfOk result (λ entries. IsCostOf store.now stated root.0 (vec_len entries)) }
+    ensures count { IfOk result (λ entries. IsCostOf store.now order.now root.0 (vec_len entries)) }
     ensures within { IfOk result (λ entries. vec_len entries ≤ limit) }
 
     // Every header has a first entry that matches it, with the diagram's answer.
     ensures answers { IfOk result (λ entries. (header : List ℕ) → IsHeader header →
-        decided entries.items header ≡ Some (answer store.now root.0 header)) }
+        decided entries.items header ≡ Some (answer store.now root.0 (picked order.now header))) }
     // Each entry decides what the diagram answers on some header.
-    ensures decisions { IfOk result (λ entries. All (λ e. IsAnswer store.now stated root.0 e.decision) entries.items) }
+    ensures decisions { IfOk result (λ entries. All (λ e. IsAnswer store.now order.now root.0 e.decision) entries.items) }
     ensures prefixes { IfOk result (λ entries. All (λ e. IsPrefixWord e.word) entries.items) }
-    ensures order { IfOk result (λ entries. AreComposed store.now root.0 entries.items) }
-    ensures refusal { IfErr result (λ e. IsRefusal store.now root.0 limit e) }
+    ensures composed { IfOk result (λ entries. AreComposed store.now order.now root.0 entries.items) }
+    ensures refusal { IfErr result (λ e. IsRefusal store.now order.now root.0 limit e) }
 {
     store.same_answers();
     let plans = Plans::of(alloc, store, root)?;
@@ -70,7 +74,7 @@ pub fn compose(
     if needed > u128::from(limit) {
         return Err(ComposeError::TooMany { needed, limit });
     }
-    let entries = table(alloc, store, &plans, root, needed as usize)?;
+    let entries = table(alloc, store, order, &plans, root, needed as usize)?;
     Ok(entries)
 }
 
@@ -78,15 +82,17 @@ pub fn compose(
 fn table(
     alloc: Global,
     store: &Store,
+    order: &[u8],
     plans: &Plans,
     root: NodeId,
     count: usize,
 ) -> Result<Vec<Entry>, Memory>
-    requires level { level_of store.now root.0 ≡ 0 }
-    requires lists { HaveLists store.now (rows_at plans.now.lists.items) stated root.0 }
-    ensures { IfOk result (λ entries. AllZip IsEntry (boxes store.now (rows_at plans.now.lists.items) stated root.0) entries.items) }
+    requires order { IsLevel order.now }
+    requires level { level_of store.now root.0 ≡ order.now }
+    requires lists { HaveLists store.now (rows_at plans.now.lists.items) order.now root.0 }
+    ensures { IfOk result (λ entries. AllZip (IsPlaced order.now open_all) (boxes store.now (rows_at plans.now.lists.items) order.now root.0) entries.items) }
 {
     let mut entries = Vec::with_capacity(alloc, count)?;
-    add_table(store, plans, 0, OPEN, root, &mut entries)?;
+    add_table(store, plans, order, OPEN, root, &mut entries)?;
     Ok(entries)
 }

@@ -3,11 +3,12 @@ ghost use Rattle.std.specs.Prelude.{◌≡◌, ◌≤◌, ◌^◌, ℕ, List, So
 ghost use Rattle.field_boxes.specs.Classifier.{Rule};
 ghost use Rattle.field_boxes.specs.Fields.{AreValues};
 ghost use Rattle.field_boxes.specs.Names.{AreDistinct, name_at};
+ghost use Rattle.node_store.specs.Levels.{bits_of};
 ghost use Rattle.node_store.specs.Diagram.{Node, answer};
 ghost use Rattle.ternary_words.specs.declared.entry.Entry.{Entry};
 ghost use Rattle.ternary_words.specs.Table.{answer as table_answer};
 ghost use Rattle.ternary_words.specs.Views.{entry_of};
-ghost use Rattle.table_compose.specs.LeastCost.{AreAlike, IsLeastCost, bits_of};
+ghost use Rattle.table_compose.specs.LeastCost.{AreAlike, IsLeastCost};
 ghost use Rattle.table_compose.specs.Diagrams.{NamesApart};
 ghost use Rattle.table_compose.specs.Composed.{decided};
 

@@ -1,6 +1,6 @@
 //! What a diagram costs.
 ghost use Rattle.std.specs.Prelude.{◌≡◌, IfOk};
-ghost use Rattle.field_boxes.specs.Fields.{stated};
+ghost use Rattle.node_store.specs.Levels.{IsLevel};
 ghost use Rattle.node_store.specs.Diagram.{level_of};
 ghost use Rattle.table_compose.specs.Diagrams.{IsCostOf};
 
@@ -14,8 +14,8 @@ use std::alloc::Global;
 /// Each node of the diagram is worked out once, so time and room go by the nodes and edges of the diagram,
 /// and not by the entries that it costs. Each number up to the root's takes a little room, too.
 pub fn cost(alloc: Global, store: &Store, root: NodeId) -> Result<u128, Memory>
-    requires { level_of store.now root.0 ≡ 0 }
-    ensures { IfOk result (λ n. IsCostOf store.now stated root.0 n) }
+    requires { IsLevel (level_of store.now root.0) }
+    ensures { IfOk result (λ n. IsCostOf store.now (level_of store.now root.0) root.0 n) }
 {
     let plans = Plans::of(alloc, store, root)?;
     Ok(plans.cost(root))

@@ -9,11 +9,13 @@
 //! A diagram tells that from the bottom up. A leaf costs one entry. The children of a node are the classes of
 //! values that are alike, because nodes that answer alike have one number; they are the labels of the node's
 //! field, what they cost is what the labels weigh, and the least weight of the field is what the node costs.
-//! [`cost`] gives the cost of a root, and [`compose`] writes the entries, by the prefix lists of all nodes.
+//! [`cost`] gives the cost of a root, [`Costs`] the costs of many roots of one store, and [`compose`] writes the
+//! entries, by the prefix lists of all nodes. All go by the order in which the diagram reads its fields, whichever it
+//! is; the entry has each prefix in its field.
 //!
 //! ```text
 //! let needed = cost(alloc, &store, root)?;
-//! let entries = compose(alloc, &store, root, 262_144)?;
+//! let entries = compose(alloc, &store, &order, root, 262_144)?;
 //! ```
 //!
 //! `specs/LeastCost.antt` says what the least cost of a rule list is; it knows no diagram. [`laws`] has what
@@ -22,6 +24,7 @@
 #![tactic(auto)]
 
 mod composition;
+mod costs;
 mod diagram_plans;
 mod entries;
 mod labels;
@@ -32,4 +35,5 @@ mod reached;
 mod row;
 
 pub use composition::{ComposeError, compose};
+pub use costs::Costs;
 pub use least_cost::cost;

@@ -1,6 +1,6 @@
 //! The cheapest prefix list of one node's field.
 ghost use Rattle.std.specs.Prelude.{◌≡◌, ◌<◌, ◌≤◌, ℕ, length, slice_index, map, All, IsTrue, IfOk};
-ghost use Rattle.field_boxes.specs.Fields.{greatest_of};
+ghost use Rattle.node_store.specs.Levels.{HasField, top_of};
 ghost use Rattle.node_store.specs.Edges.{child_of};
 ghost use Rattle.node_store.specs.Diagram.{level_of, edges_of};
 ghost use Rattle.table_compose.specs.Plans.{IsCosted, IsPlanned};
@@ -26,12 +26,12 @@ impl NodePlan {
     pub fn of(alloc: Global, store: &Store, costs: &[u128], id: NodeId) -> Result<NodePlan, Memory>
         requires number { id.0 < length store.now }
         requires room { id.0 ≤ length costs.now }
-        requires children { (v : ℕ) → level_of store.now id.0 < 5 → v ≤ greatest_of (level_of store.now id.0) →
+        requires children { (v : ℕ) → HasField (level_of store.now id.0) → v ≤ top_of (level_of store.now id.0) →
             IsCosted store.now (child_of (edges_of store.now id.0) v) (slice_index costs.now (child_of (edges_of store.now id.0) v)) }
         ensures { IfOk result (λ plan. IsPlanned store.now costs.now id.0 (rows_of plan.rows.items) plan.cost) }
     {
         let level = store.level(id);
-        if level == 5 {
+        if level.is_empty() {
             return Ok(NodePlan {
                 cost: 1,
                 rows: Vec::new(alloc),
@@ -40,7 +40,7 @@ impl NodePlan {
         store.same_answers();
         let labels = Labelling::of(alloc, store.edges(id))?;
         let weights = weights(alloc, labels.children.as_slice(), costs)?;
-        let bits = width(level as usize);
+        let bits = width(usize::from(level[0]));
         let cheapest = minimise(alloc, labels.pieces.as_slice(), weights.as_slice(), bits)?;
         let rows = leading(alloc, cheapest.rows.as_slice(), labels.children.as_slice())?;
         Ok(NodePlan {
@@ -59,7 +59,7 @@ impl NodePlan {
     ) -> Result<NodePlan, Memory>
         requires number { id.0 < length store.now }
         requires room { id.0 ≤ length costs.now }
-        requires children { IsTrue marked → (v : ℕ) → level_of store.now id.0 < 5 → v ≤ greatest_of (level_of store.now id.0) →
+        requires children { IsTrue marked → (v : ℕ) → HasField (level_of store.now id.0) → v ≤ top_of (level_of store.now id.0) →
             IsCosted store.now (child_of (edges_of store.now id.0) v) (slice_index costs.now (child_of (edges_of store.now id.0) v)) }
         ensures { IsTrue marked → IfOk result (λ plan. IsPlanned store.now costs.now id.0 (rows_of plan.rows.items) plan.cost) }
     {

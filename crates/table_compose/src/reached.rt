@@ -41,7 +41,7 @@ fn mark_children(store: &Store, id: NodeId, marks: &mut [bool])
         return;
     }
     let edges = store.edges(id);
-    if store.level(id) < 5 {
+    if !store.level(id).is_empty() {
         mark_ends(edges, id.0, marks);
     }
 }

@@ -1,12 +1,13 @@
 //! Diagrams of rules, diagrams changed in one box, and what is asked of them.
 ghost use Rattle.std.specs.Prelude.{◌≡◌, ◌≤◌};
+ghost use Rattle.field_boxes.specs.Fields.{stated};
 ghost use Rattle.field_boxes.specs.Spans.{AreInside};
 ghost use Rattle.node_store.specs.Diagram.{level_of};
 
 use fdd_build::{build, over, under, under_rule};
 use fdd_ops::agrees_where;
 use field_boxes::{Header, Ports, Rule, Span};
-use node_store::{NodeId, Store};
+use node_store::{NodeId, Store, stated_order};
 use std::process::Abort;
 use std::test::Fail;
 use table_compose::cost;
@@ -29,7 +30,7 @@ fn protocols(lo: u32, hi: u32) -> [Span; 5]
 
 /// What the diagram answers at some protocols.
 fn expect(rt: &impl Abort, store: &Store, root: NodeId, answers: &[(u32, u32)]) -> Result<(), Fail>
-    requires { level_of store.now root.0 ≡ 0 }
+    requires { level_of store.now root.0 ≡ stated }
 {
     for &(protocol, answer) in answers {
         let header = Header::new([1, 2, 3, 4, protocol]).ok_or("no header")?;
@@ -41,7 +42,7 @@ fn expect(rt: &impl Abort, store: &Store, root: NodeId, answers: &[(u32, u32)]) 
 #[test]
 fn boxes_go_under_and_over(rt: HostRuntime) -> Result<(), Fail> {
     let mut store = Store::new(rt.alloc());
-    let none = build(rt.alloc(), &mut store, &[])?;
+    let none = build(rt.alloc(), &mut store, &stated_order(), &[])?;
     expect(&rt, &store, none, &[(0, 0), (6, 0), (255, 0)])?;
     let six = under(rt.alloc(), &mut store, none, &protocols(6, 6), 1)?;
     let both = under(rt.alloc(), &mut store, six, &protocols(0, 255), 2)?;
@@ -67,7 +68,7 @@ fn boxes_go_under_and_over(rt: HostRuntime) -> Result<(), Fail> {
 fn two_answers(rt: HostRuntime) -> Result<(), Fail> {
     let alloc = rt.alloc();
     let mut store = Store::new(alloc);
-    let none = build(alloc, &mut store, &[])?;
+    let none = build(alloc, &mut store, &stated_order(), &[])?;
     let six = under(alloc, &mut store, none, &protocols(6, 6), 1)?;
     let both = under(alloc, &mut store, six, &protocols(0, 255), 2)?;
     assert_eq!(rt; cost(alloc, &store, none)?, 1);
@@ -92,7 +93,7 @@ fn a_rule_goes_under_a_diagram(rt: HostRuntime) -> Result<(), Fail> {
         decision: 1,
     };
     let mut store = Store::new(rt.alloc());
-    let none = build(rt.alloc(), &mut store, &[])?;
+    let none = build(rt.alloc(), &mut store, &stated_order(), &[])?;
     let root = under_rule(rt.alloc(), &mut store, none, &web)?;
     for (port, protocol, answer) in [(443, 6, 1), (80, 6, 1), (81, 6, 0), (443, 17, 0)] {
         let header = Header::new([1, 2, 3, port, protocol]).ok_or("no header")?;

@@ -13,8 +13,8 @@ fn expect_joint<R: Abort + AllocGlobal>(
     want: &[(u32, NodeId, NodeId)],
 ) -> Result<(), Fail> {
     let [left, right] = nodes;
-    expect_level(rt, store, left, 4);
-    expect_level(rt, store, right, 4);
+    expect_level(rt, store, left, &[4]);
+    expect_level(rt, store, right, &[4]);
     let edges = joint(rt.alloc(), store, left, right)?;
     assert_eq!(rt; edges.len(), want.len());
     for (edge, (hi, left, right)) in edges.iter().zip(want) {

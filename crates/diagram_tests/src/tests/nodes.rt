@@ -7,9 +7,9 @@ use std::process::Abort;
 use std::test::Fail;
 
 /// The number is that of a node of the level.
-pub(super) fn expect_level(rt: &impl Abort, store: &Store, id: NodeId, level: u8)
+pub(super) fn expect_level(rt: &impl Abort, store: &Store, id: NodeId, level: &[u8])
     ensures number { id.0 < length store.now }
-    ensures level { level_of store.now id.0 ≡ level }
+    ensures level { level_of store.now id.0 ≡ level.now }
 {
     assert!(rt; id.0 < store.count());
     assert_eq!(rt; store.level(id), level);
@@ -25,9 +25,9 @@ pub(super) fn protocols(
     let [first, second] = ends;
     let [low, middle, high] = to;
     assert!(rt; first < second && second < 255);
-    expect_level(rt, store, low, 5);
-    expect_level(rt, store, middle, 5);
-    expect_level(rt, store, high, 5);
+    expect_level(rt, store, low, &[]);
+    expect_level(rt, store, middle, &[]);
+    expect_level(rt, store, high, &[]);
     let edges = [
         Edge { hi: first, to: low },
         Edge {
@@ -37,5 +37,5 @@ pub(super) fn protocols(
         Edge { hi: 255, to: high },
     ];
     laws::edges_in_turn();
-    Ok(store.make(4, &edges)?)
+    Ok(store.make(&[4], &edges)?)
 }

@@ -1,7 +1,10 @@
-use Rattle.std.proofs.Common.{◌∙◌, arith}
-use Rattle.node_store.proofs.Made.{within}
+use Rattle.std.proofs.Common.{◌∙◌}
+use Rattle.field_boxes.specs.Fields.{stated}
+use Rattle.fdd_ops.proofs.Levels.{all_fields}
+use Rattle.node_store.proofs.Canonical.{in_use}
 use Rattle.node_store.proofs.Growth.{level_kept}
 use Rattle.partition_check.specs.Claims.{rule_matches, entry_matches}
+use Rattle.box_partition.proofs.Stated.{in_order}
 use Rattle.box_partition.proofs.Endings.{is-refused, is-writing, answers-first}
 use Rattle.box_partition.proofs.certificate.write_rows.Goals as goal
 
@@ -27,7 +30,8 @@ returns-in_err-first_entry g c =
 pub write_nodes-requires-clause-left : goal.write_nodes-requires-clause-left
 write_nodes-requires-clause-left g c =
     let left = c.in_ok-first_rule in
-    level_kept c.build.new.store c.build-2.new.store left.first_rule.0 c.in_ok-first_entry.ensures.grows (within c.build.new.store left.first_rule.0 (omega (arith, left.ensures.level))) ∙ left.ensures.level
+    level_kept c.build.new.store c.build-2.new.store left.first_rule.0 c.in_ok-first_entry.ensures.grows (in_use c.build.new.store left.first_rule.0 stated all_fields (left.ensures.level ∙ c.stated_order.ensures.stated))
+    ∙ left.ensures.level ∙ c.stated_order.ensures.stated
 
 pub returns : goal.returns
 returns g c =
@@ -38,7 +42,8 @@ returns g c =
     let right = c.in_ok-first_entry in
     is-writing law.rule law.entry second left.first_rule.0 right.first_entry.0 c.args.list.now c.args.table.now c.requires.agree
     (answers-first rule_matches second left.first_rule.0 c.deref.result.now c.args.list.now.rules.items c.in_ok-rules.rules.items c.deref-3.result.now c.deref.ensures.value c.deref-3.ensures.value c.in_ok-rules.ensures
-    (λ header h. right.ensures.grows.answers left.first_rule.0 header (within first left.first_rule.0 (omega (arith, left.ensures.level))) ∙ left.ensures.answers header h))
+    (λ header h. right.ensures.grows.answers left.first_rule.0 header (in_use first left.first_rule.0 stated all_fields (left.ensures.level ∙ c.stated_order.ensures.stated))
+    ∙ in_order _ first left.first_rule.0 _ c.stated_order.ensures.stated left.ensures.answers header h))
     (answers-first entry_matches second right.first_entry.0 c.deref-2.result.now c.args.table.now.entries.items c.in_ok-entries.entries.items c.deref-4.result.now c.deref-2.ensures.value c.deref-4.ensures.value c.in_ok-entries.ensures
-    right.ensures.answers)
+    (in_order _ second right.first_entry.0 _ c.stated_order-2.ensures.stated right.ensures.answers))
     c.write_nodes.ensures.puts c.write_nodes.ensures.count

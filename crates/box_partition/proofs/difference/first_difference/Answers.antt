@@ -1,7 +1,9 @@
-use Rattle.std.proofs.Common.{List, ap, ◌∙◌, arith}
+use Rattle.std.proofs.Common.{List, ap, ◌∙◌}
 use Rattle.field_boxes.specs.declared.header.Header.{Header}
 use Rattle.field_boxes.specs.declared.rule.Rule.{Rule}
-use Rattle.node_store.proofs.Made.{within}
+use Rattle.field_boxes.specs.Fields.{stated}
+use Rattle.fdd_ops.proofs.Levels.{all_fields}
+use Rattle.node_store.proofs.Canonical.{in_use}
 use Rattle.fdd_build.specs.Rules.{decided}
 use Rattle.box_partition.specs.Names.{or_none}
 use Rattle.box_partition.proofs.Apart.{tell-apart, first-apart}
@@ -17,8 +19,8 @@ returns c =
     let tell = tell-apart law.rule law.entry law.rule_within law.entry_within c.args.list.now c.args.table.now second left.decided.0 right.answered.0 c.in_ok-rules.rules.items c.in_ok-entries.entries.items
     c.are_names.ensures c.are_names-2.ensures c.in_ok-rules.ensures c.in_ok-entries.ensures
     (λ header h.
-    right.ensures.grows.answers left.decided.0 header (within first left.decided.0 (omega (arith, left.ensures.level))) ∙ left.ensures.answers header h
-    ∙ ap (λ (xs : List Rule). or_none (decided xs header)) c.deref.ensures.value)
-    (λ header h. right.ensures.answers header h ∙ ap (λ (xs : List Rule). or_none (decided xs header)) c.deref-2.ensures.value) in
+    right.ensures.grows.answers left.decided.0 header (in_use first left.decided.0 stated all_fields left.ensures.level) ∙ left.ensures.answers header h
+    ∙ ap (λ (xs : List Rule). or_none (decided stated xs header)) c.deref.ensures.value)
+    (λ header h. right.ensures.answers header h ∙ ap (λ (xs : List Rule). or_none (decided stated xs header)) c.deref-2.ensures.value) in
     first-apart (λ (h : Header). h.values) second left.decided.0 right.answered.0 c.args.list.now c.args.table.now c.least_difference.result tell c.least_difference.ensures.least
     c.least_difference.ensures.none.0

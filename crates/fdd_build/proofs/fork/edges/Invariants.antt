@@ -17,5 +17,5 @@ invariant-loop-span l = record {
       child_of l.filling.edges.items v ≡ cond (union_holds v (intervals_of (take l.span-index l.set))) l.inside.0 l.outside.0;
   past : (v : ℕ) → l.filling.filled ≤ v → union_holds v (intervals_of (take l.span-index l.set)) ≡ false;
   within : l.filling.filled < l.greatest + 2;
-  children : (nodes : List Node) (level : ℕ) → level_of nodes l.inside.0 ≡ level → level_of nodes l.outside.0 ≡ level → LeadTo nodes level l.filling.edges.items;
+  children : (nodes : List Node) (level : List ℕ) → level_of nodes l.inside.0 ≡ level → level_of nodes l.outside.0 ≡ level → LeadTo nodes level l.filling.edges.items;
 }

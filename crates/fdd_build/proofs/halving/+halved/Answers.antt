@@ -2,9 +2,9 @@ use Rattle.std.proofs.Common.{◌≡◌, ◌∙◌, ◌/◌, ap, sym, subst, ari
 use Rattle.std.specs.Prelude.{cond}
 use Rattle.std.specs.List.{list_any}
 use Rattle.std.proofs.lemmas.List.{take-append-drop}
-use Rattle.node_store.specs.declared.edge.NodeId.{NodeId}
+use Rattle.fdd_build.proofs.Zeros.{head}
 use Rattle.node_store.specs.Diagram.{answer}
-use Rattle.node_store.proofs.Made.{within}
+use Rattle.node_store.proofs.Canonical.{in_use}
 use Rattle.fdd_build.specs.declared.overlay.Overlay.TheVariants.{Answer}
 use Rattle.fdd_build.specs.Overlay.{shown}
 use Rattle.fdd_build.specs.Rules.{decided, hides}
@@ -17,19 +17,19 @@ pub lay-requires-clause-nothing : goal.lay-requires-clause-nothing
 lay-requires-clause-nothing t c =
     let grown = growth.twice c.args.store.now c.halved.new.store c.hidden.new.store c.in_ok-upper-in_default.ensures.grows
     (growth.twice c.halved.new.store c.halved-in_default.new.store c.hidden.new.store c.in_ok-lower-in_default.ensures.grows c.in_ok-lower-in_default-2.ensures.grows) in
-    stays.all_nothing c.args.store.now c.hidden.new.store c.args.walk.now.nothing grown c.requires.nothing
+    stays.all_nothing c.args.store.now c.hidden.new.store c.args.order.now c.args.nothing.now grown c.requires.order c.requires.nothing
 
 pub lay-requires-clause-upper : goal.lay-requires-clause-upper
 lay-requires-clause-upper t c =
     let first = c.halved.new.store in
     let upper = c.in_ok-upper-in_default in
     let later = growth.twice first c.halved-in_default.new.store c.hidden.new.store c.in_ok-lower-in_default.ensures.grows c.in_ok-lower-in_default-2.ensures.grows in
-    growth.level_kept first c.hidden.new.store upper.upper.0 later (within first upper.upper.0 (omega (arith, upper.ensures.level))) ∙ upper.ensures.level
+    growth.level_kept first c.hidden.new.store upper.upper.0 later (in_use first upper.upper.0 _ c.requires.order upper.ensures.level) ∙ upper.ensures.level
 
 pub returns-in-empty-clause-answers : goal.returns-in-empty-clause-answers
 returns-in-empty-clause-answers t c = λ header h.
-    subst (λ (n : NodeId). answer c.args.store.now n.0 header ≡ 0) (sym (c.at.ensures c.at.result)) ((c.requires.nothing 0 c.at.result (omega arith) (omega arith)).zero header h)
-    ∙ sym (decides_none header c.args.rules.now (omega (arith, c.in-empty.len_below)))
+    (head c.args.store.now c.args.order.now c.args.nothing.now (record { 0 = 0 }) c.requires.nothing).zero header h
+    ∙ sym (decides_none c.args.order.now header c.args.rules.now (omega (arith, c.in-empty.len_below)))
 
 pub returns-in_ok-id-in_default-clause-answers : goal.returns-in_ok-id-in_default-clause-answers
 returns-in_ok-id-in_default-clause-answers t c = λ header h.
@@ -46,10 +46,16 @@ returns-in_ok-id-in_default-clause-answers t c = λ header h.
     c.in_ok-id-in_default.ensures.answers header h
     ∙ ap (λ o. shown o (answer third upper.upper.0 header) (answer third shown_lower.lower.0 header)) c.requires.overlay
     ∙ ap (λ n. shown Answer n (answer third shown_lower.lower.0 header))
-    (later.answers upper.upper.0 header (within first upper.upper.0 (omega (arith, upper.ensures.level))) ∙ upper.ensures.answers header h ∙ ap (λ rs. decided rs header) c.split_at.ensures.front)
-    ∙ ap (λ n. shown Answer (decided front header) n)
+    (later.answers upper.upper.0 header (in_use first upper.upper.0 _ c.requires.order upper.ensures.level) ∙ upper.ensures.answers header h ∙ ap (λ rs. decided c.args.order.now rs header) c.split_at.ensures.front)
+    ∙ ap (λ n. shown Answer (decided c.args.order.now front header) n)
     (shown_lower.ensures.answers header h
-    ∙ ap (λ rs. cond (list_any (λ r. hides r header) rs) 0 (answer second lower.lower.0 header)) c.split_at.ensures.front
-    ∙ ap (λ n. cond (list_any (λ r. hides r header) front) 0 n) (lower.ensures.answers header h ∙ ap (λ rs. decided rs header) c.split_at.ensures.back))
-    ∙ sym (joined header front back)
-    ∙ ap (λ rs. decided rs header) (take-append-drop (length rules / 2) rules)
+    ∙ ap (λ rs. cond (list_any (λ r. hides c.args.order.now r header) rs) 0 (answer second lower.lower.0 header)) c.split_at.ensures.front
+    ∙ ap (λ n. cond (list_any (λ r. hides c.args.order.now r header) front) 0 n) (lower.ensures.answers header h ∙ ap (λ rs. decided c.args.order.now rs header) c.split_at.ensures.back))
+    ∙ sym (joined c.args.order.now header front back)
+    ∙ ap (λ rs. decided c.args.order.now rs header) (take-append-drop (length rules / 2) rules)
+
+pub halved-requires-in_default : goal.halved-requires-in_default
+halved-requires-in_default t c = (
+  omega (arith, c.decreases, c.in_default.len_at_least, ap length c.split_at.ensures.back, c.split_at.ensures.back_len),
+  (c.requires.order, (stays.all_nothing c.args.store.now c.halved.new.store c.args.order.now c.args.nothing.now c.in_ok-upper-in_default.ensures.grows c.requires.order c.requires.nothing, c.requires.overlay)),
+)

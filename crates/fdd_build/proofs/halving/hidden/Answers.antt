@@ -19,9 +19,9 @@ loop-rule-preserved c =
       answers = λ header h.
           let below = answer c.args.store.now c.args.below.0 header in
           made.answers header h
-          ∙ ap (λ n. cond (hides rule header) 0 n) (l.invariant.answers header h)
-          ∙ hidden_too (list_any (λ r. hides r header) (take l.rule-index rules)) (hides rule header) below
-          ∙ sym (ap (λ b. cond b 0 below) (list_any_more (λ r. hides r header) rules l.rule-index rule c.loop-rule-test.true
-          ∙ ap (λ (r : code.Rule). list_any (λ x. hides x header) (take l.rule-index rules) || hides r header) (sym c.rule-item.is)));
+          ∙ ap (λ n. cond (hides c.args.order.now rule header) 0 n) (l.invariant.answers header h)
+          ∙ hidden_too (list_any (λ r. hides c.args.order.now r header) (take l.rule-index rules)) (hides c.args.order.now rule header) below
+          ∙ sym (ap (λ b. cond b 0 below) (list_any_more (λ r. hides c.args.order.now r header) rules l.rule-index rule c.loop-rule-test.true
+          ∙ ap (λ (r : code.Rule). list_any (λ x. hides c.args.order.now x header) (take l.rule-index rules) || hides c.args.order.now r header) (sym c.rule-item.is)));
       grows = growth.twice c.args.store.now l.store c.hidden_by.new.store l.invariant.grows made.grows;
     }

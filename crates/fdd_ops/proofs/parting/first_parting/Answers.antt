@@ -1,5 +1,5 @@
-use Rattle.std.proofs.Common.{arith}
-use Rattle.field_boxes.specs.Fields.{greatest_of}
+use Rattle.std.proofs.Common.{arith, sym, subst}
+use Rattle.node_store.specs.Levels.{HasField, top_of}
 use Rattle.node_store.specs.declared.edge.Edge.{Edge}
 use Rattle.node_store.specs.Diagram.{level_of}
 use Rattle.fdd_ops.proofs.Ends.{at_once, goes_on, most, sooner, later}
@@ -14,7 +14,7 @@ pub loop-start-init : goal.loop-start-init
 loop-start-init c =
     begun _ _ _ c.edges-left.result.now c.edges-right.result.now c.same_answers.ensures.store c.requires.inner c.requires.level c.requires.differ
     c.edges-left.ensures.edges c.edges-right.ensures.edges
-    (c.edges-left.ensures.inner c.requires.inner) (c.edges-right.ensures.inner (omega (arith, c.requires.level, c.requires.inner)))
+    (c.edges-left.ensures.inner c.requires.inner) (c.edges-right.ensures.inner (subst HasField (sym c.requires.level) c.requires.inner))
 
 pub overflow_add-start : goal.overflow_add-start
 overflow_add-start c =
@@ -33,7 +33,7 @@ overflow_add-result c =
 
 pub bounds-left-1 : goal.bounds-left-1
 bounds-left-1 c =
-    goes_on (greatest_of (level_of c.args.store.now c.args.a.0)) _ c.loop-start.left.now none c.loop-start.invariant.left_edges
+    goes_on (top_of (level_of c.args.store.now c.args.a.0)) _ c.loop-start.left.now none c.loop-start.invariant.left_edges
     (omega (arith, c.if-left_edge-right_edge.true, most _ _ c.loop-start.right.now none c.loop-start.invariant.right_edges))
 
 pub overflow_add-result-else-left_edge-right_edge : goal.overflow_add-result-else-left_edge-right_edge
@@ -44,7 +44,7 @@ overflow_add-result-else-left_edge-right_edge c =
 pub bounds-right-1 : goal.bounds-right-1
 bounds-right-1 c =
     let less = less_of _ _ _ _ c.loop-start-test.ensures (same_to _ _ c.if-ne.ensures) c.if-left_edge-right_edge.false in
-    goes_on (greatest_of (level_of c.args.store.now c.args.a.0)) _ c.loop-start.right.now none c.loop-start.invariant.right_edges
+    goes_on (top_of (level_of c.args.store.now c.args.a.0)) _ c.loop-start.right.now none c.loop-start.invariant.right_edges
     (omega (arith, less, most _ _ c.loop-start.left.now none c.loop-start.invariant.left_edges))
 
 pub returns-then-ne : goal.returns-then-ne

@@ -5,7 +5,7 @@ pub returns-clause-within : goal.returns-clause-within
 returns-clause-within c = has_level
 
 pub returns-clause-next : goal.returns-clause-next
-returns-clause-next c = λ nodes id v s five h. (leads_on nodes id v s five h).1
+returns-clause-next c = λ nodes id v s field h. (leads_on nodes id v s field h).1
 
 pub returns-clause-older : goal.returns-clause-older
-returns-clause-older c = λ nodes id v s five h. (leads_on nodes id v s five h).0
+returns-clause-older c = λ nodes id v s field h. (leads_on nodes id v s field h).0

@@ -7,6 +7,6 @@ abbrev pub invariant-loop-pair : goal.invariant-loop-pair
 invariant-loop-pair l = record {
   grows : Grows l.fn.sets l.sets;
   count : length l.pairs.items ≡ l.pair-index;
-  level : ArePairs l.sets l.cover.level l.pairs.items;
-  each : (c : ℕ) → c < l.pair-index → IsBehind l.sets l.cover.level l.cover.set (pair_at l.contexts c) (pair_at l.pairs.items c);
+  level : ArePairs l.sets l.cover.level.now l.pairs.items;
+  each : (c : ℕ) → c < l.pair-index → IsBehind l.sets l.cover.level.now l.cover.set (pair_at l.contexts c) (pair_at l.pairs.items c);
 }

@@ -1,15 +1,21 @@
-use Rattle.std.proofs.Common.{◌≡◌, ◌≤◌, ◌+◌, ◌∙◌, List, [], length, get_or, take, ap, sym, subst, refl, add-one, arith, rules}
-use Rattle.std.specs.Prelude.{suc}
+use Rattle.std.proofs.Common.{◌≡◌, ◌≤◌, ◌<◌, ◌+◌, ◌∙◌, List, [], length, get_or, drop, take, ap, sym, subst, refl, add-one, arith, rules}
+use Rattle.std.specs.Prelude.{suc, map}
 use Rattle.std.proofs.lemmas.List.{get_or_default}
-use Rattle.field_boxes.specs.Fields.{greatest_of}
+use Rattle.field_boxes.specs.Fields.{stated, greatest_of}
 use Rattle.field_boxes.specs.Spans.{intervals_of}
 use Rattle.node_store.specs.declared.split.Part.{Part}
+use Rattle.node_store.specs.Diagram.{edges_of}
+use Rattle.node_store.specs.Edges.{AreFull}
+use Rattle.node_store.specs.Levels.{HasField}
+use Rattle.node_store.specs.Split.{to_left, to_right}
+use Rattle.node_store.specs.Store.{LeadTo}
 use Rattle.partition_check.specs.Checking.{Statement}
 use Rattle.partition_check.specs.Partition.{Group}
 use Rattle.box_partition.specs.Output.{PutsUntil}
 use Rattle.box_partition.specs.Rows.{AreRowsOf, group_text, headers_from, rows_text}
 use Rattle.box_partition.proofs.Texts.{count-next}
 use Rattle.box_partition.proofs.Until.{until-is, until-ok, until-next, until-next_cut, until-refused, until-stop}
+use Rattle.box_partition.proofs.Stated.{has_field}
 use Rattle.box_partition.proofs.Walking as walking
 use Rattle.box_partition.proofs.walk.Walk.+walk.Goals as goal
 
@@ -30,9 +36,9 @@ pub parts-rows-requires : goal.parts-rows-requires
 parts-rows-requires g t c κs within =
     let nodes = c.args.self.now.store.now in
     let one : suc c.args.level ≡ c.args.level + 1 = omega arith in
-    let left = walking.leads-left nodes (suc c.args.level) c.args.parts.now c.loop-part.part-index nothing c.requires.left c.loop-part-test.true in
-    let right = walking.leads-right nodes (suc c.args.level) c.args.parts.now c.loop-part.part-index nothing c.requires.right c.loop-part-test.true in
-    (omega (arith, c.decreases, c.requires.level), (within, (omega (arith, c.requires.level), (left ∙ one, right ∙ one))))
+    let left = walking.leads-left nodes (drop (suc c.args.level) stated) c.args.parts.now c.loop-part.part-index nothing c.requires.left c.loop-part-test.true in
+    let right = walking.leads-right nodes (drop (suc c.args.level) stated) c.args.parts.now c.loop-part.part-index nothing c.requires.right c.loop-part-test.true in
+    (omega (arith, c.decreases, c.requires.level), (within, (omega (arith, c.requires.level), (left ∙ ap (λ k. drop k stated) one, right ∙ ap (λ k. drop k stated) one))))
 
 pub parts-returns-in_err-rows-clause-rows : goal.parts-returns-in_err-rows-clause-rows
 parts-returns-in_err-rows-clause-rows g t c = λ groups paired.
@@ -77,6 +83,24 @@ pub parts-returns-clause-few : goal.parts-returns-clause-few
 parts-returns-clause-few g t c =
     walking.few-all c.args.level c.args.parts.now c.loop-part.part-index c.loop-part.rows c.requires.level c.requires.full (omega (arith, c.loop-part.auto.part-index-end, c.loop-part-test.false))
     c.loop-part.invariant.few
+
+pub rows-joint-requires-clause-inner : goal.rows-joint-requires-clause-inner
+rows-joint-requires-clause-inner g t c = subst HasField (sym c.requires.left) (has_field c.args.level (omega (arith, c.requires.level, c.if-level-eq5.false)))
+
+pub rows-parts-requires : goal.rows-parts-requires
+rows-parts-requires g t c κs within =
+    let nodes = c.args.self.now.store.now in
+    let level = c.args.level in
+    let less : level < 5 = omega (arith, c.requires.level, c.if-level-eq5.false) in
+    let items = c.in_ok-parts.parts.items in
+    let split = c.in_ok-parts.ensures in
+    let whole = walking.top-split nodes level (edges_of nodes c.args.left.0) (edges_of nodes c.args.right.0) items c.args.left.0 less c.requires.left split.split in
+    let full = subst (λ (ps : List Part). AreFull (greatest_of level) (map to_left ps)) (sym c.deref.ensures.value) whole.full in
+    let left = subst (λ (ps : List Part). LeadTo nodes (drop (suc level) stated) (map to_left ps)) (sym c.deref.ensures.value)
+    (walking.next-lead nodes level (map to_left items) c.args.left.0 less c.requires.left split.left) in
+    let right = subst (λ (ps : List Part). LeadTo nodes (drop (suc level) stated) (map to_right ps)) (sym c.deref.ensures.value)
+    (walking.next-lead nodes level (map to_right items) c.args.left.0 less c.requires.left split.right) in
+    (omega (arith, c.decreases, less), (within, (less, (full, (left, right)))))
 
 pub rows-returns-then-level-eq5-clause-rows : goal.rows-returns-then-level-eq5-clause-rows
 rows-returns-then-level-eq5-clause-rows g t c =

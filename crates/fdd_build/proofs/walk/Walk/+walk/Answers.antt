@@ -1,7 +1,8 @@
 use Rattle.std.proofs.Common.{◌≡◌, ◌+◌, ◌∷◌, ◌++◌, [], refl, sym, subst, arith, take}
 use Rattle.std.specs.Prelude.{suc, map, slice_index_or}
 use Rattle.std.specs.List.{AllZip}
-use Rattle.field_boxes.specs.Fields.{greatest_of}
+use Rattle.node_store.specs.Levels.{next, top_of}
+use Rattle.node_store.proofs.Canonical.{not_empty, is_next}
 use Rattle.node_store.specs.declared.edge.Edge.{Edge}
 use Rattle.node_store.specs.declared.split.Part.{Part}
 use Rattle.node_store.specs.Diagram.{edges_of}
@@ -19,14 +20,14 @@ pub edges-pair-requires : goal.edges-pair-requires
 edges-pair-requires t c =
     let l = c.loop-part in
     let d : Part = record { hi = 0; left = record { 0 = 0 }; right = record { 0 = 0 } } in (
-      omega (arith, c.decreases, c.requires.level),
+      omega (arith, c.decreases),
       (
-        stays.all_nothing c.args.store.now l.store c.args.self.now.nothing l.invariant.grows c.requires.nothing,
+        stays.all_nothing c.args.store.now l.store c.args.level.now c.args.nothing.now l.invariant.grows c.requires.level c.requires.nothing,
         (
           l.invariant.memo,
           (
             c.requires.level,
-            parts.part_at c.args.store.now l.store c.args.level c.args.parts.now l.part-index d l.invariant.grows c.requires.level c.requires.left c.requires.right c.loop-part-test.true,
+            parts.part_at c.args.store.now l.store c.args.level.now c.args.parts.now l.part-index d l.invariant.grows c.requires.level c.requires.left c.requires.right c.loop-part-test.true,
           ),
         ),
       ),
@@ -50,22 +51,22 @@ edges-loop-part-preserved t c =
           (subst (λ k. AllZip (IsLaidPart overlay c.pair.new.store) (take k c.args.parts.now) (l.edges.items ++ edge ∷ [])) one more);
     }
 
-pub worked_out-returns-then-level-eq5-clause-memo : goal.worked_out-returns-then-level-eq5-clause-memo
-worked_out-returns-then-level-eq5-clause-memo t c =
+pub worked_out-returns-then-is_empty-clause-memo : goal.worked_out-returns-then-is_empty-clause-memo
+worked_out-returns-then-is_empty-clause-memo t c =
     stays.memo c.args.self.now.overlay c.args.store.now c.leaf.new.store c.args.memo.now c.leaf.ensures.grows c.requires.memo
 
 pub worked_out-make-requires-clause-full : goal.worked_out-make-requires-clause-full
 worked_out-make-requires-clause-full t c =
-    nodes.full c.args.self.now.overlay c.edges.new.store (greatest_of c.args.level) c.in_ok-parts.parts.items c.as_slice-2.result.now
-    (subst (λ k. AreFull (greatest_of k) (map to_left c.in_ok-parts.parts.items)) c.requires.pair.upper c.in_ok-parts.ensures.split.full)
+    nodes.full c.args.self.now.overlay c.edges.new.store (top_of c.args.level.now) c.in_ok-parts.parts.items c.as_slice-2.result.now
+    (subst (λ k. AreFull (top_of k) (map to_left c.in_ok-parts.parts.items)) c.requires.pair.upper c.in_ok-parts.ensures.split.full)
     (nodes.from_slices c.args.self.now.overlay c.edges.new.store c.as_slice.result.now c.in_ok-parts.parts.items c.in_ok-edges.edges.items c.as_slice-2.result.now
     c.as_slice.ensures c.as_slice-2.ensures c.in_ok-edges.ensures.laid)
 
 pub worked_out-make-requires-clause-children : goal.worked_out-make-requires-clause-children
 worked_out-make-requires-clause-children t c =
-    nodes.children c.args.self.now.overlay c.args.store.now c.edges.new.store (suc c.args.level) c.in_ok-parts.parts.items c.as_slice-2.result.now
-    c.in_ok-edges.ensures.grows (omega (arith, c.requires.level, c.if-level-eq5.false))
-    (subst (λ k. LeadTo c.args.store.now (suc k) (map to_left c.in_ok-parts.parts.items)) c.requires.pair.upper c.in_ok-parts.ensures.left)
+    nodes.children c.args.self.now.overlay c.args.store.now c.edges.new.store (next c.args.level.now) c.in_ok-parts.parts.items c.as_slice-2.result.now
+    c.in_ok-edges.ensures.grows (is_next c.args.level.now (not_empty c.args.level.now c.requires.level (sym c.if-is_empty.ensures)))
+    (subst (λ k. LeadTo c.args.store.now (next k) (map to_left c.in_ok-parts.parts.items)) c.requires.pair.upper c.in_ok-parts.ensures.left)
     (nodes.from_slices c.args.self.now.overlay c.edges.new.store c.as_slice.result.now c.in_ok-parts.parts.items c.in_ok-edges.edges.items c.as_slice-2.result.now
     c.as_slice.ensures c.as_slice-2.ensures c.in_ok-edges.ensures.laid)
 
@@ -79,11 +80,11 @@ worked_out-returns-clause-laid t c =
     let ps = c.in_ok-parts.parts.items in
     let at = c.requires.pair in
     let split = c.in_ok-parts.ensures in
-    nodes.made c.args.self.now.overlay old c.edges.new.store c.make.new.self c.in_ok-edges.ensures.grows c.make.ensures.grows c.args.pair c.in_ok-laid.laid c.args.level
-    ps c.as_slice-2.result.now (omega (arith, c.requires.level, c.if-level-eq5.false)) at
-    (subst (λ k. IsSplit (greatest_of k) (edges_of old c.args.pair.upper.0) (edges_of old c.args.pair.lower.0) ps) at.upper split.split)
-    (subst (λ k. LeadTo old (suc k) (map to_left ps)) at.upper split.left)
-    (subst (λ k. LeadTo old (suc k) (map to_right ps)) at.upper split.right)
+    nodes.made c.args.self.now.overlay old c.edges.new.store c.make.new.self c.in_ok-edges.ensures.grows c.make.ensures.grows c.args.pair c.in_ok-laid.laid c.args.level.now
+    ps c.as_slice-2.result.now (not_empty c.args.level.now c.requires.level (sym c.if-is_empty.ensures)) at
+    (subst (λ k. IsSplit (top_of k) (edges_of old c.args.pair.upper.0) (edges_of old c.args.pair.lower.0) ps) at.upper split.split)
+    (subst (λ k. LeadTo old (next k) (map to_left ps)) at.upper split.left)
+    (subst (λ k. LeadTo old (next k) (map to_right ps)) at.upper split.right)
     (nodes.from_slices c.args.self.now.overlay c.edges.new.store c.as_slice.result.now ps c.in_ok-edges.edges.items c.as_slice-2.result.now
     c.as_slice.ensures c.as_slice-2.ensures c.in_ok-edges.ensures.laid)
     c.in_ok-laid.ensures.level c.in_ok-laid.ensures.answers

@@ -1,4 +1,4 @@
-use Rattle.std.proofs.Common.{◌+◌, ◌-◌, ◌*◌, take}
+use Rattle.std.proofs.Common.{◌+◌, ◌*◌, length, take}
 use Rattle.std.specs.List.{AllZip}
 use Rattle.node_store.specs.Store.{Grows}
 use Rattle.fdd_build.specs.Laid.{IsLaidPart}
@@ -6,13 +6,13 @@ use Rattle.fdd_build.specs.Memo.{IsMemo, KeepsPairs}
 use Rattle.fdd_build.proofs.walk.Walk.+walk.Given as goal
 
 abbrev pub decreases-pair : goal.decreases-pair
-decreases-pair l = 3 * (6 - l.level) + 2
+decreases-pair l = 3 * (1 + length l.level.now) + 2
 
 abbrev pub decreases-worked_out : goal.decreases-worked_out
-decreases-worked_out l = 3 * (6 - l.level) + 1
+decreases-worked_out l = 3 * (1 + length l.level.now) + 1
 
 abbrev pub decreases-edges : goal.decreases-edges
-decreases-edges l = 3 * (6 - l.level) + 3
+decreases-edges l = 3 * (1 + length l.level.now) + 3
 
 abbrev pub invariant-edges-loop-part : goal.invariant-edges-loop-part
 invariant-edges-loop-part l = record {

@@ -1,8 +1,9 @@
-use Rattle.std.proofs.Common.{◌≡◌, ◌<◌, ℕ, arith, sym, subst, inl, true≢false}
-use Rattle.std.specs.Prelude.{suc, map, Bool, true, false}
+use Rattle.std.proofs.Common.{◌≡◌, ℕ, arith, sym, subst, inl, true≢false}
+use Rattle.std.specs.Prelude.{map, Bool, true, false}
 use Rattle.std.specs.Bool.{OnTrue, OnFalse}
 use Rattle.std.proofs.lemmas.List.{drop_more, drop_all}
-use Rattle.field_boxes.specs.Fields.{greatest_of}
+use Rattle.node_store.specs.Levels.{HasField, next, top_of}
+use Rattle.node_store.proofs.Canonical.{not_empty}
 use Rattle.node_store.specs.declared.split.Part.{Part}
 use Rattle.node_store.specs.Diagram.{edges_of}
 use Rattle.node_store.specs.Split.{IsSplit, to_left}
@@ -34,14 +35,14 @@ on_no false f h = f h
 pub parts-part-requires : goal.parts-part-requires
 parts-part-requires t c =
     let i = c.loop-part.part-index in (
-      omega (arith, c.decreases, c.requires.level),
+      omega (arith, c.decreases),
       (
         c.loop-part.invariant.agreed,
         (
           c.requires.level,
           (
-            meeting.left_at c.args.store.now c.args.level c.args.parts.now i nothing c.requires.left c.loop-part-test.true,
-            meeting.right_at c.args.store.now c.args.level c.args.parts.now i nothing c.requires.right c.loop-part-test.true,
+            meeting.left_at c.args.store.now c.args.level.now c.args.parts.now i nothing c.requires.left c.loop-part-test.true,
+            meeting.right_at c.args.store.now c.args.level.now c.args.parts.now i nothing c.requires.right c.loop-part-test.true,
           ),
         ),
       ),
@@ -78,32 +79,32 @@ parts-returns-clause-yes t c = λ greatest full.
 
 -- the parts of the pair's field, with what the children of each value are
 module _ (t : ℕ) (c : goal.worked_out-Joined-parts-2 t) where
-  five : c.args.level < 5
-  five = omega (arith, c.requires.level, c.if-level-eq5.false)
+  field : HasField c.args.level.now
+  field = not_empty c.args.level.now c.requires.level (sym c.if-is_empty.ensures)
 
-  split : IsSplit (greatest_of c.args.level) (edges_of c.args.store.now c.args.pair.which.0) (edges_of c.args.store.now c.args.pair.answers.0) c.as_slice.result.now
+  split : IsSplit (top_of c.args.level.now) (edges_of c.args.store.now c.args.pair.which.0) (edges_of c.args.store.now c.args.pair.answers.0) c.as_slice.result.now
   split =
-      subst (λ ps. IsSplit (greatest_of c.args.level) (edges_of c.args.store.now c.args.pair.which.0) (edges_of c.args.store.now c.args.pair.answers.0) ps) (sym c.as_slice.ensures)
-      (subst (λ k. IsSplit (greatest_of k) (edges_of c.args.store.now c.args.pair.which.0) (edges_of c.args.store.now c.args.pair.answers.0) c.in_ok-parts.parts.items)
+      subst (λ ps. IsSplit (top_of c.args.level.now) (edges_of c.args.store.now c.args.pair.which.0) (edges_of c.args.store.now c.args.pair.answers.0) ps) (sym c.as_slice.ensures)
+      (subst (λ k. IsSplit (top_of k) (edges_of c.args.store.now c.args.pair.which.0) (edges_of c.args.store.now c.args.pair.answers.0) c.in_ok-parts.parts.items)
       c.requires.pair.which c.in_ok-parts.ensures.split)
 
-  lead : LeadTo c.args.store.now (suc c.args.level) (map to_left c.as_slice.result.now)
+  lead : LeadTo c.args.store.now (next c.args.level.now) (map to_left c.as_slice.result.now)
   lead =
-      subst (λ ps. LeadTo c.args.store.now (suc c.args.level) (map to_left ps)) (sym c.as_slice.ensures)
-      (subst (λ k. LeadTo c.args.store.now (suc k) (map to_left c.in_ok-parts.parts.items)) c.requires.pair.which c.in_ok-parts.ensures.left)
+      subst (λ ps. LeadTo c.args.store.now (next c.args.level.now) (map to_left ps)) (sym c.as_slice.ensures)
+      (subst (λ k. LeadTo c.args.store.now (next k) (map to_left c.in_ok-parts.parts.items)) c.requires.pair.which c.in_ok-parts.ensures.left)
 
 pub worked_out-returns-clause-yes : goal.worked_out-returns-clause-yes
 worked_out-returns-clause-yes t c =
     let s = split t c in
     on_yes c.in_ok-agree.agree
-    (rest.agree c.args.self.now c.args.store.now c.as_slice.result.now c.args.pair.which.0 c.args.pair.answers.0 c.args.level c.span-span.result c.span-span.result
-    (five t c) c.requires.pair.which s (lead t c) c.span-span.ensures.fields (c.span-span.ensures.span c.span-span.result))
-    (c.in_ok-agree.ensures.yes (greatest_of c.args.level) s.full)
+    (rest.agree c.args.self.now c.args.store.now c.as_slice.result.now c.args.pair.which.0 c.args.pair.answers.0 c.args.level.now c.span-span.result
+    (field t c) c.requires.pair.which s (lead t c) c.span-span.ensures)
+    (c.in_ok-agree.ensures.yes (top_of c.args.level.now) s.full)
 
 pub worked_out-returns-clause-no : goal.worked_out-returns-clause-no
 worked_out-returns-clause-no t c =
     let s = split t c in
     on_no c.in_ok-agree.agree
-    (rest.differ c.args.self.now c.args.store.now c.as_slice.result.now c.args.pair.which.0 c.args.pair.answers.0 c.args.level c.span-span.result c.span-span.result
-    (five t c) c.requires.pair.which s (lead t c) c.span-span.ensures.fields (c.span-span.ensures.span c.span-span.result))
-    (c.in_ok-agree.ensures.no (greatest_of c.args.level) s.full)
+    (rest.differ c.args.self.now c.args.store.now c.as_slice.result.now c.args.pair.which.0 c.args.pair.answers.0 c.args.level.now c.span-span.result
+    (field t c) c.requires.pair.which s (lead t c) c.span-span.ensures)
+    (c.in_ok-agree.ensures.no (top_of c.args.level.now) s.full)

@@ -1,19 +1,19 @@
-use Rattle.std.proofs.Common.{◌+◌, ◌-◌, ◌*◌, drop}
+use Rattle.std.proofs.Common.{◌+◌, ◌*◌, drop, length}
 use Rattle.fdd_ops.specs.Agreed.{AreAgreed, KeepsPairs}
 use Rattle.fdd_ops.proofs.Meeting.{AllAgree, OneDiffers}
 use Rattle.fdd_ops.proofs.question.Question.+walk.Given as goal
 
 abbrev pub decreases-pair : goal.decreases-pair
-decreases-pair l = 4 * (6 - l.level) + 2
+decreases-pair l = 4 * (1 + length l.level.now) + 2
 
 abbrev pub decreases-worked_out : goal.decreases-worked_out
-decreases-worked_out l = 4 * (6 - l.level) + 1
+decreases-worked_out l = 4 * (1 + length l.level.now) + 1
 
 abbrev pub decreases-parts : goal.decreases-parts
-decreases-parts l = 4 * (6 - l.level) + 4
+decreases-parts l = 4 * (1 + length l.level.now) + 4
 
 abbrev pub decreases-part : goal.decreases-part
-decreases-part l = 4 * (6 - l.level) + 3
+decreases-part l = 4 * (1 + length l.level.now) + 3
 
 abbrev pub invariant-parts-loop-part : goal.invariant-parts-loop-part
 invariant-parts-loop-part l = record {

@@ -1,7 +1,12 @@
 use Rattle.std.proofs.Common.{◌≡◌, ◌+◌, ◌∷◌, ◌++◌, [], refl, sym, subst, arith, take}
-use Rattle.std.specs.Prelude.{suc, slice_index_or}
+use Rattle.std.specs.Prelude.{suc, map, slice_index_or}
 use Rattle.std.specs.List.{AllZip}
-use Rattle.field_boxes.specs.Fields.{greatest_of}
+use Rattle.node_store.specs.Levels.{next, top_of}
+use Rattle.node_store.specs.Diagram.{edges_of}
+use Rattle.node_store.specs.Edges.{AreFull}
+use Rattle.node_store.specs.Split.{IsSplit, to_left, to_right}
+use Rattle.node_store.specs.Store.{LeadTo}
+use Rattle.node_store.proofs.Canonical.{is_next, not_empty}
 use Rattle.node_store.specs.declared.edge.Edge.{Edge}
 use Rattle.node_store.specs.declared.split.Part.{Part}
 use Rattle.node_store.proofs.Growth as growth
@@ -14,10 +19,10 @@ pub edges-united-requires : goal.edges-united-requires
 edges-united-requires t c =
     let l = c.loop-part in
     let d : Part = record { hi = 0; left = record { 0 = 0 }; right = record { 0 = 0 } } in (
-      omega (arith, c.decreases, c.requires.level),
+      omega (arith, c.decreases),
       (
         c.requires.level,
-        parts.part_at c.args.self.now l.self c.args.level c.args.parts.now l.part-index d l.invariant.grows c.requires.level c.requires.left c.requires.right c.loop-part-test.true,
+        parts.part_at c.args.self.now l.self c.args.level.now c.args.parts.now l.part-index d l.invariant.grows c.requires.level c.requires.left c.requires.right c.loop-part-test.true,
       ),
     )
 
@@ -39,16 +44,16 @@ edges-loop-part-preserved t c =
 
 pub worked_out-make-requires-clause-full : goal.worked_out-make-requires-clause-full
 worked_out-make-requires-clause-full t c =
-    nodes.full c.edges.new.self (greatest_of c.args.level) c.in_ok-parts.parts.items c.as_slice-2.result.now
-    c.in_ok-parts.ensures.split.full
+    nodes.full c.edges.new.self (top_of c.args.level.now) c.in_ok-parts.parts.items c.as_slice-2.result.now
+    (subst (λ k. AreFull (top_of k) (map to_left c.in_ok-parts.parts.items)) c.requires.pair.left c.in_ok-parts.ensures.split.full)
     (nodes.from_slices c.edges.new.self c.as_slice.result.now c.in_ok-parts.parts.items c.in_ok-edges.edges.items c.as_slice-2.result.now
     c.as_slice.ensures c.as_slice-2.ensures c.in_ok-edges.ensures.unions)
 
 pub worked_out-make-requires-clause-children : goal.worked_out-make-requires-clause-children
 worked_out-make-requires-clause-children t c =
-    nodes.children c.args.self.now c.edges.new.self (suc c.args.level) c.in_ok-parts.parts.items c.as_slice-2.result.now
-    c.in_ok-edges.ensures.grows (omega (arith, c.requires.level, c.if-level-eq5.false))
-    c.in_ok-parts.ensures.left
+    nodes.children c.args.self.now c.edges.new.self (next c.args.level.now) c.in_ok-parts.parts.items c.as_slice-2.result.now
+    c.in_ok-edges.ensures.grows (is_next c.args.level.now (not_empty c.args.level.now c.requires.level (sym c.if-is_empty.ensures)))
+    (subst (λ k. LeadTo c.args.self.now (next k) (map to_left c.in_ok-parts.parts.items)) c.requires.pair.left c.in_ok-parts.ensures.left)
     (nodes.from_slices c.edges.new.self c.as_slice.result.now c.in_ok-parts.parts.items c.in_ok-edges.edges.items c.as_slice-2.result.now
     c.as_slice.ensures c.as_slice-2.ensures c.in_ok-edges.ensures.unions)
 
@@ -58,9 +63,11 @@ worked_out-returns-clause-union t c =
     let ps = c.in_ok-parts.parts.items in
     let at = c.requires.pair in
     let split = c.in_ok-parts.ensures in
-    nodes.made old c.edges.new.self c.make.new.self c.in_ok-edges.ensures.grows c.in_ok-id.ensures.grows c.args.pair c.in_ok-id.id c.args.level
-    ps c.as_slice-2.result.now (omega (arith, c.requires.level, c.if-level-eq5.false)) at
-    split.split split.left split.right
+    nodes.made old c.edges.new.self c.make.new.self c.in_ok-edges.ensures.grows c.in_ok-id.ensures.grows c.args.pair c.in_ok-id.id c.args.level.now
+    ps c.as_slice-2.result.now (not_empty c.args.level.now c.requires.level (sym c.if-is_empty.ensures)) at
+    (subst (λ k. IsSplit (top_of k) (edges_of old c.args.pair.left.0) (edges_of old c.args.pair.right.0) ps) at.left split.split)
+    (subst (λ k. LeadTo old (next k) (map to_left ps)) at.left split.left)
+    (subst (λ k. LeadTo old (next k) (map to_right ps)) at.left split.right)
     (nodes.from_slices c.edges.new.self c.as_slice.result.now ps c.in_ok-edges.edges.items c.as_slice-2.result.now
     c.as_slice.ensures c.as_slice-2.ensures c.in_ok-edges.ensures.unions)
     c.in_ok-id.ensures.level c.in_ok-id.ensures.answers

@@ -6,16 +6,9 @@ use Rattle.field_sets.proofs.Lasting.{kept}
 use Rattle.field_sets.proofs.sets.Sets.keep.Goals as goal
 
 pub invariant_of-self : goal.invariant_of-self
-invariant_of-self c = record {
-  none_is = c.self.invariant.none_is;
-  full_is = c.self.invariant.full_is;
-  unions = λ pair id h. c.self.invariant.unions pair id (ap (λ es. lookup (same_pair pair) es) (sym c.in_err-insert.ensures.err) ∙ h);
-}
+invariant_of-self c = λ pair id h. c.self.invariant pair id (ap (λ es. lookup (same_pair pair) es) (sym c.in_err-insert.ensures.err) ∙ h)
 
 pub invariant_of-self-2 : goal.invariant_of-self-2
-invariant_of-self-2 c = record {
-  none_is = c.self.invariant.none_is;
-  full_is = c.self.invariant.full_is;
-  unions = kept c.self.inside.store (λ q. get same_pair c.self.inside.unions q) (λ q. get same_pair c.insert.new.self q) c.args.pair c.args.id
-      c.in_ok-insert.ensures.updates.0 c.self.invariant.unions (subst (λ ns. IsUnion ns c.args.pair c.args.id) (sym c.self.view_is) c.requires);
-}
+invariant_of-self-2 c =
+    kept c.self.inside.store (λ q. get same_pair c.self.inside.unions q) (λ q. get same_pair c.insert.new.self q) c.args.pair c.args.id
+    c.in_ok-insert.ensures.updates.0 c.self.invariant (subst (λ ns. IsUnion ns c.args.pair c.args.id) (sym c.self.view_is) c.requires)

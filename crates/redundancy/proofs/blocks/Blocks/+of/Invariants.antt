@@ -1,17 +1,17 @@
-use Rattle.std.proofs.Common.{◌≡◌, ◌+◌, ◌-◌, ◌*◌, ◌++◌, List, length, map}
+use Rattle.std.proofs.Common.{◌≡◌, ◌+◌, ◌*◌, ◌++◌, List, length, map}
 use Rattle.field_sift.specs.Built.{row_at}
 use Rattle.field_sift.specs.Rows.{Row}
 use Rattle.redundancy.specs.Gathered.{AreGathered}
 use Rattle.redundancy.proofs.blocks.Blocks.+of.Given as goal
 
 abbrev pub decreases-of : goal.decreases-of
-decreases-of l = 3 * (5 - l.level) + 2
+decreases-of l = 3 * length l.level.now + 2
 
 abbrev pub decreases-of_fields : goal.decreases-of_fields
-decreases-of_fields l = 3 * (5 - l.level) + 1
+decreases-of_fields l = 3 * length l.level.now + 1
 
 abbrev pub decreases-gather : goal.decreases-gather
-decreases-gather l = 3 * (5 - l.level)
+decreases-gather l = 3 * length l.level.now
 
 -- what was gathered are the entries that aren't left
 abbrev pub invariant-gather-runs : goal.invariant-gather-runs

@@ -5,6 +5,8 @@ use Rattle.std.proofs.lemmas.Option.{slice_get-get_or}
 use Rattle.std.proofs.lemmas.Result.{on_ok_weaker}
 use Rattle.razor_base.proofs.Streams.{on_ok}
 use Rattle.node_store.specs.Diagram.{level_of}
+use Rattle.node_store.specs.Levels.{HasField, IsLevel}
+use Rattle.node_store.proofs.Canonical.{is_level}
 use Rattle.node_store.proofs.Growth.{stays, twice}
 use Rattle.field_sift.specs.Rows.{last_row}
 use Rattle.field_sift.specs.Layers.{rows_of_runs, end_of}
@@ -29,7 +31,7 @@ sift-last-requires t c =
 pub sift-sift_layer-requires : goal.sift-sift_layer-requires
 sift-sift_layer-requires t c =
     let covers = c.args.self.now.covers.items in
-    let e = sym c.cover-level.ensures in
+    let e = sym c.cover.ensures in
     let f = c.requires.blocks.fits c.args.number (Layer c.in-Layer.runs) (c.block.ensures.found ∙ ap Some c.in-Layer.is) in (
       omega (arith, c.decreases),
       (
@@ -37,12 +39,12 @@ sift-sift_layer-requires t c =
         (
           c.requires.memo,
           (
-            subst (λ (r : Cover). r.level < 5) e f.0,
+            subst (λ (r : Cover). HasField r.level.now) e f.0,
             (
               c.requires.number,
               (
-                subst (All (FitsRun covers c.args.number c.cover-level.result.level)) (sym c.as_slice.ensures.value) (subst (λ (r : Cover). All (FitsRun covers c.args.number r.level) c.in-Layer.runs.items) e f.1),
-                (subst RiseApart (sym c.as_slice.ensures.value) f.2, subst (λ (r : Cover). ArePairs c.args.sets.now r.level c.args.contexts.now) e c.requires.contexts),
+                subst (All (FitsRun covers c.args.number c.cover.result.level.now)) (sym c.as_slice.ensures.value) (subst (λ (r : Cover). All (FitsRun covers c.args.number r.level.now) c.in-Layer.runs.items) e f.1),
+                (subst RiseApart (sym c.as_slice.ensures.value) f.2, subst (λ (r : Cover). ArePairs c.args.sets.now r.level.now c.args.contexts.now) e c.requires.contexts),
               ),
             ),
           ),
@@ -70,7 +72,7 @@ pub sift-returns-in_ok-sifted-in-Last-clause-sifted : goal.sift-returns-in_ok-si
 sift-returns-in_ok-sifted-in-Last-clause-sifted t c =
     let blocks = c.args.self.now.blocks.items in
     let found = c.block.ensures.found ∙ ap Some c.in-Last.is in
-    moved c.last.new.sets 5 (cover_at c.args.self.now.covers.items c.args.number).level (last_row c.in-Last.decision ∷ []) (rows_of blocks c.args.number) c.args.contexts.now c.in_ok-sifted-in-Last.sifted
+    moved c.last.new.sets [] (cover_at c.args.self.now.covers.items c.args.number).level.now (last_row c.in-Last.decision ∷ []) (rows_of blocks c.args.number) c.args.contexts.now c.in_ok-sifted-in-Last.sifted
     (c.requires.blocks.fits c.args.number (Last c.in-Last.decision) found) (last_rows blocks c.args.number c.in-Last.decision found) c.in_ok-sifted-in-Last.ensures.sifted
 
 pub sift-returns-in_ok-sifted-in-Last-clause-memo : goal.sift-returns-in_ok-sifted-in-Last-clause-memo
@@ -81,8 +83,8 @@ pub sift-returns-in_ok-sifted-in-Layer-clause-sifted : goal.sift-returns-in_ok-s
 sift-returns-in_ok-sifted-in-Layer-clause-sifted t c =
     let blocks = c.args.self.now.blocks.items in
     let found = c.block.ensures.found ∙ ap Some c.in-Layer.is in
-    moved c.sift_layer.new.sets c.cover-level.result.level (cover_at c.args.self.now.covers.items c.args.number).level (rows_of_runs (map (run_by (rows_of blocks)) c.as_slice.result.now)) (rows_of blocks c.args.number)
-    c.args.contexts.now c.in_ok-sifted-in-Layer.sifted (ap (λ (r : Cover). r.level) (sym c.cover-level.ensures))
+    moved c.sift_layer.new.sets c.cover.result.level.now (cover_at c.args.self.now.covers.items c.args.number).level.now (rows_of_runs (map (run_by (rows_of blocks)) c.as_slice.result.now)) (rows_of blocks c.args.number)
+    c.args.contexts.now c.in_ok-sifted-in-Layer.sifted (ap (λ (r : Cover). r.level.now) (sym c.cover.ensures))
     (layer_rows blocks c.args.number c.in-Layer.runs (leads c.args.sets.now blocks c.args.self.now.covers.items c.requires.blocks) found ∙ ap (λ rs. rows_of_runs (map (run_by (rows_of blocks)) rs)) (sym c.as_slice.ensures.value))
     c.in_ok-sifted-in-Layer.ensures.sifted
 
@@ -92,21 +94,21 @@ sift-returns-in_ok-sifted-in-Two-clause-sifted t c =
     let covers = c.args.self.now.covers.items in
     let found = c.block.ensures.found ∙ ap Some c.in-Two.is in
     let f = c.requires.blocks.fits c.args.number (Two c.in-Two.first c.in-Two.second) found in
-    moved c.sift_two.new.sets (cover_at covers c.in-Two.first).level (cover_at covers c.args.number).level (rows_of blocks c.in-Two.first ++ rows_of blocks c.in-Two.second) (rows_of blocks c.args.number)
+    moved c.sift_two.new.sets (cover_at covers c.in-Two.first).level.now (cover_at covers c.args.number).level.now (rows_of blocks c.in-Two.first ++ rows_of blocks c.in-Two.second) (rows_of blocks c.args.number)
     c.args.contexts.now c.in_ok-sifted-in-Two.sifted (sym f.2) (two_rows blocks c.args.number c.in-Two.first c.in-Two.second (leads c.args.sets.now blocks covers c.requires.blocks) found) c.in_ok-sifted-in-Two.ensures.sifted
 
 pub sift_layer-loop-run-init : goal.sift_layer-loop-run-init
 sift_layer-loop-run-init t c = record {
   grows = stays c.args.sets.now;
   memo = c.requires.memo;
-  draft = draft_start c.args.sets.now c.args.level c.args.contexts.now (record { kept = c.new.result; changes = c.new-2.result }) c.is_store.ensures c.requires.level c.requires.contexts c.new.ensures.items c.new-2.ensures.items;
+  draft = draft_start c.args.sets.now c.args.level.now c.args.contexts.now (record { kept = c.new.result; changes = c.new-2.result }) c.is_store.ensures c.requires.level c.requires.contexts c.new.ensures.items c.new-2.ensures.items;
 }
 
 pub sift_layer-sift_run-requires : goal.sift_layer-sift_run-requires
 sift_layer-sift_run-requires t c =
     let i = c.loop-run.invariant in
     let covers = c.args.self.now.covers.items in
-    let fit = subst (FitsRun covers c.args.number c.args.level) (sym c.run-item.is) (c.requires.fit c.loop-run.run-index c.run-item.result (omega (arith, c.loop-run-test.true))) in
+    let fit = subst (FitsRun covers c.args.number c.args.level.now) (sym c.run-item.is) (c.requires.fit c.loop-run.run-index c.run-item.result (omega (arith, c.loop-run-test.true))) in
     let older = fit.older in (
       omega (arith, c.decreases, older),
       (
@@ -117,7 +119,7 @@ sift_layer-sift_run-requires t c =
             c.requires.level,
             (
               omega (arith, older, c.requires.number),
-              (fit.level, (fit.inside, pairs-stay c.args.sets.now c.loop-run.sets c.args.level c.args.contexts.now (omega (arith, c.requires.level)) i.grows c.requires.contexts)),
+              (fit.level, (fit.inside, pairs-stay c.args.sets.now c.loop-run.sets c.args.level.now c.args.contexts.now (is_level c.args.level.now c.requires.level) i.grows c.requires.contexts)),
             ),
           ),
         ),
@@ -134,37 +136,37 @@ sift_layer-loop-run-preserved t c =
     let found = slice_get-get_or runs k r (omega (arith, c.loop-run-test.true)) ∙ ap Some (sym c.run-item.is) in record {
       grows = twice c.args.sets.now c.loop-run.sets c.sift_run.new.sets i.grows c.in_ok-sift_run.ensures.grows;
       memo = c.in_ok-sift_run.ensures.memo;
-      draft = draft_next rows runs k r c.args.sets.now c.sift_run.new.sets c.args.level c.args.contexts.now c.sift_run.new.draft c.requires.apart found
+      draft = draft_next rows runs k r c.args.sets.now c.sift_run.new.sets c.args.level.now c.args.contexts.now c.sift_run.new.draft c.requires.apart found
           (c.in_ok-sift_run.ensures.draft c.args.sets.now (rows_of_runs (take k (map (run_by rows) runs))) (end_of 0 (take k (map (run_by rows) runs))) (above_front rows runs k r c.requires.apart found)
           (apart_front rows runs k r c.requires.apart found) i.draft);
     }
 
 pub sift_layer-finished-requires-clause-contexts : goal.sift_layer-finished-requires-clause-contexts
 sift_layer-finished-requires-clause-contexts t c =
-    pairs-stay c.args.sets.now c.loop-run.sets c.args.level c.args.contexts.now (omega (arith, c.requires.level)) c.loop-run.invariant.grows c.requires.contexts
+    pairs-stay c.args.sets.now c.loop-run.sets c.args.level.now c.args.contexts.now (is_level c.args.level.now c.requires.level) c.loop-run.invariant.grows c.requires.contexts
 
 pub sift_layer-finished-requires-clause-changes : goal.sift_layer-finished-requires-clause-changes
 sift_layer-finished-requires-clause-changes t c =
     let rows = rows_of c.args.self.now.blocks.items in
     let runs = c.args.runs.now in
-    let full = draft_full rows runs c.loop-run.run-index c.args.sets.now c.loop-run.sets c.args.level c.args.contexts.now c.loop-run.draft (omega arith) c.loop-run.invariant.draft in
-    changes_now c.args.sets.now c.loop-run.sets c.args.level c.args.contexts.now c.as_slice.result.now (rows_of_runs (map (run_by rows) runs)) c.loop-run.draft (end_of 0 (map (run_by rows) runs))
-    (end_inside c.args.self.now.covers.items c.args.number c.args.level 0 rows runs (omega arith) c.requires.fit) (sym c.as_slice.ensures.value) full
+    let full = draft_full rows runs c.loop-run.run-index c.args.sets.now c.loop-run.sets c.args.level.now c.args.contexts.now c.loop-run.draft (omega arith) c.loop-run.invariant.draft in
+    changes_now c.args.sets.now c.loop-run.sets c.args.level.now c.args.contexts.now c.as_slice.result.now (rows_of_runs (map (run_by rows) runs)) c.loop-run.draft (end_of 0 (map (run_by rows) runs))
+    (end_inside c.args.self.now.covers.items c.args.number c.args.level.now 0 rows runs (omega arith) c.requires.fit) (sym c.as_slice.ensures.value) full
 
 pub sift_layer-finished-requires-clause-numbers : goal.sift_layer-finished-requires-clause-numbers
 sift_layer-finished-requires-clause-numbers t c =
     let rows = rows_of c.args.self.now.blocks.items in
     let runs = c.args.runs.now in
-    let full = draft_full rows runs c.loop-run.run-index c.args.sets.now c.loop-run.sets c.args.level c.args.contexts.now c.loop-run.draft (omega arith) c.loop-run.invariant.draft in
-    numbers_now c.args.sets.now c.loop-run.sets c.args.level c.args.contexts.now c.as_slice.result.now (rows_of_runs (map (run_by rows) runs)) c.loop-run.draft (end_of 0 (map (run_by rows) runs))
+    let full = draft_full rows runs c.loop-run.run-index c.args.sets.now c.loop-run.sets c.args.level.now c.args.contexts.now c.loop-run.draft (omega arith) c.loop-run.invariant.draft in
+    numbers_now c.args.sets.now c.loop-run.sets c.args.level.now c.args.contexts.now c.as_slice.result.now (rows_of_runs (map (run_by rows) runs)) c.loop-run.draft (end_of 0 (map (run_by rows) runs))
     c.requires.level c.loop-run.invariant.grows c.requires.contexts (sym c.as_slice.ensures.value) full
 
 pub sift_layer-returns-clause-sifted : goal.sift_layer-returns-clause-sifted
 sift_layer-returns-clause-sifted t c =
     let rows = rows_of c.args.self.now.blocks.items in
     let runs = c.args.runs.now in
-    let full = draft_full rows runs c.loop-run.run-index c.args.sets.now c.loop-run.sets c.args.level c.args.contexts.now c.loop-run.draft (omega arith) c.loop-run.invariant.draft in
-    layer_end c.args.sets.now c.loop-run.sets c.finished.new.sets c.args.level (end_of 0 (map (run_by rows) runs)) (rows_of_runs (map (run_by rows) runs)) c.args.contexts.now c.loop-run.draft c.as_slice.result.now
+    let full = draft_full rows runs c.loop-run.run-index c.args.sets.now c.loop-run.sets c.args.level.now c.args.contexts.now c.loop-run.draft (omega arith) c.loop-run.invariant.draft in
+    layer_end c.args.sets.now c.loop-run.sets c.finished.new.sets c.args.level.now (end_of 0 (map (run_by rows) runs)) (rows_of_runs (map (run_by rows) runs)) c.args.contexts.now c.loop-run.draft c.as_slice.result.now
     (record { kept = c.loop-run.draft.kept; after = c.in_ok-after.after }) c.requires.level c.loop-run.invariant.grows c.in_ok-after.ensures.grows c.requires.contexts full (sym c.as_slice.ensures.value) refl
     c.in_ok-after.ensures.count c.in_ok-after.ensures.each
 
@@ -181,7 +183,7 @@ sift_run-sift-requires t c = (
       c.requires.memo,
       (
         c.requires.block,
-        keys_pairs c.args.sets.now c.args.level (cover_at c.args.self.now.covers.items c.args.run.block).level c.args.run.span c.args.contexts.now c.in_ok-below.below.pairs.items c.as_slice.result.now
+        keys_pairs c.args.sets.now c.args.level.now (cover_at c.args.self.now.covers.items c.args.run.block).level.now c.args.run.span c.args.contexts.now c.in_ok-below.below.pairs.items c.as_slice.result.now
             c.in_ok-distinct.distinct.pairs.items c.as_slice-2.result.now c.in_ok-below.below.stretches.items c.in_ok-distinct.distinct.places.items c.is_store.ensures c.requires.level c.requires.next c.requires.contexts
             c.requires.inside c.in_ok-below.ensures c.as_slice.ensures c.in_ok-distinct.ensures c.as_slice-2.ensures,
       ),
@@ -197,7 +199,7 @@ sift_run-take_in-requires-clause-stretches t c =
 pub sift_run-take_in-requires-clause-places : goal.sift_run-take_in-requires-clause-places
 sift_run-take_in-requires-clause-places t c =
     let found = subst (λ k. IfSome k (λ s. IsAnswered c.args.sets.now c.args.self.now c.args.run.block c.in_ok-distinct.distinct.pairs.items s.now)) c.in-Some.is (c.get.ensures c.args.sets.now c.args.self.now c.requires.memo) in
-    answers_room c.args.sets.now (cover_at c.args.self.now.covers.items c.args.run.block).level (rows_of c.args.self.now.blocks.items c.args.run.block) c.as_slice.result.now c.in_ok-distinct.distinct.pairs.items
+    answers_room c.args.sets.now (cover_at c.args.self.now.covers.items c.args.run.block).level.now (rows_of c.args.self.now.blocks.items c.args.run.block) c.as_slice.result.now c.in_ok-distinct.distinct.pairs.items
     c.in_ok-distinct.distinct.pairs.items c.in_ok-distinct.distinct.places.items c.as_slice-in-Some.result.now c.in-Some.known.now refl c.as_slice-in-Some.ensures c.in_ok-distinct.ensures found.sifted
 
 pub sift_run-returns-in-Some-clause-draft : goal.sift_run-returns-in-Some-clause-draft
@@ -205,7 +207,7 @@ sift_run-returns-in-Some-clause-draft t c = λ base rows next above apart draft.
     let found = subst (λ k. IfSome k (λ s. IsAnswered c.args.sets.now c.args.self.now c.args.run.block c.in_ok-distinct.distinct.pairs.items s.now)) c.in-Some.is (c.get.ensures c.args.sets.now c.args.self.now c.requires.memo) in
     on_ok_weaker c.take_in.result
     (λ taken.
-    run_clause base c.args.sets.now c.args.sets.now c.args.level (cover_at c.args.self.now.covers.items c.args.run.block).level rows (rows_of c.args.self.now.blocks.items c.args.run.block) c.args.contexts.now
+    run_clause base c.args.sets.now c.args.sets.now c.args.level.now (cover_at c.args.self.now.covers.items c.args.run.block).level.now rows (rows_of c.args.self.now.blocks.items c.args.run.block) c.args.contexts.now
     c.in_ok-below.below.pairs.items c.as_slice.result.now c.in_ok-distinct.distinct.pairs.items c.in_ok-distinct.distinct.pairs.items next c.args.run.span c.in_ok-below.below.stretches.items c.as_slice-stretches.result.now
     c.in_ok-distinct.distinct.places.items c.as_slice-in-Some.result.now c.in-Some.known.now c.args.draft.now c.take_in.new.draft c.requires.next c.as_slice.ensures refl c.as_slice-stretches.ensures
     c.as_slice-in-Some.ensures c.requires.level (stays c.args.sets.now) c.requires.contexts c.requires.inside c.in_ok-below.ensures c.in_ok-distinct.ensures found.sifted above apart draft taken)
@@ -218,13 +220,13 @@ sift_run-take_in-requires-2-clause-stretches t c =
 
 pub sift_run-take_in-requires-2-clause-places : goal.sift_run-take_in-requires-2-clause-places
 sift_run-take_in-requires-2-clause-places t c =
-    answers_room c.sift.new.sets (cover_at c.args.self.now.covers.items c.args.run.block).level (rows_of c.args.self.now.blocks.items c.args.run.block) c.as_slice.result.now c.in_ok-distinct.distinct.pairs.items
+    answers_room c.sift.new.sets (cover_at c.args.self.now.covers.items c.args.run.block).level.now (rows_of c.args.self.now.blocks.items c.args.run.block) c.as_slice.result.now c.in_ok-distinct.distinct.pairs.items
     c.as_slice-2.result.now c.in_ok-distinct.distinct.places.items c.as_slice-3.result.now c.in_ok-inner.inner c.as_slice-2.ensures c.as_slice-3.ensures c.in_ok-distinct.ensures c.in_ok-inner.ensures.sifted
 
 pub sift_run-returns-clause-draft : goal.sift_run-returns-clause-draft
 sift_run-returns-clause-draft t c = λ base rows next above apart draft.
     on_ok c.keep.result
-    (run_clause base c.args.sets.now c.sift.new.sets c.args.level (cover_at c.args.self.now.covers.items c.args.run.block).level rows (rows_of c.args.self.now.blocks.items c.args.run.block) c.args.contexts.now
+    (run_clause base c.args.sets.now c.sift.new.sets c.args.level.now (cover_at c.args.self.now.covers.items c.args.run.block).level.now rows (rows_of c.args.self.now.blocks.items c.args.run.block) c.args.contexts.now
     c.in_ok-below.below.pairs.items c.as_slice.result.now c.in_ok-distinct.distinct.pairs.items c.as_slice-2.result.now next c.args.run.span c.in_ok-below.below.stretches.items c.as_slice-stretches.result.now
     c.in_ok-distinct.distinct.places.items c.as_slice-3.result.now c.in_ok-inner.inner c.args.draft.now c.take_in-2.new.draft c.requires.next c.as_slice.ensures c.as_slice-2.ensures c.as_slice-stretches.ensures
     c.as_slice-3.ensures c.requires.level c.in_ok-inner.ensures.grows c.requires.contexts c.requires.inside c.in_ok-below.ensures c.in_ok-distinct.ensures c.in_ok-inner.ensures.sifted above apart draft c.in_ok-take_in.ensures)
@@ -233,9 +235,9 @@ pub sift_run-returns-clause-memo : goal.sift_run-returns-clause-memo
 sift_run-returns-clause-memo t c =
     let covers = c.args.self.now.covers.items in
     let rows = rows_of c.args.self.now.blocks.items c.args.run.block in
-    let level = (cover_at covers c.args.run.block).level in
+    let level = (cover_at covers c.args.run.block).level.now in
     let within = (c.requires.blocks.covered c.args.run.block c.requires.block).within in
-    let asked = keys_pairs c.args.sets.now c.args.level level c.args.run.span c.args.contexts.now c.in_ok-below.below.pairs.items c.as_slice.result.now
+    let asked = keys_pairs c.args.sets.now c.args.level.now level c.args.run.span c.args.contexts.now c.in_ok-below.below.pairs.items c.as_slice.result.now
     c.in_ok-distinct.distinct.pairs.items c.in_ok-distinct.distinct.pairs.items c.in_ok-below.below.stretches.items c.in_ok-distinct.distinct.places.items c.is_store.ensures c.requires.level c.requires.next c.requires.contexts
     c.requires.inside c.in_ok-below.ensures c.as_slice.ensures c.in_ok-distinct.ensures refl in
     c.keep.ensures c.sift.new.sets c.args.self.now c.in_ok-inner.ensures.memo
@@ -246,14 +248,14 @@ sift_run-returns-clause-memo t c =
     })
 
 pub sift_two-behind_cover-requires-clause-within : goal.sift_two-behind_cover-requires-clause-within
-sift_two-behind_cover-requires-clause-within t c = subst (λ (r : Cover). r.level ≤ 5) (sym c.cover.ensures) (c.requires.blocks.covered c.args.first c.requires.first).within
+sift_two-behind_cover-requires-clause-within t c = subst (λ (r : Cover). IsLevel r.level.now) (sym c.cover.ensures) (c.requires.blocks.covered c.args.first c.requires.first).within
 
 pub sift_two-behind_cover-requires-clause-cover : goal.sift_two-behind_cover-requires-clause-cover
 sift_two-behind_cover-requires-clause-cover t c =
-    subst (λ (r : Cover). level_of c.args.sets.now r.set.0 ≡ r.level) (sym c.cover.ensures) (c.requires.blocks.covered c.args.first c.requires.first).level
+    subst (λ (r : Cover). level_of c.args.sets.now r.set.0 ≡ r.level.now) (sym c.cover.ensures) (c.requires.blocks.covered c.args.first c.requires.first).level
 
 pub sift_two-behind_cover-requires-clause-contexts : goal.sift_two-behind_cover-requires-clause-contexts
-sift_two-behind_cover-requires-clause-contexts t c = subst (λ (r : Cover). ArePairs c.args.sets.now r.level c.args.contexts.now) (sym c.cover.ensures) c.requires.contexts
+sift_two-behind_cover-requires-clause-contexts t c = subst (λ (r : Cover). ArePairs c.args.sets.now r.level.now c.args.contexts.now) (sym c.cover.ensures) c.requires.contexts
 
 pub sift_two-sift-requires : goal.sift_two-sift-requires
 sift_two-sift-requires t c =
@@ -266,8 +268,8 @@ sift_two-sift-requires t c =
           memo_stays c.args.sets.now nodes c.args.self.now (λ q. get same_asked c.args.memo.now.done q) g c.requires.memo,
           (
             c.requires.second,
-            subst (ArePairs nodes (cover_at c.args.self.now.covers.items c.args.second).level) (sym c.as_slice.ensures)
-                (subst (λ l. ArePairs nodes l c.in_ok-behind.behind.items) (ap (λ (r : Cover). r.level) c.cover.ensures ∙ sym c.requires.level) c.in_ok-behind.ensures.level),
+            subst (ArePairs nodes (cover_at c.args.self.now.covers.items c.args.second).level.now) (sym c.as_slice.ensures)
+                (subst (λ l. ArePairs nodes l c.in_ok-behind.behind.items) (ap (λ (r : Cover). r.level.now) c.cover.ensures ∙ sym c.requires.level) c.in_ok-behind.ensures.level),
           ),
         ),
       ),
@@ -290,7 +292,7 @@ sift_two-sift-requires-2 t c =
           c.in_ok-later.ensures.memo,
           (
             c.requires.first,
-            before_pairs c.args.sets.now nodes (cover_at covers c.args.first).level (cover_at covers c.args.second).level c.args.contexts.now c.in_ok-before.before.items c.as_slice-3.result.now c.as_slice-2.result.now
+            before_pairs c.args.sets.now nodes (cover_at covers c.args.first).level.now (cover_at covers c.args.second).level.now c.args.contexts.now c.in_ok-before.before.items c.as_slice-3.result.now c.as_slice-2.result.now
                 c.in_ok-later.later five g c.requires.contexts c.requires.level c.in_ok-later.ensures.sifted.numbers
                 (c.in_ok-later.ensures.sifted.count ∙ ap (λ ps. length ps) c.as_slice.ensures ∙ c.in_ok-behind.ensures.count) c.as_slice-2.ensures.value c.in_ok-before.ensures.count c.in_ok-before.ensures.after
                 c.in_ok-before.ensures.met c.as_slice-3.ensures,
@@ -305,7 +307,7 @@ sift_two-returns-clause-sifted t c =
     let nodes = c.sift-2.new.sets in
     let covers = c.args.self.now.covers.items in
     two_end c.args.sets.now c.behind_cover.new.sets c.sift.new.sets nodes (rows_of blocks c.args.first) (rows_of blocks c.args.second) c.args.contexts.now
-    c.in_ok-behind.behind.items c.in_ok-before.before.items c.as_slice.result.now c.as_slice-3.result.now (cover_at covers c.args.first) c.cover.result (cover_at covers c.args.second).level
+    c.in_ok-behind.behind.items c.in_ok-before.before.items c.as_slice.result.now c.as_slice-3.result.now (cover_at covers c.args.first) c.cover.result (cover_at covers c.args.second).level.now
     c.in_ok-later.later c.in_ok-earlier.earlier _ c.in_ok-behind.ensures.grows c.in_ok-later.ensures.grows c.in_ok-earlier.ensures.grows c.requires.contexts (c.requires.blocks.covered c.args.first c.requires.first)
     c.cover.ensures c.requires.level c.as_slice.ensures c.as_slice-3.ensures c.in_ok-behind.ensures.count c.in_ok-before.ensures.count c.in_ok-behind.ensures.level c.in_ok-behind.ensures.each
     (λ k less. c.in_ok-before.ensures.after k less ∙ ap (λ ids. node_at ids k) c.as_slice-2.ensures.value) c.in_ok-before.ensures.met

@@ -8,7 +8,7 @@ use Rattle.redundancy.proofs.blocks.Blocks.each_last.Goals as goal
 
 pub loop-entry-init : goal.loop-entry-init
 loop-entry-init c = record {
-  built = subst (AreBuilt c.args.sets.now c.args.sets.now c.args.self.now c.args.self.now 5 []) (sym c.new-numbers.ensures.items) (none_built c.args.sets.now c.args.self.now 5 c.requires);
+  built = subst (AreBuilt c.args.sets.now c.args.sets.now c.args.self.now c.args.self.now [] []) (sym c.new-numbers.ensures.items) (none_built c.args.sets.now c.args.self.now [] c.requires.blocks);
   count = ap length c.new-numbers.ensures.items;
 }
 
@@ -18,13 +18,13 @@ loop-entry-preserved c =
     let row = last_row c.decision_of.result in
     let count = l.invariant.count in
     record {
-      built = subst (λ (rows : List Row). AreBuilt c.args.sets.now c.args.sets.now c.args.self.now c.last.new.self 5 rows c.push.new.self.items)
-          (sym (map_next (row_at 5) c.args.entries.now l.entry-index c.entry-item.result row c.loop-entry-test.true c.entry-item.is c.decision_of.ensures))
-          (lasts_step c.args.sets.now c.args.self.now l.self c.last.new.self (map (row_at 5) (take l.entry-index c.args.entries.now)) row l.numbers.items c.push.new.self.items c.in_ok-number.number l.invariant.built c.in_ok-number.ensures c.in_ok-push.ensures.items);
+      built = subst (λ (rows : List Row). AreBuilt c.args.sets.now c.args.sets.now c.args.self.now c.last.new.self [] rows c.push.new.self.items)
+          (sym (map_next (row_at []) c.args.entries.now l.entry-index c.entry-item.result row c.loop-entry-test.true c.entry-item.is c.decision_of.ensures))
+          (lasts_step c.args.sets.now c.args.self.now l.self c.last.new.self (map (row_at []) (take l.entry-index c.args.entries.now)) row l.numbers.items c.push.new.self.items c.in_ok-number.number l.invariant.built c.in_ok-number.ensures c.in_ok-push.ensures.items);
       count = ap length c.in_ok-push.ensures.items ∙ length-append l.numbers.items (c.in_ok-number.number ∷ []) ∙ ap (λ n. n + 1) count;
     }
 
 pub returns-clause-built : goal.returns-clause-built
 returns-clause-built c =
-    subst (λ es. AreBuilt c.args.sets.now c.args.sets.now c.args.self.now c.loop-entry.self 5 (map (row_at 5) es) c.loop-entry.numbers.items) (take_all c.loop-entry.entry-index c.args.entries.now c.loop-entry-test.false)
+    subst (λ es. AreBuilt c.args.sets.now c.args.sets.now c.args.self.now c.loop-entry.self [] (map (row_at []) es) c.loop-entry.numbers.items) (take_all c.loop-entry.entry-index c.args.entries.now c.loop-entry-test.false)
     c.loop-entry.invariant.built

@@ -11,10 +11,10 @@ returns c =
     let covers = c.args.self.now.covers.items in
     let nodes = c.union.new.self in
     let set = c.in_ok-set.set in
-    let level = c.args.level in
+    let level = c.args.level.now in
     let one = subst (λ (d : Cover). IsUnion nodes level d.set.0 c.cover-2.result.set.0 set.0) c.cover.ensures c.in_ok-set.ensures.union in
     let both = subst (λ (d : Cover). IsUnion nodes level (cover_at covers c.args.first).set.0 d.set.0 set.0) c.cover-2.ensures one in
     IfOk-weaker c.add.result _ _
-    (λ number a. two_built c.args.sets.now nodes c.args.self.now c.add.new.self set level c.args.first c.args.second number c.in_ok-set.ensures.grows c.requires.blocks
+    (λ number a. two_built c.args.sets.now nodes c.args.self.now c.add.new.self set c.args.level c.args.first c.args.second number c.in_ok-set.ensures.grows c.requires.blocks
     c.requires.level c.requires.first c.requires.second c.in_ok-set.ensures.level both a)
     c.add.ensures

@@ -16,9 +16,9 @@ loop-entry-preserved c = λ blocks lists.
     let so_far = l.invariant blocks lists in
     let listed = c.in_ok-place.ensures blocks so_far.lists so_far.within tt in
     subst (λ (rows : List Row). IsListed blocks c.args.self.now c.with.new.self rows (Some c.in_ok-place.place))
-    (sym (map_next (row_at 5) c.args.entries.now l.entry-index c.entry-item.result (last_row c.decision_of.result) c.loop-entry-test.true c.entry-item.is c.decision_of.ensures))
-    (listed_then blocks c.args.self.now l.self c.with.new.self (map (row_at 5) (take l.entry-index c.args.entries.now)) (last_row c.decision_of.result ∷ []) l.list (Some c.in_ok-place.place) so_far listed)
+    (sym (map_next (row_at []) c.args.entries.now l.entry-index c.entry-item.result (last_row c.decision_of.result) c.loop-entry-test.true c.entry-item.is c.decision_of.ensures))
+    (listed_then blocks c.args.self.now l.self c.with.new.self (map (row_at []) (take l.entry-index c.args.entries.now)) (last_row c.decision_of.result ∷ []) l.list (Some c.in_ok-place.place) so_far listed)
 
 pub returns : goal.returns
 returns c = λ blocks lists.
-    subst (λ es. IsListed blocks c.args.self.now c.loop-entry.self (map (row_at 5) es) c.loop-entry.list) (take_all c.loop-entry.entry-index c.args.entries.now c.loop-entry-test.false) (c.loop-entry.invariant blocks lists)
+    subst (λ es. IsListed blocks c.args.self.now c.loop-entry.self (map (row_at []) es) c.loop-entry.list) (take_all c.loop-entry.entry-index c.args.entries.now c.loop-entry-test.false) (c.loop-entry.invariant blocks lists)
