@@ -4,16 +4,12 @@ use Rattle.std.specs.Prelude.{slice_index}
 use Rattle.std.proofs.lemmas.Bool.{cases_lt}
 use Rattle.std.proofs.lemmas.Nat.{pow_pos}
 use Rattle.prefix_min.specs.declared.piece.Piece.{Piece}
-use Rattle.prefix_min.specs.declared.trie.Part.{Part}
-use Rattle.prefix_min.specs.declared.trie.Node.{Node}
 use Rattle.prefix_min.specs.Pieces.{reach, label_at}
 use Rattle.prefix_min.specs.NextPiece.{weight_below, IsNext, AreFit}
-use Rattle.prefix_min.specs.Costs.{AreLabels, least_cost}
-use Rattle.prefix_min.specs.Trie.{GivesAll, StandsFor, IsBuilt, costs_of}
-use Rattle.prefix_min.proofs.Powers.{double-one}
+use Rattle.prefix_min.specs.Trie.{GivesAll}
 use Rattle.prefix_min.proofs.PieceWeights.{reach-below, ends-rise, label-next, below-rises, below-all, value-weighs}
 
-same_piece : (pieces : List Piece) (i : ℕ) (d e : Piece) → i < length pieces → get_or pieces i d ≡ get_or pieces i e
+pub same_piece : (pieces : List Piece) (i : ℕ) (d e : Piece) → i < length pieces → get_or pieces i d ≡ get_or pieces i e
 same_piece [] i d e h = absurd (omega (arith, h))
 same_piece (p ∷ pieces) zero d e h = refl
 same_piece (p ∷ pieces) (suc i) d e h = same_piece pieces i d e (omega (arith, h))
@@ -67,42 +63,14 @@ module _ (weights : List ℕ) (pieces : List Piece) (fit : AreFit weights pieces
     pub constant_gives : GivesAll (label_at pieces) bits low (get_or pieces first d).label
     constant_gives v from below = next-label first low v d next inside from (omega (arith, below, is_top, covered))
 
-    first_label : label_at pieces low ≡ (get_or pieces first d).label
+    pub first_label : label_at pieces low ≡ (get_or pieces first d).label
     first_label = next-label first low low d next inside (omega arith) (omega (arith, is_top, covered, pow_pos bits))
 
     pub constant_light : slice_index weights (get_or pieces first d).label ≤ 2 ^ 104
     constant_light = omega (arith, ap (slice_index weights) first_label, label-light bits low within)
-
-    pub constant_costs : (n : Node) → (costs_of n).row ≡ slice_index weights (get_or pieces first d).label →
-        (x : ℕ) → least_cost (costs_of n) x + weight_below weights 0 pieces low ≤ weight_below weights 0 pieces (low + 2 ^ bits)
-    constant_costs n row x = omega (arith, ap (slice_index weights) first_label, row, first-weighs bits low within)
 
   pub next-after : (first low bits : ℕ) (d : Piece) → IsNext pieces first low → first < length pieces → (get_or pieces first d).hi + 1 ≡ low + 2 ^ bits → IsNext pieces (first + 1) (low + 2 ^ bits)
   next-after first low bits d next inside top = next_after first low bits (get_or pieces first d).hi next (λ e. ap (λ p. p.hi) (same_piece pieces first e d inside)) top
 
   pub next-same : (first low bits : ℕ) (d : Piece) → IsNext pieces first low → first < length pieces → low + 2 ^ bits ≤ (get_or pieces first d).hi → IsNext pieces first (low + 2 ^ bits)
   next-same first low bits d next inside more = next_same first low bits (get_or pieces first d).hi next (λ e. ap (λ p. p.hi) (same_piece pieces first e d inside)) more
-
-  -- the halves of a part make the part
-  pub halves_built : (n bits low mid : ℕ) (lower upper part : Part) → bits ≡ n + 1 → mid ≡ low + 2 ^ n →
-      IsBuilt weights pieces n low lower → IsBuilt weights pieces n mid upper →
-      ((f : ℕ → ℕ) (k start : ℕ) → StandsFor weights f k start lower.node.now → StandsFor weights f k (start + 2 ^ k) upper.node.now → StandsFor weights f (k + 1) start part.node.now) →
-      AreLabels weights (costs_of part.node.now) →
-      ((d : ℕ) → least_cost (costs_of part.node.now) d ≤ least_cost (costs_of lower.node.now) d + least_cost (costs_of upper.node.now) d) →
-      part.next ≡ upper.next → IsBuilt weights pieces bits low part
-  halves_built n bits low mid lower upper part b m lo hi stands labels costs next =
-      let whole : mid + 2 ^ n ≡ low + 2 ^ bits = omega (arith, m, double-one n, ap (λ k. 2 ^ k) b) in
-      record {
-        stands = subst (λ k. StandsFor weights (label_at pieces) k low part.node.now) (sym b)
-            (stands (label_at pieces) n low lo.stands (subst (λ v. StandsFor weights (label_at pieces) n v upper.node.now) m hi.stands));
-        labels = labels;
-        next = subst (λ k. IsNext pieces k (low + 2 ^ bits)) (sym next) (subst (λ v. IsNext pieces upper.next v) whole hi.next);
-        costs = λ d. omega (
-          arith,
-          costs d,
-          lo.costs d,
-          hi.costs d,
-          ap (weight_below weights 0 pieces) m,
-          ap (weight_below weights 0 pieces) whole,
-        );
-      }

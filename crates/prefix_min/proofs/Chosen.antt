@@ -10,10 +10,9 @@ use Rattle.std.proofs.lemmas.List.Sums.{sum_by-append}
 use Rattle.std.proofs.lemmas.Nat.{pow_pos}
 use Rattle.field_boxes.specs.Prefix.{prefix_holds}
 use Rattle.prefix_min.specs.declared.row.PrefixRow.{PrefixRow}
-use Rattle.prefix_min.specs.declared.costs.Costs.{Costs}
-use Rattle.prefix_min.specs.declared.trie.Node.{Node}
+use Rattle.prefix_min.specs.Trie.{Node}
 use Rattle.prefix_min.specs.Choice.{AnswerIn, IsWorth, IsWorthIn, beside, lies_in, within}
-use Rattle.prefix_min.specs.Costs.{IsConstant, IsSplit, without_row}
+use Rattle.prefix_min.specs.Costs.{Costs, IsConstant, IsSplit, without_row}
 use Rattle.prefix_min.specs.PrefixList.{front, weight}
 use Rattle.prefix_min.specs.Rows.{IsInside, IsPart, row_of}
 use Rattle.prefix_min.specs.Trie.{GivesAll, StandsFor, costs_of}
@@ -38,7 +37,7 @@ worth-halves weights f width n low d cost label c lo hi p s h g l e cheaper othe
   least = λ v small less others a.
       let b = below weights f width (suc n) low (f v) others p a.fits a.longer (own_answers f width (suc n) low label (λ x. f v) others p a) in
       let bound = halves-bound weights f n low c lo hi s h g (f v) b.rows b.rootless b.right in
-      elim (decide c.split.now (f v)) [
+      elim (decide c.labels (f v)) [
         | inl listed ↦ omega (arith, s.first (f v) listed (omega (arith, less, l)), bound, b.light, e)
         | inr fresh ↦ omega (arith, other v small fresh, bound, b.light, e)
       ];
@@ -139,6 +138,37 @@ high-worth weights f width n low d xs ys r lower inside h = λ weighs.
     (ap (λ zs. unwrap_or (front width zs v) d) (filter-append there xs ys)
     ∙ front-append width (beside width r xs) (beside width r ys) v d
     ∙ ap (λ o. unwrap_or o (unwrap_or (front width (beside width r ys) v) d)) out))
+
+-- the same where the rows of the upper half come first
+pub high-first : (weights : List ℕ) (f : ℕ → ℕ) (width n low d : ℕ) (xs ys : List PrefixRow) (r : PrefixRow) → AllByRecursion (IsInside width n low) xs → IsInside width n (low + 2 ^ n) r →
+    IsWorthIn weights f width d ys r → IsWorthIn weights f width d (ys ++ xs) r
+high-first weights f width n low d xs ys r lower inside h = λ weighs.
+    let here : PrefixRow → Bool = λ s. lies_in width r s in
+    let there : PrefixRow → Bool = λ s. not (lies_in width r s) in
+    let none = none_kept here (IsInside width n low) xs lower (λ s j. high_low width n low r s inside j) in
+    let whole : within width r ys ≡ within width r (ys ++ xs) = sym (filter-append here ys xs ∙ ap (λ zs. within width r ys ++ zs) none ∙ append-nil (within width r ys)) in
+    worth_same weights f width r _ _ _ _ (h weighs) (ap (weight weights) whole) (λ v small held.
+    let w = held_within width r v inside.fits held in
+    let out = front-outside width n low v (beside width r xs) (all_filter (IsInside width n low) there xs lower) (inr (omega (arith, w.0, inside.from))) in
+    sym
+    (ap (λ zs. unwrap_or (front width zs v) d) (filter-append there ys xs)
+    ∙ front-append width (beside width r ys) (beside width r xs) v d
+    ∙ ap (λ o. unwrap_or (front width (beside width r ys) v) (unwrap_or o d)) out))
+
+pub low-second : (weights : List ℕ) (f : ℕ → ℕ) (width n low d : ℕ) (xs ys : List PrefixRow) (r : PrefixRow) → AllByRecursion (IsInside width n (low + 2 ^ n)) ys → IsInside width n low r →
+    IsWorthIn weights f width d xs r → IsWorthIn weights f width d (ys ++ xs) r
+low-second weights f width n low d xs ys r upper inside h = λ weighs.
+    let here : PrefixRow → Bool = λ s. lies_in width r s in
+    let there : PrefixRow → Bool = λ s. not (lies_in width r s) in
+    let none = none_kept here (IsInside width n (low + 2 ^ n)) ys upper (λ s j. low_high width n low r s inside j) in
+    let whole : within width r xs ≡ within width r (ys ++ xs) = sym (filter-append here ys xs ∙ ap (λ zs. zs ++ within width r xs) none) in
+    worth_same weights f width r _ _ _ _ (h weighs) (ap (weight weights) whole) (λ v small held.
+    let w = held_within width r v inside.fits held in
+    let out = front-outside width n (low + 2 ^ n) v (beside width r ys) (all_filter (IsInside width n (low + 2 ^ n)) there ys upper) (inl (omega (arith, w.1, inside.below))) in
+    sym
+    (ap (λ zs. unwrap_or (front width zs v) d) (filter-append there ys xs)
+    ∙ front-append width (beside width r ys) (beside width r xs) v d
+    ∙ ap (λ o. unwrap_or o (unwrap_or (front width (beside width r xs) v) d)) out))
 
 -- rows of a part, once the part has a row of its own
 pub under-worth : (weights : List ℕ) (f : ℕ → ℕ) (width bits low label d : ℕ) (rows : List PrefixRow) (r : PrefixRow) → IsPart width bits low → IsInside width bits low r → width < bits + r.prefix.len →

@@ -3,9 +3,6 @@ pub mod Values
 pub mod Lower
 pub mod Whole
 pub mod Listed
-pub mod Merging
-pub mod OwnRow
-pub mod Joined
 pub mod PieceWeights
 pub mod Powers
 pub mod Building
@@ -21,3 +18,13 @@ pub mod Chosen
 pub mod PartRows
 pub mod Sifted
 pub mod FieldChoice
+pub mod Saved
+pub mod Adding
+pub mod Splitting
+pub mod Stacked
+pub mod Planned
+pub mod Walking
+pub mod FullLabel
+pub mod Blocks
+pub mod Stretched
+pub mod Grown

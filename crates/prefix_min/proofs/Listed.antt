@@ -3,7 +3,7 @@ use Rattle.std.proofs.Common.{◌≡◌, ◌≢◌, ◌∷◌, ◌++◌, ℕ, ze
 use Rattle.std.specs.Prelude.{◌⊎◌, cond, ◌==◌}
 use Rattle.std.proofs.lemmas.Bool.{false≢true}
 use Rattle.std.proofs.lemmas.Bool.Decides.{eqb_tells}
-use Rattle.prefix_min.specs.declared.costs.LabelCost.{LabelCost}
+use Rattle.prefix_min.specs.declared.savings.LabelCost.{LabelCost}
 use Rattle.prefix_min.specs.Costs.{Lists, RisesFrom, IsHead, cost_in, after}
 
 ne_eqb : (a b : ℕ) → a ≢ b → a == b ≡ false

@@ -3,10 +3,8 @@ use Rattle.std.proofs.Common.{◌≡◌, ◌∷◌, ℕ, List, [], ◌+◌, ◌^
 use Rattle.std.specs.Prelude.{◌≢◌, ◌⊎◌, cond, Option, Some, None, unwrap_or, suc, zero, ◌==◌, slice_index}
 use Rattle.std.proofs.lemmas.Bool.Decides.{eqb_tells}
 use Rattle.field_boxes.proofs.Halves.{Row, front, half, IsRootless, front-half, weight-halves}
-use Rattle.prefix_min.specs.declared.costs.LabelCost.{LabelCost}
-use Rattle.prefix_min.specs.declared.costs.Costs.{Costs}
-use Rattle.prefix_min.specs.declared.trie.Node.{Node, Constant, Halves'}
-use Rattle.prefix_min.specs.Costs.{Lists, IsConstant, least_cost, without_row}
+use Rattle.prefix_min.specs.Trie.{Node, Constant, Halves}
+use Rattle.prefix_min.specs.Costs.{Costs, Has, IsConstant, least_cost, without_row}
 use Rattle.prefix_min.specs.Trie.{costs_of, StandsFor}
 use Rattle.prefix_min.proofs.Values.{value, value-low, value-high}
 use Rattle.prefix_min.proofs.Root.{weigh, before, root, before-rootless, before-none, front-root, weight-root, weight-before, weight-front}
@@ -29,25 +27,25 @@ right_high n low f d rows rootless h b at = ap (λ o. unwrap_or o d) (sym (front
 pub same_or_not : (e x : ℕ) → (e ≡ x) ⊎ (e ≢ x)
 same_or_not e x = elim (eqb_tells e x) [ inl t ↦ inl t.1 | inr t ↦ inr t.1 ]
 
-decide_step : (x : LabelCost) (xs : List LabelCost) (d : ℕ) → Lists xs d ⊎ (Lists xs d → ⊥) → ((x.label ≡ d) ⊎ (x.label ≢ d)) → Lists (x ∷ xs) d ⊎ (Lists (x ∷ xs) d → ⊥)
+decide_step : (x : ℕ) (xs : List ℕ) (d : ℕ) → Has xs d ⊎ (Has xs d → ⊥) → ((x ≡ d) ⊎ (x ≢ d)) → Has (x ∷ xs) d ⊎ (Has (x ∷ xs) d → ⊥)
 decide_step x xs d (inl k) s = inl (inr k)
 decide_step x xs d (inr k) (inl s) = inl (inl s)
 decide_step x xs d (inr k) (inr s) = inr (λ a. elim a [ inl t ↦ s t | inr t ↦ k t ])
 
-pub decide : (xs : List LabelCost) (d : ℕ) → Lists xs d ⊎ (Lists xs d → ⊥)
+pub decide : (xs : List ℕ) (d : ℕ) → Has xs d ⊎ (Has xs d → ⊥)
 decide [] d = inr (λ h. h)
-decide (x ∷ xs) d = decide_step x xs d (decide xs d) (same_or_not x.label d)
+decide (x ∷ xs) d = decide_step x xs d (decide xs d) (same_or_not x d)
 
 -- the label of each value of the part is listed
 pub value-listed : (weights : List ℕ) (f : ℕ → ℕ) (n low : ℕ) (part : Node) → StandsFor weights f n low part →
-    (b : List Bool) → length b ≡ n → Lists (costs_of part).split.now (f (value n low b))
+    (b : List Bool) → length b ≡ n → Has (costs_of part).labels (f (value n low b))
 value-listed weights f n low (Constant c) h b at =
-    subst (λ x. Lists c.split.now x) (sym (h.1 (value n low b) (value-low n low b) (value-high n low b))) h.0.listed
-value-listed weights f zero low (Halves' c p lower q upper) h b at = absurd h
-value-listed weights f (suc n) low (Halves' c p lower q upper) h [] at = absurd (omega (arith, at))
-value-listed weights f (suc n) low (Halves' c p lower q upper) h (false ∷ b) at =
+    subst (λ x. Has c.labels x) (sym (h.1 (value n low b) (value-low n low b) (value-high n low b))) h.0.listed
+value-listed weights f zero low (Halves c lower upper) h b at = absurd h
+value-listed weights f (suc n) low (Halves c lower upper) h [] at = absurd (omega (arith, at))
+value-listed weights f (suc n) low (Halves c lower upper) h (false ∷ b) at =
     h.0.lists_low (f (value n low b)) (value-listed weights f n low lower h.1 b (omega (arith, at)))
-value-listed weights f (suc n) low (Halves' c p lower q upper) h (true ∷ b) at =
+value-listed weights f (suc n) low (Halves c lower upper) h (true ∷ b) at =
     h.0.lists_high (f (value n (low + 2 ^ n) b)) (value-listed weights f n (low + 2 ^ n) upper h.2 b (omega (arith, at)))
 
 -- the bits of the least value of a part
@@ -84,11 +82,11 @@ under_root : (n low : ℕ) (f : ℕ → ℕ) (d e : ℕ) (rows : List (Row ℕ))
 under_root n low f d e rows h right b at = ap (λ o. unwrap_or o d) (sym (front-root rows b e h)) ∙ right b at
 
 module _ (weights : List ℕ) (f : ℕ → ℕ) (n low : ℕ) (c : Costs)
-    (cheapest : (d : ℕ) → Lists c.split.now d → c.row ≤ slice_index weights d + without_row c d)
-    (listed : (b : List Bool) → length b ≡ suc n → Lists c.split.now (f (value (suc n) low b)))
+    (cheapest : (d : ℕ) → Has c.labels d → c.row ≤ slice_index weights d + without_row c d)
+    (listed : (b : List Bool) → length b ≡ suc n → Has c.labels (f (value (suc n) low b)))
     (bound : (rows : List (Row ℕ)) → IsRootless rows → HalvesBound weights f n low c rows) where
   root_step : (d e : ℕ) (rows : List (Row ℕ)) → root rows ≡ Some e → IsRightWith (suc n) low f d rows →
-      Lists c.split.now e ⊎ (Lists c.split.now e → ⊥) → least_cost c d ≤ weigh (weight_of weights) rows
+      Has c.labels e ⊎ (Has c.labels e → ⊥) → least_cost c d ≤ weigh (weight_of weights) rows
   root_step d e rows h right (inl k) = omega (
     arith,
     bound (before rows) (before-rootless rows) e (under_root (suc n) low f d e rows h right),
@@ -99,14 +97,14 @@ module _ (weights : List ℕ) (f : ℕ → ℕ) (n low : ℕ) (c : Costs)
     arith,
     weight-before (weight_of weights) rows,
     bound (before rows) (before-rootless rows) d (λ b at. held_step (front (before rows) b) d e (f (value (suc n) low b))
-        (under_root (suc n) low f d e rows h right b at) (λ s. k (subst (λ x. Lists c.split.now x) s (listed b at)))),
+        (under_root (suc n) low f d e rows h right b at) (λ s. k (subst (λ x. Has c.labels x) s (listed b at)))),
   )
 
   split_step : (d : ℕ) (rows : List (Row ℕ)) (o : Option ℕ) → root rows ≡ o → IsRightWith (suc n) low f d rows → least_cost c d ≤ weigh (weight_of weights) rows
   split_step d rows None h right =
       let rootless = subst IsRootless (before-none rows h) (before-rootless rows) in
       omega (arith, bound rows rootless d right)
-  split_step d rows (Some e) h right = root_step d e rows h right (decide c.split.now e)
+  split_step d rows (Some e) h right = root_step d e rows h right (decide c.labels e)
 
 pub lower : (weights : List ℕ) (f : ℕ → ℕ) (n low : ℕ) (part : Node) → StandsFor weights f n low part →
     (d : ℕ) (rows : List (Row ℕ)) → IsRightWith n low f d rows → least_cost (costs_of part) d ≤ weigh (weight_of weights) rows
@@ -114,10 +112,10 @@ lower weights f n low (Constant c) h d rows right =
     let b = zeros n in
     constant_step weights c d rows b h.0 (front rows b) refl
     (right b (length-zeros n) ∙ h.1 (value n low b) (value-low n low b) (value-high n low b))
-lower weights f zero low (Halves' c p lo q hi) h d rows right = absurd h
-lower weights f (suc n) low (Halves' c p lo q hi) h d rows right =
+lower weights f zero low (Halves c lo hi) h d rows right = absurd h
+lower weights f (suc n) low (Halves c lo hi) h d rows right =
     split_step weights f n low c h.0.cheapest
-    (λ b at. value-listed weights f (suc n) low (Halves' c p lo q hi) h b at)
+    (λ b at. value-listed weights f (suc n) low (Halves c lo hi) h b at)
     (λ rs rootless e r. omega (
       arith,
       h.0.without e,

@@ -9,8 +9,8 @@ use Rattle.prefix_min.specs.declared.row.PrefixRow.{PrefixRow}
 use Rattle.prefix_min.specs.Choice.{IsWorth, IsWorthIn}
 use Rattle.prefix_min.specs.PrefixList.{front}
 use Rattle.prefix_min.specs.Rows.{IsPart, IsInside, ArePartRows, row_of}
-use Rattle.prefix_min.proofs.Chosen.{high-worth, low-worth, own-worth, under-worth}
-use Rattle.prefix_min.proofs.Rows.{all_append, all_weaker, apart, front-append, front_one, halves_answer, inside_high, inside_low, nested_append, row-holds, row-inside}
+use Rattle.prefix_min.proofs.Chosen.{high-first, high-worth, low-second, low-worth, own-worth, under-worth}
+use Rattle.prefix_min.proofs.Rows.{all_append, all_weaker, apart, apart_turned, front-append, front_one, halves_answer, inside_high, inside_low, nested_append, row-holds, row-inside, turned_answer}
 
 both_hold : (P Q : PrefixRow → Type 0) (rows : List PrefixRow) → AllByRecursion P rows → AllByRecursion Q rows → AllByRecursion (λ r. P r × Q r) rows
 both_hold P Q [] g h = tt
@@ -42,6 +42,29 @@ half-rows weights f width n low d a b xs ys g h = record {
   longer = all_append (λ r. width < suc n + r.prefix.len) xs ys
       (all_weaker (IsInside width n low) (λ r. width < suc n + r.prefix.len) xs (λ r i. omega (arith, i.len)) g.inside)
       (all_weaker (IsInside width n (low + 2 ^ n)) (λ r. width < suc n + r.prefix.len) ys (λ r i. omega (arith, i.len)) h.inside);
+}
+
+-- in either order
+pub turned-rows : (weights : List ℕ) (f : ℕ → ℕ) (width n low d a b : ℕ) (xs ys : List PrefixRow) →
+    ArePartRows weights f width n low d a xs → ArePartRows weights f width n (low + 2 ^ n) d b ys → AreHalfRows weights f width (suc n) low d (a + b) (ys ++ xs)
+turned-rows weights f width n low d a b xs ys g h = record {
+  part = record {
+    inside = all_append (IsInside width (suc n) low) ys xs
+        (all_weaker (IsInside width n (low + 2 ^ n)) (IsInside width (suc n) low) ys (inside_high width n low) h.inside)
+        (all_weaker (IsInside width n low) (IsInside width (suc n) low) xs (inside_low width n low) g.inside);
+    nested = nested_append width (IsInside width n (low + 2 ^ n)) (IsInside width n low) ys xs (apart_turned width n low) h.inside g.inside h.nested g.nested;
+    labels = all_append (λ r. r.label < length weights) ys xs h.labels g.labels;
+    weighs = sum_by-append (λ r. slice_index weights r.label) ys xs ∙ omega (arith, g.weighs, h.weighs);
+    worth = all_append (IsWorthIn weights f width d (ys ++ xs)) ys xs
+        (all_weaker (λ r. IsInside width n (low + 2 ^ n) r × IsWorthIn weights f width d ys r) (IsWorthIn weights f width d (ys ++ xs)) ys
+        (λ r i. high-first weights f width n low d xs ys r g.inside i.0 i.1) (both_hold (IsInside width n (low + 2 ^ n)) (IsWorthIn weights f width d ys) ys h.inside h.worth))
+        (all_weaker (λ r. IsInside width n low r × IsWorthIn weights f width d xs r) (IsWorthIn weights f width d (ys ++ xs)) xs
+        (λ r i. low-second weights f width n low d xs ys r h.inside i.0 i.1) (both_hold (IsInside width n low) (IsWorthIn weights f width d xs) xs g.inside g.worth));
+    answers = λ v from below. turned_answer width n low v d xs ys (f v) g.inside h.inside (λ lt. g.answers v from lt) (λ ge. h.answers v ge (omega (arith, below, double n)));
+  };
+  longer = all_append (λ r. width < suc n + r.prefix.len) ys xs
+      (all_weaker (IsInside width n (low + 2 ^ n)) (λ r. width < suc n + r.prefix.len) ys (λ r i. omega (arith, i.len)) h.inside)
+      (all_weaker (IsInside width n low) (λ r. width < suc n + r.prefix.len) xs (λ r i. omega (arith, i.len)) g.inside);
 }
 
 -- no rows at all

@@ -5,9 +5,8 @@ use Rattle.std.proofs.lemmas.Bool.{cases_lt}
 use Rattle.field_boxes.proofs.Powers.{double}
 use Rattle.field_boxes.specs.Bits.{begins}
 use Rattle.field_boxes.proofs.Halves.{Row, IsRootless, front, half, is_root, weight-halves}
-use Rattle.prefix_min.specs.declared.costs.Costs.{Costs}
-use Rattle.prefix_min.specs.declared.trie.Node.{Node, Constant, Halves'}
-use Rattle.prefix_min.specs.Costs.{Lists, IsConstant, IsSplit, least_cost, without_row}
+use Rattle.prefix_min.specs.Trie.{Node, Constant, Halves}
+use Rattle.prefix_min.specs.Costs.{Costs, Has, IsConstant, IsSplit, least_cost, without_row}
 use Rattle.prefix_min.specs.Trie.{GivesAll, StandsFor, costs_of}
 use Rattle.prefix_min.proofs.Root.{weigh}
 use Rattle.prefix_min.proofs.Lower.{IsRightWith, lower, right_high, right_low, weight_of}
@@ -69,10 +68,10 @@ constant-bound weights f (suc n) low c k all d other rows rootless right =
     )
 
 -- the label of each value of a part is listed
-pub label-listed : (weights : List ℕ) (f : ℕ → ℕ) (n low : ℕ) (part : Node) → StandsFor weights f n low part → (v : ℕ) → low ≤ v → v < low + 2 ^ n → Lists (costs_of part).split.now (f v)
+pub label-listed : (weights : List ℕ) (f : ℕ → ℕ) (n low : ℕ) (part : Node) → StandsFor weights f n low part → (v : ℕ) → low ≤ v → v < low + 2 ^ n → Has (costs_of part).labels (f v)
 label-listed weights f n low (Constant c) h v from to = rw (h.1 v from to) h.0.listed
-label-listed weights f zero low (Halves' c p lo q hi) h v from to = absurd h
-label-listed weights f (suc n) low (Halves' c p lo q hi) h v from to =
+label-listed weights f zero low (Halves c lo hi) h v from to = absurd h
+label-listed weights f (suc n) low (Halves c lo hi) h v from to =
     let twice = double n in
     elim (cases_lt v (low + 2 ^ n)) [
       | inl below ↦ h.0.lists_low (f v) (label-listed weights f n low lo h.1 v from below)

@@ -113,6 +113,20 @@ halves_answer width n low v d xs ys x p q f g = elim (cases_lt v (low + 2 ^ n)) 
   | inr ge ↦ front-append width xs ys v d ∙ ap (λ o. unwrap_or o (unwrap_or (front width ys v) d)) (front-outside width n low v xs p (inr ge)) ∙ g ge
 ]
 
+pub apart_turned : (width n low : ℕ) (r s : PrefixRow) → IsInside width n (low + 2 ^ n) r → IsInside width n low s → Nests width r s
+apart_turned width n low r s i j v h k =
+    let a = held_within width r v i.fits h in
+    let b = held_within width s v j.fits k in
+    absurd (omega (arith, a.0, i.from, b.1, j.below))
+
+pub turned_answer : (width n low v d : ℕ) (xs ys : List PrefixRow) (x : ℕ) → AllByRecursion (IsInside width n low) xs → AllByRecursion (IsInside width n (low + 2 ^ n)) ys →
+    (v < low + 2 ^ n → unwrap_or (front width xs v) d ≡ x) → (low + 2 ^ n ≤ v → unwrap_or (front width ys v) d ≡ x) →
+    unwrap_or (front width (ys ++ xs) v) d ≡ x
+turned_answer width n low v d xs ys x p q f g = elim (cases_lt v (low + 2 ^ n)) [
+  | inl lt ↦ front-append width ys xs v d ∙ ap (λ o. unwrap_or o (unwrap_or (front width xs v) d)) (front-outside width n (low + 2 ^ n) v ys q (inl lt)) ∙ f lt
+  | inr ge ↦ front-append width ys xs v d ∙ ap (λ o. unwrap_or (front width ys v) (unwrap_or o d)) (front-outside width n low v xs p (inr ge)) ∙ g ge
+]
+
 pub front_one : (t : Bool) (r : PrefixRow) (d : ℕ) → t ≡ true → unwrap_or (option_map (λ x. x.label) (cond t (Some r) None)) d ≡ r.label
 front_one true r d h = refl
 front_one false r d h = absurd (false≢true h)

@@ -1,9 +1,8 @@
 -- Parts of the field and their halves.
-use Rattle.std.proofs.Common.{◌≡◌, ℕ, zero, suc, ◌+◌, ◌-◌, ◌^◌, ◌<◌, ◌≤◌, List, arith, sym, subst, Bor}
+use Rattle.std.proofs.Common.{◌≡◌, ℕ, zero, suc, ◌+◌, ◌-◌, ◌^◌, ◌<◌, ◌≤◌, List, arith, sym, subst}
 use Rattle.std.proofs.Math.Nat.{zero-mod}
-use Rattle.prefix_min.specs.declared.trie.Node.{Node, Constant, Halves'}
-use Rattle.prefix_min.specs.declared.costs.Costs.{Costs}
-use Rattle.prefix_min.specs.Costs.{IsSplit}
+use Rattle.prefix_min.specs.Trie.{Node, Constant, Halves}
+use Rattle.prefix_min.specs.Costs.{Costs, IsSplit}
 use Rattle.prefix_min.specs.Trie.{StandsFor, costs_of}
 use Rattle.prefix_min.specs.Rows.{IsPart, FitsBits}
 use Rattle.field_boxes.proofs.Powers.{aligned_high, aligned_low, double}
@@ -36,21 +35,21 @@ high-part width zero low h p = absurd (omega (arith, h))
 high-part width (suc n) low h p = subst (λ k. IsPart width k (low + 2 ^ k)) (sym (less_one n)) (high_half width n low p)
 
 -- what a split part stands for, and how deep its halves are
-pub stands-halves : (weights : List ℕ) (f : ℕ → ℕ) (bits low : ℕ) (c : Costs) (p q : Bor (Unit {0})) (lower upper : Node) → 0 < bits → StandsFor weights f bits low (Halves' c p lower q upper) →
+pub stands-halves : (weights : List ℕ) (f : ℕ → ℕ) (bits low : ℕ) (c : Costs) (lower upper : Node) → 0 < bits → StandsFor weights f bits low (Halves c lower upper) →
     IsSplit weights (costs_of lower) (costs_of upper) c × StandsFor weights f (bits - 1) low lower × StandsFor weights f (bits - 1) (low + 2 ^ (bits - 1)) upper
-stands-halves weights f zero low c p q lower upper h s = absurd (omega (arith, h))
-stands-halves weights f (suc n) low c p q lower upper h s =
+stands-halves weights f zero low c lower upper h s = absurd (omega (arith, h))
+stands-halves weights f (suc n) low c lower upper h s =
     (s.0, subst (λ k. StandsFor weights f k low lower) (sym (less_one n)) s.1, subst (λ k. StandsFor weights f k (low + 2 ^ k) upper) (sym (less_one n)) s.2)
 
-pub fits-halves : (bits : ℕ) (c : Costs) (p q : Bor (Unit {0})) (lower upper : Node) → FitsBits bits (Halves' c p lower q upper) → (0 < bits) × FitsBits (bits - 1) lower × FitsBits (bits - 1) upper
-fits-halves zero c p q lower upper h = absurd h
-fits-halves (suc n) c p q lower upper h =
+pub fits-halves : (bits : ℕ) (c : Costs) (lower upper : Node) → FitsBits bits (Halves c lower upper) → (0 < bits) × FitsBits (bits - 1) lower × FitsBits (bits - 1) upper
+fits-halves zero c lower upper h = absurd h
+fits-halves (suc n) c lower upper h =
     (omega arith, subst (λ k. FitsBits k lower) (sym (less_one n)) h.0, subst (λ k. FitsBits k upper) (sym (less_one n)) h.1)
 
 pub stands-fits : (weights : List ℕ) (f : ℕ → ℕ) (bits low : ℕ) (node : Node) → StandsFor weights f bits low node → FitsBits bits node
 stands-fits weights f bits low (Constant c) s = tt
-stands-fits weights f zero low (Halves' c p lower q upper) s = absurd s
-stands-fits weights f (suc n) low (Halves' c p lower q upper) s =
+stands-fits weights f zero low (Halves c lower upper) s = absurd s
+stands-fits weights f (suc n) low (Halves c lower upper) s =
     (stands-fits weights f n low lower s.1, stands-fits weights f n (low + 2 ^ n) upper s.2)
 
 -- the whole field is a part of itself

@@ -10,10 +10,9 @@ use Rattle.field_boxes.specs.Bits.{bits, begins}
 use Rattle.field_boxes.proofs.Bits.{prefix-begins}
 use Rattle.field_boxes.proofs.Halves.{Row, front}
 use Rattle.prefix_min.specs.declared.row.PrefixRow.{PrefixRow}
-use Rattle.prefix_min.specs.declared.costs.Costs.{Costs}
-use Rattle.prefix_min.specs.declared.trie.Node.{Node, Constant, Halves'}
+use Rattle.prefix_min.specs.Trie.{Node, Constant, Halves}
 use Rattle.prefix_min.specs.PrefixList as list
-use Rattle.prefix_min.specs.Costs.{Lists, IsConstant, IsSplit, least_cost, without_row}
+use Rattle.prefix_min.specs.Costs.{Costs, Has, IsConstant, IsSplit, least_cost, without_row}
 use Rattle.prefix_min.specs.Trie.{costs_of, StandsFor}
 use Rattle.prefix_min.proofs.Values.{value, value-high, bits-value}
 use Rattle.prefix_min.proofs.Root.{weigh}
@@ -21,14 +20,14 @@ use Rattle.prefix_min.proofs.Lower.{IsRightWith, lower, weight_of}
 
 -- a label that isn't listed
 abbrev pub IsFresh : Costs → ℕ → Type 0
-IsFresh c d = Lists c.split.now d → ⊥
+IsFresh c d = Has c.labels d → ⊥
 
 pub ne_eqb : (a b : ℕ) → a ≢ b → a == b ≡ false
 ne_eqb a b h = elim (eqb_tells a b) [ inl t ↦ absurd (h t.1) | inr t ↦ t.0 ]
 
 constant_fresh : (weights : List ℕ) (c : Costs) (d : ℕ) → IsConstant weights c → IsFresh c d → least_cost c d ≡ slice_index weights c.label
 constant_fresh weights c d k fresh =
-    let other : c.label == d ≡ false = ne_eqb c.label d (λ e. fresh (subst (λ x. Lists c.split.now x) e k.listed)) in
+    let other : c.label == d ≡ false = ne_eqb c.label d (λ e. fresh (subst (λ x. Has c.labels x) e k.listed)) in
     let full : without_row c d ≡ slice_index weights c.label = k.without d ∙ ap (λ t. cond t 0 (slice_index weights c.label)) other in
     omega (arith, k.with_row)
 
@@ -36,8 +35,8 @@ constant_fresh weights c d k fresh =
 pub fresh_helps_least : (weights : List ℕ) (f : ℕ → ℕ) (n low : ℕ) (part : Node) → StandsFor weights f n low part →
     (d e : ℕ) → IsFresh (costs_of part) d → least_cost (costs_of part) e ≤ least_cost (costs_of part) d
 fresh_helps_least weights f n low (Constant c) h d e fresh = omega (arith, constant_fresh weights c d h.0 fresh, h.0.with_row)
-fresh_helps_least weights f zero low (Halves' c p lo q hi) h d e fresh = absurd h
-fresh_helps_least weights f (suc n) low (Halves' c p lo q hi) h d e fresh = omega (
+fresh_helps_least weights f zero low (Halves c lo hi) h d e fresh = absurd h
+fresh_helps_least weights f (suc n) low (Halves c lo hi) h d e fresh = omega (
   arith,
   h.0.without d,
   h.0.without e,
@@ -47,7 +46,7 @@ fresh_helps_least weights f (suc n) low (Halves' c p lo q hi) h d e fresh = omeg
 
 -- where no useful label is inherited, some label's row is worth its weight
 abbrev Pays : List ℕ → Costs → ℕ → Type 0
-Pays weights c d = (e : ℕ) × Lists c.split.now e × (slice_index weights e + least_cost c e ≤ least_cost c d)
+Pays weights c d = (e : ℕ) × Has c.labels e × (slice_index weights e + least_cost c e ≤ least_cost c d)
 
 constant_pays : (weights : List ℕ) (c : Costs) (d : ℕ) → IsConstant weights c → IsFresh c d → Pays weights c d
 constant_pays weights c d k fresh =
@@ -70,16 +69,16 @@ split_pays weights f n low c lo hi s h d fresh best = omega (
 pays : (weights : List ℕ) (f : ℕ → ℕ) (n low : ℕ) (part : Node) → StandsFor weights f n low part →
     (d : ℕ) → IsFresh (costs_of part) d → Pays weights (costs_of part) d
 pays weights f n low (Constant c) h d fresh = constant_pays weights c d h.0 fresh
-pays weights f zero low (Halves' c p lo q hi) h d fresh = absurd h
-pays weights f (suc n) low (Halves' c p lo q hi) h d fresh =
+pays weights f zero low (Halves c lo hi) h d fresh = absurd h
+pays weights f (suc n) low (Halves c lo hi) h d fresh =
     let best = pays weights f n low lo h.1 d (λ l. fresh (h.0.lists_low d l)) in
     (c.label, h.0.listed, omega (arith, h.0.with_row, split_pays weights f n low c lo hi h.0 h.2 d fresh best))
 
 pub row_pays : (weights : List ℕ) (f : ℕ → ℕ) (n low : ℕ) (part : Node) → StandsFor weights f n low part →
     (d : ℕ) → IsFresh (costs_of part) d → (costs_of part).row ≤ least_cost (costs_of part) d
 row_pays weights f n low (Constant c) h d fresh = omega (arith, h.0.with_row, constant_fresh weights c d h.0 fresh)
-row_pays weights f zero low (Halves' c p lo q hi) h d fresh = absurd h
-row_pays weights f (suc n) low (Halves' c p lo q hi) h d fresh =
+row_pays weights f zero low (Halves c lo hi) h d fresh = absurd h
+row_pays weights f (suc n) low (Halves c lo hi) h d fresh =
     let best = pays weights f n low lo h.1 d (λ l. fresh (h.0.lists_low d l)) in
     omega (arith, split_pays weights f n low c lo hi h.0 h.2 d fresh best)
 

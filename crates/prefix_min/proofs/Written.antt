@@ -1,16 +1,15 @@
 -- The rows that are written for a part.
-use Rattle.std.proofs.Common.{◌≡◌, ◌≢◌, ◌∷◌, ◌++◌, ℕ, suc, List, [], ◌+◌, ◌^◌, ◌<◌, ◌≤◌, ap, arith, sym, ◌∙◌, subst, eq-eqb, append_assoc, Bor}
+use Rattle.std.proofs.Common.{◌≡◌, ◌≢◌, ◌∷◌, ◌++◌, ℕ, suc, List, [], ◌+◌, ◌^◌, ◌<◌, ◌≤◌, ap, arith, sym, ◌∙◌, subst, eq-eqb, append_assoc}
 use Rattle.std.specs.Prelude.{cond, slice_index}
 use Rattle.std.proofs.lemmas.List.{append-nil}
 use Rattle.std.proofs.lemmas.List.Elements.{Contains-push}
 use Rattle.prefix_min.specs.declared.row.PrefixRow.{PrefixRow}
-use Rattle.prefix_min.specs.declared.costs.Costs.{Costs}
-use Rattle.prefix_min.specs.declared.trie.Node.{Node, Constant, Halves'}
-use Rattle.prefix_min.specs.Costs.{IsConstant, IsSplit, least_cost, without_row}
+use Rattle.prefix_min.specs.Trie.{Node, Constant, Halves}
+use Rattle.prefix_min.specs.Costs.{Costs, IsConstant, IsSplit, least_cost, without_row}
 use Rattle.prefix_min.specs.Choice.{IsWorth}
 use Rattle.prefix_min.specs.Trie.{StandsFor, costs_of}
 use Rattle.prefix_min.specs.Rows.{IsPart, ArePartRows, AreFieldRows, Appends, row_of}
-use Rattle.prefix_min.proofs.PartRows.{AreHalfRows, no-rows, half-rows, with-own-row}
+use Rattle.prefix_min.proofs.PartRows.{AreHalfRows, no-rows, with-own-row}
 use Rattle.prefix_min.proofs.Chosen.{worth-constant, worth-halves}
 use Rattle.prefix_min.proofs.Rootless.{fresh_without, label-listed}
 use Rattle.prefix_min.proofs.Whole.{ne_eqb}
@@ -51,30 +50,22 @@ constant-written weights f width bits low d node c old new is e p added s =
 appended : (old mid new xs ys : List PrefixRow) → mid ≡ old ++ xs → new ≡ mid ++ ys → new ≡ old ++ (xs ++ ys)
 appended old mid new xs ys e f = f ∙ ap (λ m. m ++ ys) e ∙ append_assoc old xs ys
 
--- the rows of both halves, one after the other
-pub halves-written : (weights : List ℕ) (f : ℕ → ℕ) (width other n bits low middle d a b : ℕ) (old mid new : List PrefixRow) → bits ≡ suc n → other ≡ width → middle ≡ low + 2 ^ n →
-    Appends old mid (ArePartRows weights f width n low d a) → Appends mid new (ArePartRows weights f other n middle d b) → Appends old new (AreHalfRows weights f width bits low d (a + b))
-halves-written weights f width other n bits low middle d a b old mid new e w m g h =
-    let upper = subst (λ k. ArePartRows weights f width n k d b h.0) m (subst (λ k. ArePartRows weights f k n middle d b h.0) w h.2) in
-    let both = half-rows weights f width n low d a b g.0 h.0 g.2 upper in
-    (g.0 ++ h.0, appended old mid new g.0 h.0 g.1 h.1, subst (λ k. AreHalfRows weights f width k low d (a + b) (g.0 ++ h.0)) (sym e) both)
-
 -- a part without a row of its own
-pub halves-inherit : (weights : List ℕ) (f : ℕ → ℕ) (width bits low d a : ℕ) (node : Node) (c : Costs) (p q : Bor (Unit {0})) (lower upper : Node) (old new : List PrefixRow) →
-    node ≡ Halves' c p lower q upper → without_row c d ≤ c.row → IsSplit weights (costs_of lower) (costs_of upper) c → a ≡ least_cost (costs_of lower) d + least_cost (costs_of upper) d →
+pub halves-inherit : (weights : List ℕ) (f : ℕ → ℕ) (width bits low d a : ℕ) (node : Node) (c : Costs) (lower upper : Node) (old new : List PrefixRow) →
+    node ≡ Halves c lower upper → without_row c d ≤ c.row → IsSplit weights (costs_of lower) (costs_of upper) c → a ≡ least_cost (costs_of lower) d + least_cost (costs_of upper) d →
     Appends old new (AreHalfRows weights f width bits low d a) → Appends old new (ArePartRows weights f width bits low d (least_cost (costs_of node) d))
-halves-inherit weights f width bits low d a node c p q lower upper old new is le s e h =
+halves-inherit weights f width bits low d a node c lower upper old new is le s e h =
     let cost : a ≡ least_cost c d = omega (arith, e, s.without d, le) in
     (h.0, h.1, cost_is weights f width bits low d a (least_cost (costs_of node) d) h.0 (cost ∙ ap (λ n. least_cost (costs_of n) d) (sym is)) h.2.part)
 
 -- a part with a row of its own
-pub halves-own : (weights : List ℕ) (f : ℕ → ℕ) (width n bits low d a label : ℕ) (node : Node) (c : Costs) (p q : Bor (Unit {0})) (lower upper : Node) (old mid new : List PrefixRow) →
+pub halves-own : (weights : List ℕ) (f : ℕ → ℕ) (width n bits low d a label : ℕ) (node : Node) (c : Costs) (lower upper : Node) (old mid new : List PrefixRow) →
     bits ≡ suc n → StandsFor weights f n low lower → StandsFor weights f n (low + 2 ^ n) upper →
-    node ≡ Halves' c p lower q upper → label ≡ c.label → c.row < without_row c d → IsPart width bits low → IsSplit weights (costs_of lower) (costs_of upper) c →
+    node ≡ Halves c lower upper → label ≡ c.label → c.row < without_row c d → IsPart width bits low → IsSplit weights (costs_of lower) (costs_of upper) c →
     a ≡ least_cost (costs_of lower) label + least_cost (costs_of upper) label →
     Appends old mid (AreHalfRows weights f width bits low label a) → new ≡ mid ++ row_of width bits low label ∷ [] →
     Appends old new (ArePartRows weights f width bits low d (least_cost (costs_of node) d))
-halves-own weights f width n bits low d a label node c p q lower upper old mid new size lo hi is l lt part s e h added =
+halves-own weights f width n bits low d a label node c lower upper old mid new size lo hi is l lt part s e h added =
     let row : a + slice_index weights label ≡ c.row = omega (arith, e, s.without label, ap (without_row c) l, s.with_row, ap (slice_index weights) l) in
     let worth = worth-halves weights f width n low d (a + slice_index weights label) label c lower upper (subst (λ k. IsPart width k low) size part) s lo hi l row (λ some. lt)
     (λ v small fresh. omega (arith, lt, fresh_without weights f n low c lower upper s lo hi d (f v) fresh)) in
@@ -88,18 +79,18 @@ halves-own weights f width n bits low d a label node c p q lower upper old mid n
     )
 
 -- the field's rows: those of its halves and its own
-pub field-halves : (weights : List ℕ) (f : ℕ → ℕ) (width n a label : ℕ) (node : Node) (c : Costs) (p q : Bor (Unit {0})) (lower upper : Node) (mid new : List PrefixRow) →
+pub field-halves : (weights : List ℕ) (f : ℕ → ℕ) (width n a label : ℕ) (node : Node) (c : Costs) (lower upper : Node) (mid new : List PrefixRow) →
     width ≡ suc n → StandsFor weights f n 0 lower → StandsFor weights f n (0 + 2 ^ n) upper →
-    node ≡ Halves' c p lower q upper → label ≡ c.label → IsPart width width 0 → IsSplit weights (costs_of lower) (costs_of upper) c →
+    node ≡ Halves c lower upper → label ≡ c.label → IsPart width width 0 → IsSplit weights (costs_of lower) (costs_of upper) c →
     a ≡ least_cost (costs_of lower) label + least_cost (costs_of upper) label →
     Appends [] mid (AreHalfRows weights f width width 0 label a) → new ≡ mid ++ row_of width width 0 label ∷ [] →
     AreFieldRows weights f width (costs_of node).row new
-field-halves weights f width n a label node c p q lower upper mid new size lo hi is l part s e h added =
+field-halves weights f width n a label node c lower upper mid new size lo hi is l part s e h added =
     let own = row_of width width 0 label in
     let same : new ≡ h.0 ++ own ∷ [] = added ∙ ap (λ m. m ++ own ∷ []) h.1 in
     let cost : a + slice_index weights label ≡ c.row = omega (arith, e, s.without label, ap (without_row c) l, s.with_row, ap (slice_index weights) l) in
     let listed = λ (v : ℕ) (small : v < 2 ^ width).
-    label-listed weights f (suc n) 0 (Halves' c p lower q upper) (s, lo, hi) v (omega arith) (subst (λ k. v < 0 + 2 ^ k) size (omega (arith, small))) in
+    label-listed weights f (suc n) 0 (Halves c lower upper) (s, lo, hi) v (omega arith) (subst (λ k. v < 0 + 2 ^ k) size (omega (arith, small))) in
     let worth = λ (d : ℕ). subst (λ k. IsWorth weights f width (row_of width k 0 label) (a + slice_index weights label) (λ v. d)) (sym size)
     (worth-halves weights f width n 0 d (a + slice_index weights label) label c lower upper (subst (λ k. IsPart width k 0) size part) s lo hi l cost
     (λ some. absurd (omega (arith, some, size))) (λ v small fresh. absurd (fresh (listed v small)))) in

@@ -6,3 +6,9 @@ pub mod Costs
 pub mod Trie
 pub mod Choice
 pub mod Rows
+pub mod Savings
+pub mod Built
+pub mod Plan
+pub mod Field
+pub mod Parts
+pub mod Growth

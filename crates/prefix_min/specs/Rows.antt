@@ -3,7 +3,7 @@ use Rattle.std.specs.Prelude.{◌≡◌, ℕ, zero, suc, ◌+◌, ◌-◌, ◌%�
 use Rattle.std.specs.List.{AllByRecursion, Contains}
 use Rattle.field_boxes.specs.Prefix.{FitsWidth, prefix_holds}
 use Rattle.prefix_min.specs.declared.row.PrefixRow.{PrefixRow}
-use Rattle.prefix_min.specs.declared.trie.Node.{Node, Constant, Halves'}
+use Rattle.prefix_min.specs.Trie.{Node, Constant, Halves}
 use Rattle.prefix_min.specs.PrefixList.{front, weight}
 use Rattle.prefix_min.specs.Choice.{IsWorthIn}
 use Rattle.prefix_min.specs.Costs.{least_cost}
@@ -19,8 +19,8 @@ pub record IsPart (width bits low : ℕ) : Type 0 where
 -- the trie is no deeper than the bits
 abbrev pub FitsBits : ℕ → Node → Type 0
 FitsBits bits (Constant c) = Unit {0}
-FitsBits zero (Halves' c p lower q upper) = ⊥
-FitsBits (suc bits) (Halves' c p lower q upper) = FitsBits bits lower × FitsBits bits upper
+FitsBits zero (Halves c lower upper) = ⊥
+FitsBits (suc bits) (Halves c lower upper) = FitsBits bits lower × FitsBits bits upper
 
 -- the row of all values of a part
 abbrev pub row_of : ℕ → ℕ → ℕ → ℕ → PrefixRow

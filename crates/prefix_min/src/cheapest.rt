@@ -8,12 +8,16 @@ ghost use Rattle.prefix_min.specs.declared.row.PrefixRow.{PrefixRow};
 
 use crate::order::sort;
 use crate::piece::Piece;
+use crate::plan::Plan;
 use crate::row::PrefixRow;
-use crate::trie::Field;
-use crate::walk::field_rows;
+use crate::stack::{Field, Stack};
 use bumpalo::Bump;
+use field_boxes::Prefix;
 use razor_base::Memory;
 use std::alloc::Global;
+
+/// The most choices for which there is room from the start.
+const FIRST_CHOICES: usize = 1_000;
 
 /// A right list that weighs least, and its weight.
 #[derive(Drop, Debug)]
@@ -29,8 +33,8 @@ pub struct Cheapest {
 /// has the least label of the pieces that makes it cheapest. The field itself always has a row, and so has a
 /// part of one label that doesn't inherit it, even where the label weighs nothing.
 ///
-/// Time and room are in the order of the pieces times the width, however many labels there are. The trie on
-/// which the rows are chosen lies in one arena, which is given up at the end.
+/// Time and room are in the order of the pieces times the width, however many labels there are. What the parts
+/// choose lies in one arena, which is given up at the end.
 pub fn minimise(
     alloc: Global,
     pieces: &[Piece],
@@ -59,14 +63,27 @@ pub fn minimise(
     ensures chosen { IfOk result (λ c. All (λ r. 0 < slice_index weights.now r.label → IsChosen weights.now (label_at pieces.now) width c.rows.items r) c.rows.items) }
 {
     let arena = Bump::new(alloc);
-    let field = Field {
-        arena: &arena,
-        pieces,
-        weights,
+    let mut stack = Stack {
+        savings: Vec::new(alloc),
+        sums: Vec::new(alloc),
+        next: 0,
+        cost: 0,
+        choices: Vec::with_capacity(&arena, pieces.len().min(FIRST_CHOICES))?,
+        also: Vec::new(&arena),
     };
-    let root = field.part(0, width, 0)?.node;
-    let cost = root.costs().row;
-    let mut rows = field_rows(alloc, root, width)?;
+    let field = Field { pieces, weights };
+    let label = field.whole(&mut stack, width)?;
+    let plan = Plan {
+        width,
+        choices: &stack.choices,
+        also: &stack.also,
+    };
+    let mut rows = Vec::new(alloc);
+    let prefix = Prefix { value: 0, len: 0 };
+    rows.push(PrefixRow { prefix, label })?;
+    plan.write(&mut rows, 0, stack.choices.len(), label)?;
+    rows.reverse();
     sort(&mut rows)?;
+    let cost = stack.cost;
     Ok(Cheapest { rows, cost })
 }

@@ -12,15 +12,14 @@
 #![tactic(auto)]
 
 mod cheapest;
-mod costs;
 pub mod laws;
-mod merge;
 mod order;
 mod parts;
 mod piece;
+mod plan;
 mod row;
-mod trie;
-mod walk;
+mod savings;
+mod stack;
 
 pub use cheapest::{Cheapest, minimise};
 pub use piece::Piece;

@@ -1,5 +1,21 @@
-//! Numbers of a part of the field.
-ghost use Rattle.std.specs.Prelude.{◌≡◌, ◌≤◌, ◌<◌, ◌+◌, ◌-◌, ◌^◌};
+//! Parts of the field: the values below one prefix.
+ghost use Rattle.std.specs.Prelude.{◌≡◌, ◌≤◌, ◌<◌, ◌+◌, ◌-◌, ◌%◌, ◌^◌};
+ghost use Rattle.prefix_min.specs.Parts.{IsAbout};
+
+/// The values that differ from `low` in the lowest `bits` bits only.
+#[derive(Clone, Copy)]
+pub struct Part {
+    pub low: u32,
+    pub bits: u8,
+}
+
+/// The first value above the part.
+pub fn end(part: Part) -> u64
+    requires { part.bits ≤ 32 }
+    ensures { result ≡ part.low + 2 ^ part.bits }
+{
+    u64::from(part.low) + (1u64 << part.bits)
+}
 
 /// The greatest value of the part of `bits` bits from `low` on.
 pub fn top(bits: u8, low: u32) -> u32
@@ -19,4 +35,38 @@ pub fn middle(bits: u8, low: u32) -> u32
     ensures { result ≡ low + 2 ^ (bits - 1) }
 {
     low + (1u32 << (bits - 1))
+}
+
+/// The part of which this one is a half.
+pub fn about(part: Part) -> Part
+    requires { part.bits < 32 }
+    ensures bits { result.bits ≡ part.bits + 1 }
+    ensures low { result.low ≡ part.low - part.low % 2 ^ (part.bits + 1) }
+{
+    let low = u64::from(part.low);
+    let bits = part.bits + 1;
+    let over = low % (1u64 << bits);
+    Part {
+        low: (low - over) as u32,
+        bits,
+    }
+}
+
+/// The greatest part about this one that has no more than `most` bits and ends at `limit` or below.
+pub fn widest(part: Part, most: u8, limit: u64) -> Part
+    requires wide { most ≤ 32 }
+    requires less { part.bits ≤ most }
+    requires aligned { part.low % 2 ^ part.bits ≡ 0 }
+    requires ends { part.low + 2 ^ part.bits ≤ limit }
+    ensures { IsAbout part.low part.bits most limit result }
+{
+    let mut widest = part;
+    while widest.bits < most {
+        let wider = about(widest);
+        if limit < end(wider) {
+            return widest;
+        }
+        widest = wider;
+    }
+    widest
 }

@@ -1,0 +1,88 @@
+-- Parts of the field that lie in one another.
+use Rattle.std.proofs.Common.{◌≡◌, ℕ, zero, suc, ◌+◌, ◌-◌, ◌*◌, ◌/◌, ◌%◌, ◌^◌, ◌<◌, ◌≤◌, arith, ap, sym, ◌∙◌, inl, inr, subst}
+use Rattle.std.specs.Prelude.{◌⊎◌}
+use Rattle.std.proofs.Math.Nat.{add-mod_right, mul-mod_right, zero-mod}
+use Rattle.std.proofs.Math.Pow.{mod-mod-pow, pow_mono}
+use Rattle.std.proofs.lemmas.Bool.{cases_lt}
+use Rattle.std.proofs.lemmas.Nat.{div-add-mod', mod-pow-add, mod_below, pow_pos, mul-le}
+use Rattle.std.proofs.Math.Nat.{suc-mul, mul-mod_left}
+use Rattle.prefix_min.specs.declared.parts.Part.{Part}
+use Rattle.prefix_min.specs.Parts.{IsAbout}
+use Rattle.prefix_min.proofs.Powers.{double-one}
+
+-- of two multiples the lesser lies a whole step before the greater
+step_apart : (m a b : ℕ) → a % m ≡ 0 → b % m ≡ 0 → a < b → a + m ≤ b
+step_apart m a b h k lt = elim (cases_lt (a / m) (b / m)) [
+  | inl less ↦ omega (arith, div-add-mod' a m, div-add-mod' b m, h, k, suc-mul (a / m) m, mul-le (suc (a / m)) m (b / m) m (let e : suc (a / m) ≤ b / m = omega (arith, less) in e) (let e : m ≤ m = omega arith in e))
+  | inr ge ↦ absurd (omega (arith, div-add-mod' a m, div-add-mod' b m, h, k, lt, mul-le (b / m) m (a / m) m ge (let e : m ≤ m = omega arith in e)))
+]
+
+-- a multiple of a power is one of each lesser power
+pub lesser : (k n v : ℕ) → k ≤ n → v % 2 ^ n ≡ 0 → v % 2 ^ k ≡ 0
+lesser k n v le h =
+    let e : (n - k) + k ≡ n = omega (arith, le) in
+    sym (mod-mod-pow v (n - k) k) ∙ ap (λ m. v % 2 ^ m % 2 ^ k) e ∙ ap (λ x. x % 2 ^ k) h ∙ zero-mod (2 ^ k)
+
+-- of two parts that meet the smaller lies in the greater
+pub from-within : (k n v w : ℕ) → k ≤ n → v % 2 ^ k ≡ 0 → w % 2 ^ n ≡ 0 → w < v + 2 ^ k → w ≤ v
+from-within k n v w le h g meets = elim (cases_lt v w) [
+  | inl lt ↦ absurd (omega (arith, step_apart (2 ^ k) v w h (lesser k n w le g) lt, meets))
+  | inr ge ↦ ge
+]
+
+pub to-within : (k n v w : ℕ) → k ≤ n → v % 2 ^ k ≡ 0 → w % 2 ^ n ≡ 0 → v < w + 2 ^ n → v + 2 ^ k ≤ w + 2 ^ n
+to-within k n v w le h g meets = step_apart (2 ^ k) v (w + 2 ^ n) h (lesser k n (w + 2 ^ n) le (add-mod_right w (2 ^ n) ∙ g)) meets
+
+-- a part is the lower half of the one about it, or the upper half
+over_cases : (q k r : ℕ) → q < 2 → r ≡ q * 2 ^ k + 0 → (r ≡ 0) ⊎ (r ≡ 2 ^ k)
+over_cases zero k r lt e = inl (omega (arith, e))
+over_cases (suc zero) k r lt e = inr (omega (arith, e))
+over_cases (suc (suc q)) k r lt e = absurd (omega (arith, lt))
+
+over : (k v : ℕ) → v % 2 ^ k ≡ 0 → (v % 2 ^ (k + 1) ≡ 0) ⊎ (v % 2 ^ (k + 1) ≡ 2 ^ k)
+over k v h =
+    let e : 1 + k ≡ k + 1 = omega arith in
+    let parts : v % 2 ^ (k + 1) ≡ (v / 2 ^ k % 2 ^ 1) * 2 ^ k + 0 = ap (λ m. v % 2 ^ m) (sym e) ∙ mod-pow-add v 1 k ∙ ap (λ x. (v / 2 ^ k % 2 ^ 1) * 2 ^ k + x) h in
+    over_cases (v / 2 ^ k % 2 ^ 1) k (v % 2 ^ (k + 1)) (mod_below (v / 2 ^ k) (2 ^ 1) (omega arith)) parts
+
+pub sides : (k v w : ℕ) → v % 2 ^ k ≡ 0 → w ≡ v - v % 2 ^ (k + 1) → (w ≡ v) ⊎ (w + 2 ^ k ≡ v)
+sides k v w h e = elim (over k v h) [
+  | inl none ↦ inl (omega (arith, e, none))
+  | inr half ↦ inr (omega (arith, e, half, div-add-mod' v (2 ^ (k + 1))))
+]
+
+pub about-aligned : (k v w : ℕ) → w ≡ v - v % 2 ^ (k + 1) → w % 2 ^ (k + 1) ≡ 0
+about-aligned k v w e =
+    let m = 2 ^ (k + 1) in
+    let is : w ≡ v / m * m = omega (arith, e, div-add-mod' v m) in
+    ap (λ x. x % m) is ∙ mul-mod_left (v / m) m
+
+pub about-ends : (k v w : ℕ) → v % 2 ^ k ≡ 0 → w ≡ v - v % 2 ^ (k + 1) → v + 2 ^ k ≤ w + 2 ^ (k + 1)
+about-ends k v w h e = elim (sides k v w h e) [
+  | inl same ↦ omega (arith, same, double-one k)
+  | inr half ↦ omega (arith, half, double-one k)
+]
+
+-- a part lies about itself
+pub about-self : (low bits most limit : ℕ) (p : Part) → p.low ≡ low → p.bits ≡ bits → bits ≤ most → low % 2 ^ bits ≡ 0 → low + 2 ^ bits ≤ limit → IsAbout low bits most limit p
+about-self low bits most limit p l b le h ends = record {
+  from = omega (arith, l);
+  to = omega (arith, l, ap (λ k. 2 ^ k) b);
+  less = omega (arith, b);
+  short = omega (arith, b, le);
+  aligned = subst (λ v. v % 2 ^ p.bits ≡ 0) (sym l) (subst (λ k. low % 2 ^ k ≡ 0) (sym b) h);
+  ends = omega (arith, l, ap (λ k. 2 ^ k) b, ends);
+}
+
+-- and so does the one about it
+pub about-wider : (low bits most limit : ℕ) (p q : Part) → IsAbout low bits most limit p → q.bits ≡ p.bits + 1 → q.low ≡ p.low - p.low % 2 ^ (p.bits + 1) → p.bits < most → q.low + 2 ^ q.bits ≤ limit → IsAbout low bits most limit q
+about-wider low bits most limit p q a b l lt ends =
+    let size : 2 ^ q.bits ≡ 2 ^ (p.bits + 1) = ap (λ k. 2 ^ k) b in
+    record {
+      from = omega (arith, l, a.from);
+      to = omega (arith, a.to, about-ends p.bits p.low q.low a.aligned l, size);
+      less = omega (arith, a.less, b);
+      short = omega (arith, b, lt);
+      aligned = ap (λ m. q.low % m) size ∙ about-aligned p.bits p.low q.low l;
+      ends = ends;
+    }

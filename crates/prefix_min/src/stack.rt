@@ -1,0 +1,292 @@
+//! What each part of the field costs and saves.
+ghost use Rattle.std.specs.Prelude.{◌≡◌, ◌≤◌, ◌<◌, ◌+◌, ◌%◌, ◌^◌, ℕ, [], length, OnOk, IfOk, IsTrue, MatchOption, slice_index, drop};
+ghost use Rattle.prefix_min.specs.Costs.{Lists, RisesFrom};
+ghost use Rattle.prefix_min.specs.Built.{IsBuilt};
+ghost use Rattle.prefix_min.specs.Growth.{IsBeside, IsHalf, IsPut, IsStretch, end_of};
+ghost use Rattle.prefix_min.specs.Field.{IsFull, IsFullLabel, IsLeastFull, IsWhole, SomeFull, lesser};
+ghost use Rattle.prefix_min.specs.Savings.{alone, saved};
+ghost use Rattle.prefix_min.specs.Pieces.{reach};
+ghost use Rattle.prefix_min.specs.NextPiece.{AreFit, IsNext, weight_below};
+
+use crate::parts::{Part, about, end, middle, top, widest};
+use crate::piece::Piece;
+use crate::plan::{Choice, choose, put};
+use crate::savings::{LabelCost, join, lower};
+use bumpalo::Bump;
+use razor_base::Memory;
+
+/// What the parts that are done save, part by part, and cost together.
+#[derive(Drop)]
+pub struct Stack<'a> {
+    pub savings: Vec<LabelCost>,
+    /// Room for the sums of two halves.
+    pub sums: Vec<LabelCost>,
+    /// Place of the first piece that reaches above the parts that are done.
+    pub next: usize,
+    pub cost: u128,
+    /// What the parts that are done choose, those below a part before its own, in the call's arena.
+    pub choices: Vec<Choice, &'a Bump>,
+    /// The further labels of the choices.
+    pub also: Vec<u32, &'a Bump>,
+}
+
+/// What the parts are made of.
+#[derive(Clone, Copy)]
+pub struct Field<'b> {
+    pub pieces: &'b [Piece],
+    pub weights: &'b [u128],
+}
+
+impl Field<'_> {
+    /// Does the part of `bits` bits from `low` on.
+    #[cycle(growing)]
+    pub fn part(&self, stack: &mut Stack, bits: u8, low: u32) -> Result<(), Memory>
+        requires fit { AreFit self.now.weights.now self.now.pieces.now }
+        requires next { IsNext self.now.pieces.now stack.old.next low }
+        requires wide { bits ≤ 32 }
+        requires aligned { low % 2 ^ bits ≡ 0 }
+        requires within { low + 2 ^ bits ≤ reach 0 self.now.pieces.now }
+        requires light { stack.old.cost ≤ weight_below self.now.weights.now 0 self.now.pieces.now low }
+        ensures { OnOk result (IsBuilt self.now.weights.now self.now.pieces.now bits low stack.old.savings.items stack.new.savings.items stack.old.cost stack.new.cost stack.new.next stack.old.choices.items stack.new.choices.items stack.old.also.items stack.new.also.items) }
+    {
+        let first = stack.next;
+        let piece = self.pieces[first];
+        let whole = Part { low, bits };
+        let limit = end(whole);
+        if u64::from(piece.hi) + 1 < limit {
+            return self.grown(stack, bits, low);
+        }
+        self.one(stack, piece.label, whole)?;
+        stack.next = self.behind(first, limit);
+        Ok(())
+    }
+
+    /// Does a part in which the first piece ends, from the greatest part on that ends where this piece does.
+    #[cycle(growing)]
+    fn grown(&self, stack: &mut Stack, bits: u8, low: u32) -> Result<(), Memory>
+        requires fit { AreFit self.now.weights.now self.now.pieces.now }
+        requires next { IsNext self.now.pieces.now stack.old.next low }
+        requires wide { bits ≤ 32 }
+        requires aligned { low % 2 ^ bits ≡ 0 }
+        requires within { low + 2 ^ bits ≤ reach 0 self.now.pieces.now }
+        requires light { stack.old.cost ≤ weight_below self.now.weights.now 0 self.now.pieces.now low }
+        requires ends { end_of self.now.pieces.now stack.old.next + 1 < low + 2 ^ bits }
+        ensures { OnOk result (IsBuilt self.now.weights.now self.now.pieces.now bits low stack.old.savings.items stack.new.savings.items stack.old.cost stack.new.cost stack.new.next stack.old.choices.items stack.new.choices.items stack.old.also.items stack.new.also.items) }
+    {
+        let first = stack.next;
+        let piece = self.pieces[first];
+        let start = stack.savings.len();
+        let below = stack.choices.len();
+        let last = Part {
+            low: piece.hi,
+            bits: 0,
+        };
+        let mut part = widest(last, bits, u64::from(piece.hi) + 1);
+        self.one(stack, piece.label, part)?;
+        stack.next = first + 1;
+        while part.bits < bits {
+            let wide = self.stretch(stack, start, piece.label, part, bits);
+            if part.bits < wide.bits {
+                let also = stack.also.len();
+                put(
+                    &mut stack.choices,
+                    also,
+                    piece.label,
+                    wide.low,
+                    wide.bits,
+                    below,
+                )?;
+                stack.next = self.behind(stack.next, end(wide));
+                part = wide;
+                continue;
+            }
+            let about = about(part);
+            let middle = stack.savings.len();
+            self.beside(stack, first, part, about)?;
+            let gain = join(
+                &mut stack.savings,
+                &mut stack.sums,
+                start,
+                middle,
+                self.weights,
+            )?;
+            stack.cost -= gain.gain;
+            choose(
+                &mut stack.choices,
+                &mut stack.also,
+                &stack.sums,
+                gain,
+                about.low,
+                about.bits,
+                below,
+            )?;
+            part = about;
+        }
+        Ok(())
+    }
+
+    /// Does the other half of the part about this one. Below this one all values have the first piece's label.
+    #[cycle(growing)]
+    fn beside(&self, stack: &mut Stack, first: usize, part: Part, about: Part) -> Result<(), Memory>
+        requires fit { AreFit self.now.weights.now self.now.pieces.now }
+        requires next { IsNext self.now.pieces.now stack.old.next (part.low + 2 ^ part.bits) }
+        requires wide { part.bits < 32 }
+        requires half { IsHalf self.now.pieces.now first part about }
+        requires light { stack.old.cost ≤ weight_below self.now.weights.now 0 self.now.pieces.now (part.low + 2 ^ part.bits) }
+        ensures { OnOk result (IsBeside self.now.weights.now self.now.pieces.now first part about stack.old.savings.items stack.new.savings.items stack.old.cost stack.new.cost stack.old.next stack.new.next stack.old.choices.items stack.new.choices.items stack.old.also.items stack.new.also.items) }
+    {
+        if about.low < part.low {
+            let lower = Part {
+                low: about.low,
+                bits: part.bits,
+            };
+            return self.one(stack, self.pieces[first].label, lower);
+        }
+        self.part(stack, part.bits, end(part) as u32)
+    }
+
+    /// Puts down a part of one label.
+    fn one(&self, stack: &mut Stack, label: u32, part: Part) -> Result<(), Memory>
+        requires place { label < length self.now.weights.now }
+        requires room { stack.old.cost + slice_index self.now.weights.now label < 2 ^ 128 }
+        ensures { OnOk result (IsPut self.now.weights.now label part stack.old.savings.items stack.new.savings.items stack.old.cost stack.new.cost stack.old.next stack.new.next stack.old.choices.items stack.new.choices.items stack.old.also.items stack.new.also.items) }
+    {
+        let weight = self.weights[label as usize];
+        stack.cost += weight;
+        let one = LabelCost {
+            label,
+            cost: weight,
+        };
+        let below = stack.choices.len();
+        let also = stack.also.len();
+        put(&mut stack.choices, also, label, part.low, part.bits, below)?;
+        lower(&mut stack.savings, &[one], 0)
+    }
+
+    /// The place of the first piece that reaches the limit, where the one at this place reaches it or ends before.
+    fn behind(&self, place: usize, limit: u64) -> usize
+        requires fit { AreFit self.now.weights.now self.now.pieces.now }
+        requires inside { place < length self.now.pieces.now }
+        requires reached { limit ≤ end_of self.now.pieces.now place + 1 }
+        ensures { (v : ℕ) → v ≤ limit → v < end_of self.now.pieces.now place + 1 → IsNext self.now.pieces.now place v → IsNext self.now.pieces.now result limit }
+    {
+        if u64::from(self.pieces[place].hi) < limit {
+            place + 1
+        } else {
+            place
+        }
+    }
+
+    /// The greatest part about this one, of no more than `most` bits, beside which there is only the label
+    /// by which alone this one saves anything; or this one.
+    fn stretch(&self, stack: &Stack, start: usize, label: u32, part: Part, most: u8) -> Part
+        requires place { label < length self.now.weights.now }
+        requires start { start ≤ length stack.now.savings.items }
+        requires next { IsNext self.now.pieces.now stack.now.next (part.low + 2 ^ part.bits) }
+        requires wide { most ≤ 32 }
+        requires less { part.bits ≤ most }
+        requires aligned { part.low % 2 ^ part.bits ≡ 0 }
+        ensures { part.bits < result.bits → IsStretch self.now.weights.now self.now.pieces.now (drop start stack.now.savings.items) label part most stack.now.next result }
+    {
+        if !is_alone(&stack.savings[start..], label, self.weights) {
+            return part;
+        }
+        let Some(piece) = self.pieces.get(stack.next) else {
+            return part;
+        };
+        if piece.label != label {
+            return part;
+        }
+        widest(part, most, u64::from(piece.hi) + 1)
+    }
+
+    /// Does the halves of the whole field, and gives the label of its row.
+    pub fn whole(&self, stack: &mut Stack, width: u8) -> Result<u32, Memory>
+        requires fit { AreFit self.now.weights.now self.now.pieces.now }
+        requires wide { width ≤ 32 }
+        requires all { 2 ^ width ≡ reach 0 self.now.pieces.now }
+        requires next { stack.old.next ≡ 0 }
+        requires cost { stack.old.cost ≡ 0 }
+        requires choices { stack.old.choices.items ≡ [] }
+        requires savings { stack.old.savings.items ≡ [] }
+        ensures { IfOk result (λ y. IsWhole self.now.weights.now self.now.pieces.now width y stack.new.cost stack.new.choices.items stack.new.also.items) }
+    {
+        let piece = self.pieces[0];
+        let top = top(width, 0);
+        if top <= piece.hi {
+            stack.cost = self.weights[piece.label as usize];
+            return Ok(piece.label);
+        }
+        let half = width - 1;
+        let middle = middle(width, 0);
+        let start = stack.savings.len();
+        self.part(stack, half, 0)?;
+        let end = stack.savings.len();
+        self.part(stack, half, middle)?;
+        let gain = join(
+            &mut stack.savings,
+            &mut stack.sums,
+            start,
+            end,
+            self.weights,
+        )?;
+        stack.cost -= gain.gain;
+        if gain.gain == 0 {
+            return Ok(self.full_label(&stack.savings));
+        }
+        Ok(gain.best)
+    }
+
+    /// The least label of the pieces that saves all that it weighs.
+    fn full_label(&self, savings: &[LabelCost]) -> u32
+        requires fit { AreFit self.now.weights.now self.now.pieces.now }
+        requires rise { RisesFrom 0 savings.now }
+        requires places { (d : ℕ) → Lists savings.now d → d < length self.now.weights.now }
+        requires most { (d : ℕ) → saved savings.now d ≤ slice_index self.now.weights.now d }
+        requires some { SomeFull self.now.weights.now savings.now self.now.pieces.now }
+        ensures { IsFullLabel self.now.weights.now savings.now self.now.pieces.now (length self.now.pieces.now) result }
+    {
+        let mut best = first_full(savings, self.weights);
+        for piece in self.pieces {
+            if self.weights[piece.label as usize] == 0 {
+                best = Some(lesser(best, piece.label));
+            }
+        }
+        best.unwrap_or(0)
+    }
+}
+
+/// Whether something is saved by this label alone, and all that it weighs.
+fn is_alone(savings: &[LabelCost], label: u32, weights: &[u128]) -> bool
+    requires { label < length weights.now }
+    ensures { IsTrue result → (savings.now ≡ alone weights.now label) × (0 < slice_index weights.now label) }
+{
+    let [one] = savings else {
+        return false;
+    };
+    one.label == label && one.cost > 0 && one.cost == weights[label as usize]
+}
+
+/// The first label that saves all that it weighs.
+fn first_full(savings: &[LabelCost], weights: &[u128]) -> Option<u32>
+    requires rise { RisesFrom 0 savings.now }
+    requires places { (d : ℕ) → Lists savings.now d → d < length weights.now }
+    ensures { MatchOption result ((d : ℕ) → Lists savings.now d → IsFull weights.now savings.now d → ⊥) (λ y. IsLeastFull weights.now savings.now y) }
+{
+    for entry in savings {
+        if entry.cost == weights[entry.label as usize] {
+            return Some(entry.label);
+        }
+    }
+    None
+}
+
+/// The lesser one of the label and the best so far.
+fn lesser(best: Option<u32>, label: u32) -> u32
+    ensures { result ≡ lesser best label }
+{
+    match best {
+        None => label,
+        Some(other) => other.min(label),
+    }
+}
