@@ -12,6 +12,7 @@ pub mod BoxHeaders
 pub mod WordParts
 pub mod FirstPlaces
 pub mod FirstItems
+pub mod Sifting
 pub mod Soundness
 pub mod RowParts
 pub mod RowReading

@@ -17,3 +17,5 @@ pub mod Streams
 pub mod Readers
 pub mod Left
 pub mod Good
+pub mod Sieves
+pub mod Depths

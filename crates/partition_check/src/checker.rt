@@ -5,6 +5,7 @@ ghost use Rattle.partition_check.specs.Boxes.{ends, IsBox};
 ghost use Rattle.partition_check.specs.Checking.{IsLastOfAll, IsNumber};
 
 use crate::claims::{entry_decision, is_entry_claim, is_rule_claim, rule_decision};
+use crate::depths::Depths;
 use crate::names::same_name;
 use crate::next::{GREATEST, may_come, reaches_ends};
 use crate::prefix_words::first_other;
@@ -18,32 +19,38 @@ use ternary_words::laws::first_match_answers;
 
 /// Checks the rows of a certificate, one after another, for a list and a table.
 ///
-/// It keeps the last accepted box, and that list and table agree on every header up to there. It takes
-/// no memory. A refused row leaves it as it was.
+/// It keeps the last accepted box, and that list and table agree on every header up to there; and, so that
+/// rows that begin alike share their tests, which rules and entries meet the first spans of the last row. It
+/// takes no memory. A refused row leaves it as it was.
 #[derive(Drop)]
 pub struct Checker<'a> {
     list: &'a RuleList,
     table: &'a Table,
     last: Option<[Span; 5]>,
     accepted: u64,
+    rules: Depths,
+    entries: Depths,
 }
 
 impl<'a> Model for Checker<'a> {
     ghost use Rattle.partition_check.specs.Checking.{Checking, IsSound};
-    ghost use Rattle.partition_check.specs.Rows.{checking};
+    ghost use Rattle.partition_check.specs.Rows.{checking, AreKept};
 
     ghost Value = { Checking };
 
     ghost view = { checking };
 
-    ghost invariant = { λ c. IsSound (checking c) };
+    ghost invariant = { λ c. IsSound (checking c) × AreKept c };
 }
 
 impl<'a> Checker<'a> {
     ghost use Rattle.std.specs.Prelude.{◌≡◌, ◌+◌, ◌^◌, ◌<◌, ℕ, IsTrue, ◌↔◌, IfOk, IfErr, OnOk, OnErr, MatchOption};
     ghost use Rattle.partition_check.specs.Agreement.{Agree};
     ghost use Rattle.partition_check.specs.PrefixWords.{ArePrefixes, IsFirstOther};
-    ghost use Rattle.partition_check.specs.Checking.{begun, Checking, Passes, FailsFirst, EndsWell, EndsWrong, IsFormed, with_row};
+    ghost use Rattle.partition_check.specs.Checking.{begun, Checking, Passes, FailsFirst, EndsWell, EndsWrong, IsFormed, ClaimsRule, ClaimsEntry, with_row};
+    ghost use Rattle.partition_check.specs.Claims.{MissesRuleClaim, MissesEntryClaim};
+    ghost use Rattle.std.specs.Bool.{OnTrue, OnFalse};
+    ghost use Rattle.field_boxes.specs.Spans.{intervals_of};
     ghost use Rattle.partition_check.specs.Rows.{statement};
     ghost use Rattle.partition_check.specs.RowLines.{LineFails, LinePasses};
 
@@ -56,6 +63,8 @@ impl<'a> Checker<'a> {
             table,
             last: None,
             accepted: 0,
+            rules: Depths::new(&list.rules),
+            entries: Depths::new(&table.entries),
         }
     }
 
@@ -121,8 +130,9 @@ impl<'a> Checker<'a> {
     }
 
     /// The first test that the row fails.
-    fn refusal(&self, row: &Row) -> Option<Why>
-        ensures { MatchOption result (Passes self.now (statement row.now)) (λ why. FailsFirst self.now (statement row.now) why) }
+    fn refusal(&mut self, row: &Row) -> Option<Why>
+        ensures first { MatchOption result (Passes self.old (statement row.now)) (λ why. FailsFirst self.old (statement row.now) why) }
+        ensures unchanged { self.new ≡ self.old }
     {
         if !self.is_formed(row) {
             return Some(Why::Form);
@@ -130,10 +140,10 @@ impl<'a> Checker<'a> {
         if !may_come(&self.last, &row.spans) {
             return Some(Why::NotNext);
         }
-        if !is_rule_claim(&self.list.rules, &row.spans, row.rule) {
+        if !self.claims_rule(row) {
             return Some(Why::RuleClaim);
         }
-        if !is_entry_claim(&self.table.entries, &row.spans, row.entry) {
+        if !self.claims_entry(row) {
             return Some(Why::EntryClaim);
         }
         let left = rule_decision(&self.list.rules, row.rule);
@@ -142,6 +152,31 @@ impl<'a> Checker<'a> {
             return Some(Why::Decisions { left, right });
         }
         None
+    }
+
+    /// Whether the claim on rules is true.
+    fn claims_rule(&mut self, row: &Row) -> bool
+        requires { IsFormed self.old (statement row.now) }
+        ensures yes { OnTrue result (ClaimsRule self.old (statement row.now)) }
+        ensures no { OnFalse result (MissesRuleClaim self.old.list.rules.items (intervals_of row.now.spans) row.now.rule) }
+        ensures unchanged { self.new ≡ self.old }
+    {
+        is_rule_claim(&mut self.rules, &self.list.rules, &row.spans, row.rule)
+    }
+
+    /// Whether the claim on entries is true.
+    fn claims_entry(&mut self, row: &Row) -> bool
+        requires { IsFormed self.old (statement row.now) }
+        ensures yes { OnTrue result (ClaimsEntry self.old (statement row.now)) }
+        ensures no { OnFalse result (MissesEntryClaim self.old.table.entries.items (intervals_of row.now.spans) row.now.entry) }
+        ensures unchanged { self.new ≡ self.old }
+    {
+        is_entry_claim(
+            &mut self.entries,
+            &self.table.entries,
+            &row.spans,
+            row.entry,
+        )
     }
 
     /// Whether the box lies in the fields, and the numbers are those of a rule and of an entry.

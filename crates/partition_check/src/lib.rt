@@ -22,7 +22,10 @@
 
 mod checker;
 mod claims;
+mod depths;
 mod field;
+mod item;
+mod kept;
 pub mod laws;
 mod names;
 mod next;
@@ -30,6 +33,7 @@ mod number;
 mod prefix_words;
 mod reader;
 mod row;
+mod sieve;
 mod stream;
 mod text;
 mod word;

@@ -53,7 +53,7 @@ pub(crate) fn reaches_ends(greatest: &[u32], last: &[Span]) -> bool
 }
 
 /// Whether the spans are the same.
-fn same(left: &[Span], right: &[Span]) -> bool
+pub(crate) fn same(left: &[Span], right: &[Span]) -> bool
     ensures { IsTrue result ↔ left.now ≡ right.now }
 {
     left == right

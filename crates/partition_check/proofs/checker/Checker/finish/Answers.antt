@@ -5,4 +5,4 @@ use Rattle.partition_check.proofs.checker.Checker.finish.Goals as goal
 
 pub returns-in-None-clause-agree : goal.returns-in-None-clause-agree
 returns-in-None-clause-agree c =
-    through-agrees c.args.self (subst (λ (v : Checking). IsSound v) c.self.view_is c.self.invariant) c.in-None.ensures.through
+    through-agrees c.args.self (subst (λ (v : Checking). IsSound v) c.self.view_is c.self.invariant.0) c.in-None.ensures.through
