@@ -26,8 +26,9 @@ impl Tally {
         ensures { IfOk result (λ tally. tally.reached ≤ tally.nodes) }
     {
         let mut store = Store::new(alloc);
-        let root = build(alloc, &mut store, &stated_order(), rules)
-            .map_err(|_refused| anyhow!("out of memory"))?;
+        let root = build(alloc, &mut store, &stated_order(), rules).map_err(|_refused| anyhow!(
+            "out of memory"
+        ))?;
         Ok(Tally {
             nodes: store.count(),
             reached: reached(alloc, &store, root)?,
