@@ -31,6 +31,7 @@ OUTPUTS = {
     "expand": TABLE,
     "compile": TABLE,
     "migrate": TABLE,
+    "arrange": TABLE,
     "merge": TABLE,
     "equiv": "equal\n",
     "cert": f"({SPAN} {SPAN} {SPAN} {SPAN} {SPAN} ({NUMBER}|-) ({NUMBER}|-)\n)*rows {NUMBER}\n",

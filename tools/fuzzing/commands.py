@@ -1,10 +1,12 @@
 """The commands of the program, and which command words spell. Used by tools/fuzz."""
 import dataclasses
+import itertools
 import re
 
 FILES = ("list", "table", "trace", "certificate", "script")
 NUMBERS = {"seed": range(0, 2**31), "count": range(0, 65_537)}
-OPTIONS = {"--limit": range(1, 262_145), "--slot": (104, 144, 288), "--slots": range(1, 262_145)}
+ORDERS = tuple("".join(order) for order in itertools.permutations("01234"))
+OPTIONS = {"--limit": range(1, 262_145), "--slot": (104, 144, 288), "--slots": range(1, 262_145), "--order": (*ORDERS, "best")}
 
 
 @dataclasses.dataclass(frozen=True)
@@ -37,6 +39,7 @@ COMMANDS = {
     "gen": Command(("seed", "count")),
     "selfrun": Command(("seed", "count"), counts_entries=True),
     "migrate": Command(("table",)),
+    "arrange": Command(("list",), options=("--order", "--limit", "--slot"), counts_entries=True),
     "merge": Command(("table",)),
 }
 
@@ -49,6 +52,11 @@ def built_commands(usage):
 
 def in_range(text, values):
     return re.fullmatch("[0-9]{1,10}", text) is not None and int(text) in values
+
+
+def is_taken(option, text):
+    """Whether the option takes this value."""
+    return text in OPTIONS[option] if option == "--order" else in_range(text, OPTIONS[option])
 
 
 def parted(words, command):
@@ -82,7 +90,7 @@ def spelled(words, built):
     kinds = command.kinds(len(places))
     if kinds is None or any(name not in options for name in command.needed):
         return None
-    if not all(in_range(value, OPTIONS[name]) for name, value in options.items()):
+    if not all(is_taken(name, value) for name, value in options.items()):
         return None
     pairs = list(zip(kinds, places))
     if not all(in_range(text, NUMBERS[kind]) for kind, text in pairs if kind in NUMBERS):

@@ -6,7 +6,7 @@ use Rattle.std.proofs.Math.Seq.{take-length}
 use Rattle.std.proofs.lemmas.Bool.{le-leb, leb-false, lt-leb}
 use Rattle.std.proofs.lemmas.List.{append-nil, length-append, length-map, length-take}
 use Rattle.command_words.specs.declared.option.OptionName.{OptionName}
-use Rattle.command_words.specs.declared.option.OptionName.TheVariants.{Limit, Slot, Slots}
+use Rattle.command_words.specs.declared.option.OptionName.TheVariants.{Limit, Slot, Slots, Order}
 use Rattle.command_words.specs.Items.{Item, Given, Plain, Reading, Ends, Awaits, Gives, Stands, Fails, items_of, plain_of, reading_of, values_of}
 use Rattle.command_words.specs.Parts.{first_value, nothing_found, one_in_all, with_items, with_plain, with_value, with_words}
 use Rattle.command_words.specs.Spelling.{Found, few_words, found_among}
@@ -40,6 +40,12 @@ fourth : {A C D K S B : Type 0} (a : Option A) (c : Option C) (d : Option D) (r 
 fourth None c d None g k = refl
 fourth (Some x) c d None g k = third c d None g (k x)
 fourth a c d (Some y) g k = refl
+
+fifth : {A C D E K S B : Type 0} (a : Option A) (c : Option C) (d : Option D) (e : Option E) (r : Option K) (g : K → Option S) (k : A → C → D → E → S → Option B) →
+    (a >>= (λ x. c >>= (λ z. d >>= (λ w. e >>= (λ v. (r >>= g) >>= k x z w v))))) ≡ (r >>= (λ y. a >>= (λ x. c >>= (λ z. d >>= (λ w. e >>= (λ v. g y >>= k x z w v))))))
+fifth None c d e None g k = refl
+fifth (Some x) c d e None g k = fourth c d e None g (k x)
+fifth a c d e (Some y) g k = refl
 
 mapped : {A B C : Type 0} (h : A → B) (x : Option A) (f : B → Option C) → (option_map h x >>= f) ≡ (x >>= (λ y. f (h y)))
 mapped h None f = refl
@@ -78,8 +84,11 @@ few-more : (xs ys : List (List ℕ)) → few_words (xs ++ ys) ≡ (few_words xs 
 few-more xs ys = few_test xs ys (nat_le (length xs) 9) refl
 
 -- what is made of the values and words once the first of them are known
+abbrev after_order : Found → List Item → Option (List ℕ) → Option (List ℕ) → Option (List ℕ) → Option (List ℕ) → Option Found
+after_order found items limit slot slots order = few_words (found.plain ++ plain_of items) >>= (λ plain. Some (record { limit = limit; slot = slot; slots = slots; order = order; plain = plain }))
+
 abbrev after_slots : Found → List Item → Option (List ℕ) → Option (List ℕ) → Option (List ℕ) → Option Found
-after_slots found items limit slot slots = few_words (found.plain ++ plain_of items) >>= (λ plain. Some (record { limit = limit; slot = slot; slots = slots; plain = plain }))
+after_slots found items limit slot slots = one_in_all found.order (values_of Order items) >>= after_order found items limit slot slots
 
 abbrev after_slot : Found → List Item → Option (List ℕ) → Option (List ℕ) → Option Found
 after_slot found items limit slot = one_in_all found.slots (values_of Slots items) >>= after_slots found items limit slot
@@ -104,6 +113,12 @@ given found Slots value items =
     rw (one_more found.slots value values)
     (third (one_in_all found.limit (values_of Limit items)) (one_in_all found.slot (values_of Slot items)) kept (λ k. one_in_all k values) (after_slots found items)
     ∙ sym (mapped (λ slots. record found { slots = slots }) kept (λ more. with_items more items)))
+given found Order value items =
+    let kept = first_value found.order value in
+    let values = values_of Order items in
+    rw (one_more found.order value values)
+    (fourth (one_in_all found.limit (values_of Limit items)) (one_in_all found.slot (values_of Slot items)) (one_in_all found.slots (values_of Slots items)) kept (λ k. one_in_all k values) (after_order found items)
+    ∙ sym (mapped (λ order. record found { order = order }) kept (λ more. with_items more items)))
 
 plain : (found : Found) (word : List ℕ) (items : List Item) → with_items found (Plain word ∷ items) ≡ (with_plain found (word ∷ []) >>= (λ more. with_items more items))
 plain found word items =
@@ -111,20 +126,20 @@ plain found word items =
     let e : few_words (found.plain ++ word ∷ plain_of items) ≡ (few_words words >>= (λ zs. few_words (zs ++ plain_of items))) =
     ap few_words (sym (append_assoc found.plain (word ∷ []) (plain_of items))) ∙ few-more words (plain_of items) in
     rw e
-    (fourth (one_in_all found.limit (values_of Limit items)) (one_in_all found.slot (values_of Slot items)) (one_in_all found.slots (values_of Slots items)) (few_words words) (λ zs. few_words (zs ++ plain_of items))
-    (λ limit slot slots plain. Some (record { limit = limit; slot = slot; slots = slots; plain = plain }))
+    (fifth (one_in_all found.limit (values_of Limit items)) (one_in_all found.slot (values_of Slot items)) (one_in_all found.slots (values_of Slots items)) (one_in_all found.order (values_of Order items)) (few_words words) (λ zs. few_words (zs ++ plain_of items))
+    (λ limit slot slots order plain. Some (record { limit = limit; slot = slot; slots = slots; order = order; plain = plain }))
     ∙ sym (mapped (λ plain. record found { plain = plain }) (few_words words) (λ more. with_items more items)))
 
 ended : (found : Found) (words : List (List ℕ)) → with_items found (map Plain words) ≡ with_plain found words
 ended found words =
-    rw (none_plain Limit words, none_plain Slot words, none_plain Slots words, all_plain words, none_more found.limit, none_more found.slot, none_more found.slots)
+    rw (none_plain Limit words, none_plain Slot words, none_plain Slots words, none_plain Order words, all_plain words, none_more found.limit, none_more found.slot, none_more found.slots, none_more found.order)
     (ends_in (λ plain. record found { plain = plain }) (few_words (found.plain ++ words)))
 
 pub at_end : (found : Found) → length found.plain ≤ 9 → with_words found [] ≡ Some found
 unfolding with_words
 at_end found few =
     let same = append-nil found.plain in
-    rw (none_more found.limit, none_more found.slot, none_more found.slots, same, le-leb (length found.plain) 9 few) refl
+    rw (none_more found.limit, none_more found.slot, none_more found.slots, none_more found.order, same, le-leb (length found.plain) 9 few) refl
 
 -- a step that doesn't depend on the items
 swap : {A B C : Type 0} (items : Option A) (r : Option B) (f : A → Option C) (g : B → A → Option C) → ((x : A) → f x ≡ (r >>= (λ y. g y x))) → (items >>= f) ≡ (r >>= (λ y. items >>= g y))

@@ -1,11 +1,18 @@
 -- The commands, with their numbers and file words.
 use Rattle.std.specs.Prelude.{ℕ, List}
-use Rattle.command_words.specs.declared.command.Method.{Method}
+use Rattle.command_words.specs.Orders.{Wanted}
 
 -- the greatest number of entries, and the width of a slot
 pub record Sizes : Type 0 where
   pub limit : ℕ
   pub slot : ℕ
+
+-- how a table is made of a list: by direct expansion, or by composition of the field-by-field least cost, in the order in which
+-- the fields stand or in the order that is wanted
+pub data Method : Type 0 where
+  Expand : Method
+  Compile : Method
+  Arrange : Wanted → Method
 
 -- a command; one that makes a table of a list says by which method
 pub data Command : Type 0 where

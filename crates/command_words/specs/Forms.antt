@@ -1,7 +1,7 @@
 -- How the commands are spelled: their names, their options, and what their other words are called.
 use Rattle.std.specs.Prelude.{ℕ, List, [], ◌∷◌, codes}
 use Rattle.command_words.specs.declared.form.CommandName.{CommandName}
-use Rattle.command_words.specs.declared.form.CommandName.TheVariants.{Expand, Compile, Equiv, Cert, Check, Trace, Drive, Gen, Selfrun, Migrate, Merge}
+use Rattle.command_words.specs.declared.form.CommandName.TheVariants.{Expand, Compile, Equiv, Cert, Check, Trace, Drive, Gen, Selfrun, Migrate, Arrange, Merge}
 use Rattle.command_words.specs.declared.form.Need.{Need}
 use Rattle.command_words.specs.declared.form.Need.TheVariants.{Never, Maybe, Always}
 
@@ -12,19 +12,24 @@ pub record Form : Type 0 where
   pub limit : Need
   pub slot : Need
   pub slots : Need
+  pub order : Need
   pub label : List ℕ
 
 -- the form of a command that makes a table of a list
 abbrev pub table_form : CommandName → List ℕ → Form
-table_form command name = record { command = command; name = name; limit = Maybe; slot = Maybe; slots = Never; label = codes "LIST" }
+table_form command name = record { command = command; name = name; limit = Maybe; slot = Maybe; slots = Never; order = Never; label = codes "LIST" }
+
+-- the form of a command that makes a table of a list in an order of the fields
+abbrev pub ordered_form : CommandName → List ℕ → Form
+ordered_form command name = record { command = command; name = name; limit = Maybe; slot = Maybe; slots = Never; order = Maybe; label = codes "LIST" }
 
 -- the form of a command without options
 abbrev pub plain_form : CommandName → List ℕ → List ℕ → Form
-plain_form command name label = record { command = command; name = name; limit = Never; slot = Never; slots = Never; label = label }
+plain_form command name label = record { command = command; name = name; limit = Never; slot = Never; slots = Never; order = Never; label = label }
 
 -- the form of a command that runs a script over tables in a memory of some slots
 abbrev pub script_form : CommandName → List ℕ → Form
-script_form command name = record { command = command; name = name; limit = Never; slot = Never; slots = Always; label = codes "SCRIPT TABLE .." }
+script_form command name = record { command = command; name = name; limit = Never; slot = Never; slots = Always; order = Never; label = codes "SCRIPT TABLE .." }
 
 -- the forms of the commands that are built, in the order of the usage text
 unfoldable pub forms : List Form
@@ -39,5 +44,6 @@ forms =
     ∷ plain_form Gen (codes "gen") (codes "SEED N")
     ∷ plain_form Selfrun (codes "selfrun") (codes "SEED N")
     ∷ plain_form Migrate (codes "migrate") (codes "TABLE")
+    ∷ ordered_form Arrange (codes "arrange")
     ∷ plain_form Merge (codes "merge") (codes "TABLE")
     ∷ []

@@ -1,5 +1,6 @@
 pub mod Steps
 pub mod Numbers
+pub mod Orders
 pub mod Options
 pub mod Items
 pub mod Command

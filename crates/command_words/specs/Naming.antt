@@ -2,10 +2,10 @@
 use Rattle.std.specs.Prelude.{ℕ, Bool, true, not, ◌&&◌, List, [], ◌∷◌, length, nat_le, Option, Some, None, if◌then◌else◌}
 use Rattle.std.specs.List.{list_any}
 use Rattle.std.specs.Str.{bytes_eq}
-use Rattle.command_words.specs.declared.command.Method.TheVariants as methods
 use Rattle.command_words.specs.declared.form.CommandName.{CommandName}
 use Rattle.command_words.specs.declared.form.CommandName.TheVariants as names
-use Rattle.command_words.specs.Command.{Command, Sizes, Make, Equiv, Cert, Check, Trace, Drive, Gen, Selfrun, Migrate, Merge}
+use Rattle.command_words.specs.Command.{Command, Sizes, Expand, Compile, Arrange, Make, Equiv, Cert, Check, Trace, Drive, Gen, Selfrun, Migrate, Merge}
+use Rattle.command_words.specs.Orders.{Wanted}
 use Rattle.command_words.specs.Numbers.{number_between}
 use Rattle.command_words.specs.Steps.{◌>>=◌}
 
@@ -13,6 +13,7 @@ use Rattle.command_words.specs.Steps.{◌>>=◌}
 pub record Settings : Type 0 where
   pub sizes : Sizes
   pub slots : ℕ
+  pub order : Wanted
 
 -- no two of the words are equal
 abbrev pub all_differ : List (List ℕ) → Bool
@@ -57,8 +58,8 @@ drawing command words = None
 
 -- the command of the name
 abbrev pub command_named : CommandName → Settings → List (List ℕ) → Option Command
-command_named names.Expand settings words = over_one (Make methods.Expand settings.sizes) words
-command_named names.Compile settings words = over_one (Make methods.Compile settings.sizes) words
+command_named names.Expand settings words = over_one (Make Expand settings.sizes) words
+command_named names.Compile settings words = over_one (Make Compile settings.sizes) words
 command_named names.Equiv settings words = over_two Equiv words
 command_named names.Cert settings words = over_two Cert words
 command_named names.Check settings words = over_three Check words
@@ -67,4 +68,5 @@ command_named names.Drive settings words = over_script settings.slots words
 command_named names.Gen settings words = drawing Gen words
 command_named names.Selfrun settings words = drawing Selfrun words
 command_named names.Migrate settings words = over_one Migrate words
+command_named names.Arrange settings words = over_one (Make (Arrange settings.order) settings.sizes) words
 command_named names.Merge settings words = over_one Merge words

@@ -1,15 +1,13 @@
 -- The command that words spell.
 use Rattle.std.specs.Prelude.{ℕ, List, [], ◌∷◌, length, nat_le, find, Option, Some, None, if◌then◌else◌}
 use Rattle.std.specs.Str.{bytes_eq}
-use Rattle.command_words.specs.declared.option.OptionName.{OptionName}
-use Rattle.command_words.specs.declared.option.OptionName.TheVariants.{Limit, Slot, Slots}
-use Rattle.command_words.specs.declared.form.Need.{Need}
-use Rattle.command_words.specs.declared.form.Need.TheVariants.{Never, Maybe, Always}
+use Rattle.command_words.specs.declared.option.OptionName.TheVariants.{Limit, Slot, Slots, Order}
 use Rattle.command_words.specs.Command.{Command}
 use Rattle.command_words.specs.Forms.{Form, forms}
 use Rattle.command_words.specs.Items.{Item, items_of, plain_of, values_of}
 use Rattle.command_words.specs.Naming.{Settings, command_named}
-use Rattle.command_words.specs.Options.{option_number, usual_value}
+use Rattle.command_words.specs.Options.{given, or_usual, size_in, width_in}
+use Rattle.command_words.specs.Orders.{Best, order_wanted}
 use Rattle.command_words.specs.Steps.{◌>>=◌}
 
 -- the value of each option, where one is given, and the other words
@@ -17,6 +15,7 @@ pub record Found : Type 0 where
   pub limit : Option (List ℕ)
   pub slot : Option (List ℕ)
   pub slots : Option (List ℕ)
+  pub order : Option (List ℕ)
   pub plain : List (List ℕ)
 
 -- at most one value is given to an option
@@ -35,23 +34,19 @@ found_among items = do
   limit ← one_value (values_of Limit items)
   slot ← one_value (values_of Slot items)
   slots ← one_value (values_of Slots items)
+  order ← one_value (values_of Order items)
   plain ← few_words (plain_of items)
-  Some (record { limit = limit; slot = slot; slots = slots; plain = plain })
+  Some (record { limit = limit; slot = slot; slots = slots; order = order; plain = plain })
 
--- what an option comes to whose value is this, or that is left out
-abbrev pub setting : Need → OptionName → Option (List ℕ) → Option ℕ
-setting Never option (Some value) = None
-setting Always option None = None
-setting need option (Some value) = option_number option value
-setting need option None = Some (usual_value option)
-
--- what the options of the form come to
+-- what the options of the form come to, each that is left out to its usual value: the greatest number, 144 bits, and the
+-- order that costs least
 abbrev pub settings_of : Form → Found → Option Settings
 settings_of form found = do
-  limit ← setting form.limit Limit found.limit
-  slot ← setting form.slot Slot found.slot
-  slots ← setting form.slots Slots found.slots
-  Some (record { sizes = record { limit = limit; slot = slot }; slots = slots })
+  limit ← given form.limit found.limit >>= or_usual 262144 size_in
+  slot ← given form.slot found.slot >>= or_usual 144 width_in
+  slots ← given form.slots found.slots >>= or_usual 262144 size_in
+  order ← given form.order found.order >>= or_usual Best order_wanted
+  Some (record { sizes = record { limit = limit; slot = slot }; slots = slots; order = order })
 
 -- the command that the words spell, or none
 unfoldable pub command_of : List (List ℕ) → Option Command

@@ -2,7 +2,7 @@
 use Rattle.std.specs.Prelude.{ℕ, List, [], ◌∷◌, ◌++◌, codes}
 use Rattle.std.specs.List.{flat_map}
 use Rattle.command_words.specs.declared.option.OptionName.{OptionName}
-use Rattle.command_words.specs.declared.option.OptionName.TheVariants.{Limit, Slot, Slots}
+use Rattle.command_words.specs.declared.option.OptionName.TheVariants.{Limit, Slot, Slots, Order}
 use Rattle.command_words.specs.declared.form.Need.{Need}
 use Rattle.command_words.specs.declared.form.Need.TheVariants.{Never, Maybe, Always}
 use Rattle.command_words.specs.Forms.{Form, forms}
@@ -13,6 +13,7 @@ abbrev pub value_label : OptionName → List ℕ
 value_label Limit = codes " N"
 value_label Slot = codes " W"
 value_label Slots = codes " N"
+value_label Order = codes " P"
 
 -- an option as a command takes it: in brackets where it may be left out
 abbrev pub option_usage : Need → OptionName → List ℕ
@@ -23,7 +24,7 @@ option_usage Always option = codes " " ++ option_text option ++ value_label opti
 -- the line of a command
 abbrev pub usage_line : Form → List ℕ
 usage_line form =
-    codes "  " ++ form.name ++ option_usage form.limit Limit ++ option_usage form.slot Slot ++ option_usage form.slots Slots ++ codes " " ++ form.label ++ 10 ∷ []
+    codes "  " ++ form.name ++ option_usage form.order Order ++ option_usage form.limit Limit ++ option_usage form.slot Slot ++ option_usage form.slots Slots ++ codes " " ++ form.label ++ 10 ∷ []
 
 -- the commands that are built
 abbrev pub usage_text : List ℕ

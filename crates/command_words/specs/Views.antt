@@ -7,7 +7,12 @@ use Rattle.command_words.specs.declared.reading.WordKind.{WordKind}
 use Rattle.command_words.specs.declared.reading.WordKind.TheVariants as code
 use Rattle.command_words.specs.declared.settings.Settings as code_settings
 use Rattle.command_words.specs.declared.sizes.Sizes as code_sizes
-use Rattle.command_words.specs.Command.{Command, Sizes, Make, Equiv, Cert, Check, Trace, Gen, Selfrun, Migrate, Merge}
+use Rattle.command_words.specs.Command.{Command, Method, Sizes, Expand, Compile, Arrange, Make, Equiv, Cert, Check, Trace, Gen, Selfrun, Migrate, Merge}
+use Rattle.command_words.specs.declared.command.Method as code_method
+use Rattle.command_words.specs.declared.command.Method.TheVariants as methods
+use Rattle.command_words.specs.declared.wanted.Wanted as code_wanted
+use Rattle.command_words.specs.declared.wanted.Wanted.TheVariants as orders
+use Rattle.command_words.specs.Orders.{Wanted, Best, In}
 use Rattle.command_words.specs.Forms.{Form}
 use Rattle.command_words.specs.Items.{Reading, Ends, Awaits, Gives, Stands, Fails}
 use Rattle.command_words.specs.Naming.{Settings, driving, is_script_run}
@@ -28,6 +33,7 @@ form_seen form = record {
   limit = form.limit;
   slot = form.slot;
   slots = form.slots;
+  order = form.order;
   label = form.label.now;
 }
 
@@ -35,9 +41,20 @@ form_seen form = record {
 abbrev pub sizes_of : code_sizes.Sizes → Sizes
 sizes_of sizes = record { limit = sizes.limit; slot = sizes.slot }
 
+-- the order that is wanted
+abbrev pub wanted_seen : code_wanted.Wanted → Wanted
+wanted_seen orders.Best = Best
+wanted_seen (orders.In order) = In order.fields
+
+-- how a table is made of a list
+abbrev pub method_seen : code_method.Method → Method
+method_seen methods.Expand = Expand
+method_seen methods.Compile = Compile
+method_seen (methods.Arrange wanted) = Arrange (wanted_seen wanted)
+
 -- what the options come to
 abbrev pub settings_seen : code_settings.Settings → Settings
-settings_seen settings = record { sizes = sizes_of settings.sizes; slots = settings.slots.count }
+settings_seen settings = record { sizes = sizes_of settings.sizes; slots = settings.slots.count; order = wanted_seen settings.order }
 
 -- the words are those of a script and of its tables, where the command keeps none itself
 abbrev pub are_words_of : code_command.Command → List (List ℕ) → Bool
@@ -46,7 +63,7 @@ are_words_of command words = true
 
 -- a command of the code over these words
 abbrev pub spelled_over : List (List ℕ) → code_command.Command → Command
-spelled_over words (asked.Make method sizes list) = Make method (sizes_of sizes) list.now
+spelled_over words (asked.Make method sizes list) = Make (method_seen method) (sizes_of sizes) list.now
 spelled_over words (asked.Equiv both) = Equiv both.first.now both.second.now
 spelled_over words (asked.Cert both) = Cert both.first.now both.second.now
 spelled_over words (asked.Check all) = Check all.first.now all.second.now all.third.now

@@ -2,6 +2,7 @@
 use crate::drawing::Drawing;
 use crate::files::{ThreeFiles, TwoFiles};
 use crate::sizes::{Sizes, Slots};
+use crate::wanted::Wanted;
 
 /// How a table is made of a list.
 #[derive(Clone, Copy, Debug, PartialEq, Eq)]
@@ -10,6 +11,8 @@ pub enum Method {
     Expand,
     /// The composition of the field-by-field least cost.
     Compile,
+    /// That composition, over the fields in another order.
+    Arrange(Wanted),
 }
 
 /// A command with its numbers and file words.

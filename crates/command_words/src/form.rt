@@ -2,7 +2,7 @@
 ghost use Rattle.std.specs.Prelude.{◌≡◌, find, map};
 ghost use Rattle.std.specs.Option.{option_copied, option_map};
 ghost use Rattle.std.specs.Str.{bytes_eq};
-ghost use Rattle.command_words.specs.Forms.{forms, plain_form, script_form, table_form};
+ghost use Rattle.command_words.specs.Forms.{forms, ordered_form, plain_form, script_form, table_form};
 ghost use Rattle.command_words.specs.Views.{form_seen};
 
 /// The commands that are built.
@@ -18,6 +18,7 @@ pub(crate) enum CommandName {
     Gen,
     Selfrun,
     Migrate,
+    Arrange,
     Merge,
 }
 
@@ -38,6 +39,7 @@ pub(crate) struct CommandForm {
     pub limit: Need,
     pub slot: Need,
     pub slots: Need,
+    pub order: Need,
     pub label: &'static str,
 }
 
@@ -51,6 +53,22 @@ fn table_form(command: CommandName, name: &'static str) -> CommandForm
         limit: Need::Maybe,
         slot: Need::Maybe,
         slots: Need::Never,
+        order: Need::Never,
+        label: "LIST",
+    }
+}
+
+/// The form of a command that makes a table of a list in an order of the fields.
+fn ordered_form(command: CommandName, name: &'static str) -> CommandForm
+    ensures { form_seen result ≡ ordered_form command name.now }
+{
+    CommandForm {
+        command,
+        name,
+        limit: Need::Maybe,
+        slot: Need::Maybe,
+        slots: Need::Never,
+        order: Need::Maybe,
         label: "LIST",
     }
 }
@@ -65,6 +83,7 @@ fn plain_form(command: CommandName, name: &'static str, label: &'static str) -> 
         limit: Need::Never,
         slot: Need::Never,
         slots: Need::Never,
+        order: Need::Never,
         label,
     }
 }
@@ -79,13 +98,14 @@ fn script_form(command: CommandName, name: &'static str) -> CommandForm
         limit: Need::Never,
         slot: Need::Never,
         slots: Need::Always,
+        order: Need::Never,
         label: "SCRIPT TABLE ..",
     }
 }
 
 /// The forms of the commands that are built, in the order of the usage text.
 #[tactic(auto, unfolding(crate::specs::Forms::forms))]
-pub(crate) fn forms() -> [CommandForm; 11]
+pub(crate) fn forms() -> [CommandForm; 12]
     ensures { map form_seen result ≡ forms }
 {
     [
@@ -99,6 +119,7 @@ pub(crate) fn forms() -> [CommandForm; 11]
         plain_form(CommandName::Gen, "gen", "SEED N"),
         plain_form(CommandName::Selfrun, "selfrun", "SEED N"),
         plain_form(CommandName::Migrate, "migrate", "TABLE"),
+        ordered_form(CommandName::Arrange, "arrange"),
         plain_form(CommandName::Merge, "merge", "TABLE"),
     ]
 }

@@ -3,7 +3,7 @@ ghost use Rattle.std.specs.Prelude.{◌≡◌, IfSome, IsTrue, map};
 ghost use Rattle.std.specs.Option.{option_map};
 ghost use Rattle.command_words.specs.Command.{Make};
 ghost use Rattle.command_words.specs.Naming.{command_named, over_one, over_script};
-ghost use Rattle.command_words.specs.Views.{are_words_of, settings_seen, sizes_of, spelled_over};
+ghost use Rattle.command_words.specs.Views.{method_seen, are_words_of, settings_seen, sizes_of, spelled_over};
 
 use crate::command::{Command, Method};
 use crate::drawing::seed_and_rules;
@@ -14,7 +14,7 @@ use crate::sizes::{Sizes, Slots};
 
 /// The command that makes a table of the only file.
 fn making<'a>(method: Method, sizes: Sizes, words: &[&'a str]) -> Option<Command<'a>>
-    ensures spelled { option_map (spelled_over (map (λ word. word.now) words.now)) result ≡ over_one (Make method (sizes_of sizes)) (map (λ word. word.now) words.now) }
+    ensures spelled { option_map (spelled_over (map (λ word. word.now) words.now)) result ≡ over_one (Make (method_seen method) (sizes_of sizes)) (map (λ word. word.now) words.now) }
     ensures words { IfSome result (λ command. IsTrue (are_words_of command (map (λ word. word.now) words.now))) }
 {
     Some(Command::Make {
@@ -45,7 +45,11 @@ pub(crate) fn named<'a>(
     ensures spelled { option_map (spelled_over (map (λ word. word.now) words.now)) result ≡ command_named name (settings_seen settings) (map (λ word. word.now) words.now) }
     ensures words { IfSome result (λ command. IsTrue (are_words_of command (map (λ word. word.now) words.now))) }
 {
-    let Settings { sizes, slots } = settings;
+    let Settings {
+        sizes,
+        slots,
+        order,
+    } = settings;
     match name {
         CommandName::Expand => making(Method::Expand, sizes, words),
         CommandName::Compile => making(Method::Compile, sizes, words),
@@ -57,6 +61,7 @@ pub(crate) fn named<'a>(
         CommandName::Gen => Some(Command::Gen(seed_and_rules(words)?)),
         CommandName::Selfrun => Some(Command::Selfrun(seed_and_rules(words)?)),
         CommandName::Migrate => Some(Command::Migrate(one_file(words)?)),
+        CommandName::Arrange => making(Method::Arrange(order), sizes, words),
         CommandName::Merge => Some(Command::Merge(one_file(words)?)),
     }
 }

@@ -1,5 +1,6 @@
-ghost use Rattle.std.specs.Prelude.{◌≡◌, IfSome};
-ghost use Rattle.command_words.specs.Options.{Takes, option_number, option_text, slot_width};
+//! The options that commands take.
+ghost use Rattle.std.specs.Prelude.{◌≡◌, ◌≤◌, IfSome};
+ghost use Rattle.command_words.specs.Options.{IsSlotWidth, option_text, size_in, slot_width, width_in};
 
 use crate::number::number_between;
 
@@ -12,6 +13,8 @@ pub enum OptionName {
     Slot,
     /// `--slots`: how many slots there are, 1 to 262,144.
     Slots,
+    /// `--order`: the order of the fields, five digits from 0 to 4 or `best`.
+    Order,
 }
 
 /// How the option is written.
@@ -22,12 +25,14 @@ pub(crate) fn option_text(option: OptionName) -> &'static [u8]
         OptionName::Limit => b"--limit",
         OptionName::Slot => b"--slot",
         OptionName::Slots => b"--slots",
+        OptionName::Order => b"--order",
     }
 }
 
+/// The width of a slot, if it is one.
 fn slot_width(bits: u32) -> Option<u32>
     ensures value { result ≡ slot_width bits }
-    ensures taken { IfSome result (Takes OptionName.Slot) }
+    ensures taken { IfSome result IsSlotWidth }
 {
     match bits {
         104 | 144 | 288 => Some(bits),
@@ -35,15 +40,20 @@ fn slot_width(bits: u32) -> Option<u32>
     }
 }
 
-/// The number that a value of the option writes; none where the option doesn't take it.
-#[tactic(auto, unfolding(crate::specs::Options::option_number))]
-pub(crate) fn option_number(option: OptionName, value: &[u8]) -> Option<u32>
-    ensures value { result ≡ option_number option value.now }
-    ensures taken { IfSome result (Takes option) }
+/// The width of a slot that a value of the option writes; none where the option doesn't take it.
+#[tactic(auto, unfolding(crate::specs::Options::width_in))]
+pub(crate) fn width_in(value: &[u8]) -> Option<u32>
+    ensures value { result ≡ width_in value.now }
+    ensures taken { IfSome result IsSlotWidth }
 {
-    match option {
-        OptionName::Limit => number_between(value, 1, 262_144),
-        OptionName::Slot => slot_width(number_between(value, 0, 288)?),
-        OptionName::Slots => number_between(value, 1, 262_144),
-    }
+    slot_width(number_between(value, 0, 288)?)
+}
+
+/// The number of entries or slots that a value of an option writes; none where the option doesn't take it.
+#[tactic(auto, unfolding(crate::specs::Options::size_in))]
+pub(crate) fn size_in(value: &[u8]) -> Option<u32>
+    ensures value { result ≡ size_in value.now }
+    ensures taken { IfSome result (λ n. (1 ≤ n) × (n ≤ 262144)) }
+{
+    number_between(value, 1, 262_144)
 }

@@ -16,6 +16,7 @@ pub(crate) struct Parts<'a> {
     pub limit: Option<&'a [u8]>,
     pub slot: Option<&'a [u8]>,
     pub slots: Option<&'a [u8]>,
+    pub order: Option<&'a [u8]>,
     pub plain: PlainWords<'a>,
 }
 
@@ -39,6 +40,7 @@ impl<'a> Parts<'a> {
             limit: None,
             slot: None,
             slots: None,
+            order: None,
             plain: PlainWords::new(),
         }
     }
@@ -51,6 +53,7 @@ impl<'a> Parts<'a> {
             OptionName::Limit => keep_first(&mut self.limit, value),
             OptionName::Slot => keep_first(&mut self.slot, value),
             OptionName::Slots => keep_first(&mut self.slots, value),
+            OptionName::Order => keep_first(&mut self.order, value),
         }
     }
 

@@ -52,7 +52,10 @@ fn as_some_option(word: &[u8]) -> Option<WordKind<'_>>
     if let Some(kind) = as_option(OptionName::Slot, word) {
         return Some(kind);
     }
-    as_option(OptionName::Slots, word)
+    if let Some(kind) = as_option(OptionName::Slots, word) {
+        return Some(kind);
+    }
+    as_option(OptionName::Order, word)
 }
 
 /// How the word reads.

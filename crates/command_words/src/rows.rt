@@ -1,10 +1,10 @@
 //! Worked rows of the definitions: what words spell. The functions do nothing.
-#![tactic(auto, unfolding(crate::specs::Forms::forms, crate::specs::Spelling::command_of, crate::specs::Items::reading_of, crate::specs::Options::option_number, crate::specs::Numbers::number_between))]
+#![tactic(auto, unfolding(crate::specs::Forms::forms, crate::specs::Spelling::command_of, crate::specs::Items::reading_of, crate::specs::Options::size_in, crate::specs::Options::width_in, crate::specs::Orders::order_wanted, crate::specs::Numbers::number_between))]
 
 ghost use Rattle.std.specs.Prelude.{◌≡◌, ◌∷◌, [], ◌++◌, Some, None, codes};
 ghost use Rattle.std.specs.List.{flat_map};
-ghost use Rattle.command_words.specs.declared.command.Method.TheVariants.{Compile, Expand};
-ghost use Rattle.command_words.specs.Command.{Cert, Check, Drive, Equiv, Gen, Make, Selfrun};
+ghost use Rattle.command_words.specs.Command.{Arrange, Cert, Compile, Expand, Check, Drive, Equiv, Gen, Make, Selfrun};
+ghost use Rattle.command_words.specs.Orders.{Best, In};
 ghost use Rattle.command_words.specs.Spelling.{command_of};
 ghost use Rattle.command_words.specs.Usage.{usage_text};
 
@@ -35,6 +35,19 @@ pub fn worked_options()
     ensures no_value { command_of (codes "compile" ∷ codes "in" ∷ codes "--limit" ∷ []) ≡ None }
     ensures given_twice { command_of (codes "compile" ∷ codes "--limit" ∷ codes "5" ∷ codes "--limit" ∷ codes "5" ∷ codes "in" ∷ []) ≡ None }
     ensures given_in_both_ways { command_of (codes "compile" ∷ codes "--limit=5" ∷ codes "--limit" ∷ codes "5" ∷ codes "in" ∷ []) ≡ None }
+{}
+
+/// An order is five digits, each from 0 to 4 once, or `best`, which is usual.
+pub fn worked_orders()
+    ensures left_out { command_of (codes "arrange" ∷ codes "in" ∷ []) ≡ Some (Make (Arrange Best) (record { limit = 262144; slot = 144 }) (codes "in")) }
+    ensures best { command_of (codes "arrange" ∷ codes "--order=best" ∷ codes "in" ∷ []) ≡ Some (Make (Arrange Best) (record { limit = 262144; slot = 144 }) (codes "in")) }
+    ensures digits { command_of (codes "arrange" ∷ codes "--order" ∷ codes "41032" ∷ codes "in" ∷ []) ≡ Some (Make (Arrange (In (4 ∷ 1 ∷ 0 ∷ 3 ∷ 2 ∷ []))) (record { limit = 262144; slot = 144 }) (codes "in")) }
+    ensures twice { command_of (codes "arrange" ∷ codes "--order" ∷ codes "01233" ∷ codes "in" ∷ []) ≡ None }
+    ensures no_field { command_of (codes "arrange" ∷ codes "--order" ∷ codes "01235" ∷ codes "in" ∷ []) ≡ None }
+    ensures four { command_of (codes "arrange" ∷ codes "--order" ∷ codes "0123" ∷ codes "in" ∷ []) ≡ None }
+    ensures no_digit { command_of (codes "arrange" ∷ codes "--order" ∷ codes "/1234" ∷ codes "in" ∷ []) ≡ None }
+    ensures empty { command_of (codes "arrange" ∷ codes "--order=" ∷ codes "in" ∷ []) ≡ None }
+    ensures other_command { command_of (codes "compile" ∷ codes "--order" ∷ codes "01234" ∷ codes "in" ∷ []) ≡ None }
 {}
 
 /// The first `--` that is no value ends the options. Before it a word with a `-` in front is an option of the
@@ -115,6 +128,7 @@ pub fn worked_usage()
         ∷ codes "  gen SEED N"
         ∷ codes "  selfrun SEED N"
         ∷ codes "  migrate TABLE"
+        ∷ codes "  arrange [--order P] [--limit N] [--slot W] LIST"
         ∷ codes "  merge TABLE"
         ∷ []) }
 {}

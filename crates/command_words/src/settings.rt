@@ -1,47 +1,67 @@
 //! What the options of a command come to.
-ghost use Rattle.std.specs.Prelude.{◌≡◌, IfSome};
+ghost use Rattle.std.specs.Prelude.{◌≡◌, ◌≤◌, Some, IfSome, option_and_then};
 ghost use Rattle.std.specs.Option.{option_map};
-ghost use Rattle.command_words.specs.Options.{Takes, usual_value};
+ghost use Rattle.command_words.specs.Options.{IsSlotWidth, given, or_usual, size_in, width_in};
+ghost use Rattle.command_words.specs.Orders.{Best, order_wanted};
 ghost use Rattle.command_words.specs.Parts.{found_seen};
-ghost use Rattle.command_words.specs.Spelling.{setting, settings_of};
-ghost use Rattle.command_words.specs.Views.{form_seen, settings_seen};
+ghost use Rattle.command_words.specs.Spelling.{settings_of};
+ghost use Rattle.command_words.specs.Views.{form_seen, settings_seen, wanted_seen};
 
 use crate::form::{CommandForm, Need};
-use crate::option::{OptionName, option_number};
+use crate::option::{size_in, width_in};
 use crate::parts::Parts;
 use crate::sizes::{Sizes, Slots};
+use crate::wanted::{Wanted, order_wanted};
 
 /// What the options come to, each that is left out to its usual value.
 #[derive(Clone, Copy)]
 pub(crate) struct Settings {
     pub sizes: Sizes,
     pub slots: Slots,
+    pub order: Wanted,
 }
 
-/// The value of an option that may be left out.
-fn usual_value(option: OptionName) -> u32
-    ensures value { result ≡ usual_value option }
-    ensures taken { Takes option result }
-{
-    match option {
-        OptionName::Limit => 262_144,
-        OptionName::Slot => 144,
-        OptionName::Slots => 262_144,
-    }
-}
-
-/// What an option comes to; none where the form or the option doesn't take it.
-fn setting(need: Need, option: OptionName, value: Option<&[u8]>) -> Option<u32>
-    ensures value { result ≡ setting need option (option_map (λ bytes. bytes.now) value.entry) }
-    ensures taken { IfSome result (Takes option) }
+/// The value of an option as a command takes it, or none of it where it is left out; nothing where the command
+/// doesn't take the option, or it has to be there.
+fn given<'a>(need: Need, value: Option<&'a [u8]>) -> Option<Option<&'a [u8]>>
+    ensures { option_map (option_map (λ bytes. bytes.now)) result ≡ given need (option_map (λ bytes. bytes.now) value.entry) }
 {
     match (need, value) {
         (Need::Never, Some(_)) => None,
         (Need::Always, None) => None,
-        (Need::Never, None) => Some(usual_value(option)),
-        (Need::Maybe, None) => Some(usual_value(option)),
-        (Need::Maybe, Some(value)) => option_number(option, value),
-        (Need::Always, Some(value)) => option_number(option, value),
+        (_, value) => Some(value),
+    }
+}
+
+/// A number of entries or slots, the greatest where it is left out.
+fn size(need: Need, value: Option<&[u8]>) -> Option<u32>
+    ensures value { result ≡ option_and_then (or_usual 262144 size_in) (given need (option_map (λ bytes. bytes.now) value.entry)) }
+    ensures taken { IfSome result (λ n. (1 ≤ n) × (n ≤ 262144)) }
+{
+    match given(need, value)? {
+        Some(value) => size_in(value),
+        None => Some(262_144),
+    }
+}
+
+/// The width of a slot, 144 where it is left out.
+fn width(need: Need, value: Option<&[u8]>) -> Option<u32>
+    ensures value { result ≡ option_and_then (or_usual 144 width_in) (given need (option_map (λ bytes. bytes.now) value.entry)) }
+    ensures taken { IfSome result IsSlotWidth }
+{
+    match given(need, value)? {
+        Some(value) => width_in(value),
+        None => Some(144),
+    }
+}
+
+/// The order that is wanted, the best one where it is left out.
+fn wanted(need: Need, value: Option<&[u8]>) -> Option<Wanted>
+    ensures { option_map wanted_seen result ≡ option_and_then (or_usual Best order_wanted) (given need (option_map (λ bytes. bytes.now) value.entry)) }
+{
+    match given(need, value)? {
+        Some(value) => order_wanted(value),
+        None => Some(Wanted::Best),
     }
 }
 
@@ -49,14 +69,16 @@ fn setting(need: Need, option: OptionName, value: Option<&[u8]>) -> Option<u32>
 pub(crate) fn settings_of(form: &CommandForm, parts: &Parts<'_>) -> Option<Settings>
     ensures { option_map settings_seen result ≡ settings_of (form_seen form.now) (found_seen parts.now) }
 {
-    let limit = setting(form.limit, OptionName::Limit, parts.limit)?;
-    let slot = setting(form.slot, OptionName::Slot, parts.slot)?;
-    let slots = setting(form.slots, OptionName::Slots, parts.slots)?;
+    let limit = size(form.limit, parts.limit)?;
+    let slot = width(form.slot, parts.slot)?;
+    let slots = size(form.slots, parts.slots)?;
+    let order = wanted(form.order, parts.order)?;
     Some(Settings {
         sizes: Sizes {
             limit,
             slot: slot as u16,
         },
         slots: Slots { count: slots },
+        order,
     })
 }

@@ -18,9 +18,11 @@ fn option_usage(need: Need, option: OptionName) -> &'static str
         (Need::Maybe, OptionName::Limit) => " [--limit N]",
         (Need::Maybe, OptionName::Slot) => " [--slot W]",
         (Need::Maybe, OptionName::Slots) => " [--slots N]",
+        (Need::Maybe, OptionName::Order) => " [--order P]",
         (Need::Always, OptionName::Limit) => " --limit N",
         (Need::Always, OptionName::Slot) => " --slot W",
         (Need::Always, OptionName::Slots) => " --slots N",
+        (Need::Always, OptionName::Order) => " --order P",
     }
 }
 
@@ -34,6 +36,7 @@ fn put_line<K: Sink>(form: &CommandForm, pending: &mut Pending, out: &mut K) -> 
         &[
             Part::Text("  "),
             Part::Text(form.name),
+            Part::Text(option_usage(form.order, OptionName::Order)),
             Part::Text(option_usage(form.limit, OptionName::Limit)),
             Part::Text(option_usage(form.slot, OptionName::Slot)),
             Part::Text(option_usage(form.slots, OptionName::Slots)),

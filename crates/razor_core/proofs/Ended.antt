@@ -4,8 +4,7 @@ use Rattle.std.specs.Prelude.{Bool, Option, Ok, Err, Result, ◌⊎◌}
 use Rattle.std.specs.Io.KnownBytes.{Appends, Keeps}
 use Rattle.razor_base.specs.Faults.{Rose}
 use Rattle.razor_base.specs.Output.{AppendsFront}
-use Rattle.command_words.specs.declared.command.Method.{Method}
-use Rattle.command_words.specs.Command.{Command, Make, Sizes}
+use Rattle.command_words.specs.Command.{Command, Make, Method, Sizes}
 use Rattle.filter_reader.specs.FilterList.{FilterList}
 use Rattle.razor_core.specs.declared.ending.Ending.{Ending}
 use Rattle.razor_core.specs.declared.ending.Ending.TheVariants.{Done, No, BadLine as Bad, TooLong, TooMany, ReadFault, WriteFault, Memory}

@@ -11,16 +11,15 @@ use Rattle.field_boxes.specs.Classifier.{Rule}
 use Rattle.filter_reader.specs.ListText.{list_text}
 use Rattle.list_generator.specs.DrawnRules.{generated}
 use Rattle.bit_merge.proofs.Merged.{is_alike, is_fewer, is_tight}
-use Rattle.command_words.specs.declared.command.Method.{Method}
-use Rattle.command_words.specs.declared.command.Method.TheVariants.{Compile, Expand}
-use Rattle.command_words.specs.Command.{Command, Cert, Check, Drive, Equiv, Gen, Make, Migrate, Merge, Selfrun, Sizes, Trace}
+use Rattle.command_words.specs.Orders.{Wanted}
+use Rattle.command_words.specs.Command.{Command, Method, Arrange, Compile, Expand, Cert, Check, Drive, Equiv, Gen, Make, Migrate, Merge, Selfrun, Sizes, Trace}
 use Rattle.razor_core.specs.Selfrun.{Summarises}
 use Rattle.razor_core.specs.Trace.{answers_text, taken_of}
 use Rattle.razor_core.specs.Cert.{IsCertificateOf, Writes}
 use Rattle.razor_core.specs.Check.{AnswerAlike, Certifies}
 use Rattle.razor_core.specs.Equiv.{DecideAlike, Compares}
-use Rattle.razor_core.specs.Headlines.{Adds, AreAlike, AreEqualLists, IsAnswered, IsCertified, IsCompiledText, IsDriven, IsExpandedText, IsMigrated, IsMergedText}
-use Rattle.razor_core.specs.Make.{IsMade}
+use Rattle.razor_core.specs.Headlines.{Adds, AreAlike, AreEqualLists, IsAnswered, IsArrangedText, IsCertified, IsCompiledText, IsDriven, IsExpandedText, IsMigrated, IsMergedText}
+use Rattle.razor_core.specs.Make.{IsMade, IsOrderOf}
 use Rattle.razor_core.specs.Inputs.{Input, Value, as_list, as_script, as_table, certificate_input, lines_value, is_too_long, list_input, list_value, script_input, script_value, table_input, table_value, trace_input, text_of_list, text_of_script, text_of_table}
 use Rattle.razor_core.specs.Gives.{Gives}
 use Rattle.razor_core.specs.Outcome.{IsTextOf, Outcome}
@@ -95,28 +94,50 @@ turn_told before input text value known h = subst (λ (t : List ℕ). turn input
 module _ (before after : Outside) (line : List ℕ) where
   -- a table that was made of a list
   pub made : (method : Method) (sizes : Sizes) (file text : List ℕ) → KeepsPromise (Make method sizes file) before after line 0 → before.remaining file ≡ Some text →
-      (list : FilterList) × (list_of text ≡ Ok list) × Adds before after (λ written. (table : Table) × IsMade method list.rules sizes.slot table × IsTextOf table written)
+      (list : FilterList) × (list_of text ≡ Ok list) × Adds before after (λ written. (order : List ℕ) × IsOrderOf method list.rules order × (table : Table) × IsMade method order list.rules sizes.slot table × IsTextOf table written)
   made method sizes file text is known =
       let command : Command = Make method sizes file in
       let done = is.done refl (told (before.remaining file) text known, tt) in
       let first = first_of (turn (list_input file) (bytes_at before file)) (Ok []) done.values done.pass.turns in
       let read = listed file text first.value (turn_told before (list_input file) text first.value known first.turned_is) in
       let gives = subst (λ (v : Value). Gives command (v ∷ first.rest) done.outcome) read.2 (subst (λ (vs : List Value). Gives command vs done.outcome) first.values_are done.gives) in
-      (read.0, read.1, (done.outcome.text, done.written, (gives.table, gives.meets, gives.text)))
+      (read.0, read.1, (done.outcome.text, done.written, (gives.order, gives.is_order, gives.table, gives.meets, gives.text)))
 
   pub compiled : (sizes : Sizes) (file text : List ℕ) → KeepsPromise (Make Compile sizes file) before after line 0 → before.remaining file ≡ Some text → Adds before after (IsCompiledText sizes.slot text)
   compiled sizes file text is known =
       let h = made Compile sizes file text is known in
-      let table = h.2.2.0 in
-      let meets = h.2.2.1 in
-      (h.2.0, h.2.1, record { list = h.0; table = table; spelled = h.1; reads_back = h.2.2.2.spells; slot = meets.slot; answers = meets.answers; least = meets.composed; few = meets.few; tight = meets.tight })
+      let table = h.2.2.2 in
+      let meets = h.2.2.3 in
+      (h.2.0, h.2.1, record { list = h.0; table = table; spelled = h.1; reads_back = h.2.2.4.spells; slot = meets.slot; answers = meets.answers; least = meets.composed; few = meets.few; tight = meets.tight })
+
+  pub arranged : (wanted : Wanted) (sizes : Sizes) (file text : List ℕ) → KeepsPromise (Make (Arrange wanted) sizes file) before after line 0 → before.remaining file ≡ Some text → Adds before after (IsArrangedText wanted sizes.slot text)
+  arranged wanted sizes file text is known =
+      let h = made (Arrange wanted) sizes file text is known in
+      let table = h.2.2.2 in
+      let meets = h.2.2.3 in (
+        h.2.0,
+        h.2.1,
+        record {
+          list = h.0;
+          table = table;
+          order = h.2.2.0;
+          spelled = h.1;
+          reads_back = h.2.2.4.spells;
+          slot = meets.slot;
+          answers = meets.answers;
+          is_order = h.2.2.1;
+          least = meets.composed;
+          few = meets.few;
+          tight = meets.tight;
+        },
+      )
 
   pub expanded : (sizes : Sizes) (file text : List ℕ) → KeepsPromise (Make Expand sizes file) before after line 0 → before.remaining file ≡ Some text → Adds before after (IsExpandedText sizes.slot text)
   expanded sizes file text is known =
       let h = made Expand sizes file text is known in
-      let table = h.2.2.0 in
-      let meets = h.2.2.1 in
-      (h.2.0, h.2.1, record { list = h.0; table = table; spelled = h.1; reads_back = h.2.2.2.spells; slot = meets.slot; answers = meets.answers; entries = meets.entries; count = meets.composed })
+      let table = h.2.2.2 in
+      let meets = h.2.2.3 in
+      (h.2.0, h.2.1, record { list = h.0; table = table; spelled = h.1; reads_back = h.2.2.4.spells; slot = meets.slot; answers = meets.answers; entries = meets.entries; count = meets.composed })
 
   alike_by : (left right : List (Rule (List ℕ))) (outcome : Outcome) → Compares left right outcome → outcome.yes ≡ true → DecideAlike left right
   alike_by left right outcome (inl h) agreed = h.0

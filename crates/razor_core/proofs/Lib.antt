@@ -11,4 +11,6 @@ pub mod CertEnding
 pub mod CheckEnding
 pub mod SelfrunEnding
 pub mod SpelledNames
+pub mod FieldOrders
+pub mod OrderText
 pub mod Headlines

@@ -6,7 +6,7 @@ use Rattle.command_words.specs.Command.{Command, Make}
 use Rattle.razor_core.specs.declared.ending.Ending.{Ending}
 use Rattle.razor_core.specs.declared.ending.Ending.TheVariants.{Done, No, BadLine as Bad, TooLong, TooMany, ReadFault, WriteFault, Memory}
 use Rattle.razor_core.specs.declared.ending.Summary.{Summary}
-use Rattle.razor_core.specs.declared.ending.Summary.TheVariants.{Nothing, Rules}
+use Rattle.razor_core.specs.declared.ending.Summary.TheVariants.{Nothing, Rules, Ordered}
 use Rattle.razor_core.specs.Inputs.{Value, read_by}
 use Rattle.razor_core.specs.Outside.{Outside, Tells, AreReadThrough}
 use Rattle.razor_core.specs.Standing.{IsCutOff, Stands, StandsCut, StandsShort, WritesNothing}
@@ -15,7 +15,8 @@ use Rattle.razor_core.specs.Stopping.{Pass, IsStopped}
 use Rattle.razor_core.specs.Deciding.{FailsToRead, IsStopOf}
 use Rattle.razor_core.specs.Outcome.{Outcome}
 use Rattle.razor_core.specs.Gives.{Gives}
-use Rattle.razor_core.specs.Messages.{rules_line, bad_line_line, too_long_line, too_many_line, read_fault_line, write_fault_line, memory_line}
+use Rattle.razor_core.specs.Make.{made_line}
+use Rattle.razor_core.specs.Messages.{ordered_line, rules_line, bad_line_line, too_long_line, too_many_line, read_fault_line, write_fault_line, memory_line}
 
 -- all turns passed, all that the command defines was written, and its inputs were read to their end
 pub record IsDone (command : Command) (before after : Outside) (answer : Bool) (line : List ℕ) : Type 0 where
@@ -41,6 +42,7 @@ status_of Memory = 7
 abbrev pub summary_text : Summary → List ℕ
 summary_text Nothing = []
 summary_text (Rules rules flagged) = rules_line rules flagged
+summary_text (Ordered rules flagged order) = ordered_line rules flagged order
 
 -- the line of an ending
 abbrev pub ending_line : Ending → List ℕ
@@ -55,7 +57,7 @@ ending_line Memory = memory_line
 
 -- the line of a command that is done: how many rules its list has and how many are flagged, if it makes a table of one
 abbrev pub IsDoneLine : Command → List ℕ → Type 0
-IsDoneLine (Make method sizes file) line = (rules : ℕ) × (flagged : ℕ) × (line ≡ rules_line rules flagged)
+IsDoneLine (Make method sizes file) line = (order : List ℕ) × (rules : ℕ) × (flagged : ℕ) × (line ≡ made_line method order rules flagged)
 IsDoneLine command line = line ≡ []
 
 -- the command is ended by this, and what stands then

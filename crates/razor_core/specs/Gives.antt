@@ -2,7 +2,7 @@
 use Rattle.std.specs.Prelude.{List, ◌∷◌}
 use Rattle.command_words.specs.Command.{Command, Make, Equiv, Cert, Check, Trace, Drive, Gen, Selfrun, Migrate, Merge}
 use Rattle.razor_core.specs.Outcome.{Outcome}
-use Rattle.razor_core.specs.Make.{IsMade, IsTableOf}
+use Rattle.razor_core.specs.Make.{IsTableOf}
 use Rattle.razor_core.specs.Equiv.{Compares}
 use Rattle.razor_core.specs.Cert.{Writes}
 use Rattle.razor_core.specs.Check.{Certifies}
@@ -16,7 +16,7 @@ use Rattle.razor_core.specs.Inputs.{Value, list_value, table_value, script_value
 
 -- the outcome is one that the command defines for these values
 abbrev pub Gives : Command → List Value → Outcome → Type 0
-Gives (Make method sizes file) (list_value list ∷ values) outcome = IsTableOf list (IsMade method list.rules sizes.slot) outcome
+Gives (Make method sizes file) (list_value list ∷ values) outcome = IsTableOf method list sizes.slot outcome
 Gives (Equiv left right) (list_value first ∷ list_value second ∷ values) outcome = Compares first.rules second.rules outcome
 Gives (Cert list table) (list_value rules ∷ table_value entries ∷ values) outcome = Writes rules entries outcome
 Gives (Check list table certificate) (list_value rules ∷ table_value entries ∷ lines_value text ∷ values) outcome = Certifies rules entries text outcome

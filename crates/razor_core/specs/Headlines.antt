@@ -5,6 +5,8 @@ use Rattle.std.specs.List.{concat}
 use Rattle.bank_update.specs.Machine.{unsettled}
 use Rattle.bank_update.specs.Runs.{session}
 use Rattle.bank_update.specs.Script.{Event, script_of}
+use Rattle.command_words.specs.Command.{Arrange}
+use Rattle.command_words.specs.Orders.{Wanted}
 use Rattle.field_boxes.specs.Classifier.{source}
 use Rattle.field_boxes.specs.Fields.{IsHeader, stated}
 use Rattle.filter_reader.specs.FilterList.{FilterList, list_of}
@@ -20,6 +22,7 @@ use Rattle.razor_core.specs.Equiv.{DecideAlike}
 use Rattle.razor_core.specs.Inputs.{table_input}
 use Rattle.razor_core.specs.Drive.{value_of_table}
 use Rattle.razor_core.specs.Merge.{IsMergedTable}
+use Rattle.razor_core.specs.Make.{IsOrderOf}
 use Rattle.razor_core.specs.Outside.{Outside}
 use Rattle.razor_core.specs.Trace.{answers_text, taken_of}
 use Rattle.razor_core.specs.Turns.{turns_of}
@@ -35,6 +38,20 @@ pub record IsCompiledText (width : ℕ) (list_bytes written : List ℕ) : Type 0
   pub slot : table.slot ≡ width
   pub answers : (header : List ℕ) → IsHeader header → answer table.entries header ≡ source stated header list.rules
   pub least : IsLeastCost stated list.rules table.composed
+  pub few : length table.entries ≤ table.composed
+  pub tight : IsTight table.entries
+
+-- the same with another order of the fields: the one that is asked for, or else the one in which the list costs least
+pub record IsArrangedText (wanted : Wanted) (width : ℕ) (list_bytes written : List ℕ) : Type 0 where
+  pub list : FilterList
+  pub table : Table
+  pub order : List ℕ
+  pub spelled : list_of list_bytes ≡ Ok list
+  pub reads_back : table_in_text written ≡ Ok table
+  pub slot : table.slot ≡ width
+  pub answers : (header : List ℕ) → IsHeader header → answer table.entries header ≡ source stated header list.rules
+  pub is_order : IsOrderOf (Arrange wanted) list.rules order
+  pub least : IsLeastCost order list.rules table.composed
   pub few : length table.entries ≤ table.composed
   pub tight : IsTight table.entries
 

@@ -1,38 +1,57 @@
--- What `expand` and `compile` define: the table of a list.
-use Rattle.std.specs.Prelude.{◌≡◌, ℕ, ◌<◌, List, true, length}
+-- What `expand`, `compile` and `arrange` define: the table of a list.
+use Rattle.std.specs.Prelude.{◌≡◌, ℕ, ◌<◌, true, List, length}
 use Rattle.field_boxes.specs.Classifier.{Rule}
 use Rattle.field_boxes.specs.Fields.{stated}
+use Rattle.filter_reader.specs.FilterList.{FilterList}
 use Rattle.ternary_words.specs.Table.{Table}
 use Rattle.table_compose.specs.LeastCost.{IsLeastCost}
-use Rattle.rule_compilation.specs.Compiled.{IsCompiled}
+use Rattle.field_order.specs.Best.{IsBestOrder}
+use Rattle.rule_compilation.specs.Compiled.{IsCompiledIn}
 use Rattle.rule_expansion.specs.Expansion.{expanded_count}
 use Rattle.rule_expansion.specs.Tables.{IsExpansion}
-use Rattle.command_words.specs.declared.command.Method.{Method}
-use Rattle.command_words.specs.declared.command.Method.TheVariants.{Expand, Compile}
-use Rattle.filter_reader.specs.FilterList.{FilterList}
+use Rattle.command_words.specs.Command.{Method, Expand, Compile, Arrange}
+use Rattle.command_words.specs.Orders.{Best, In}
+use Rattle.razor_core.specs.Messages.{ordered_line, rules_line}
 use Rattle.razor_core.specs.Outcome.{Outcome, IsTextOf}
 use Rattle.razor_core.specs.Turns.{Stop, too_many}
 use Rattle.razor_core.specs.declared.ending.Ending.{Ending}
 use Rattle.razor_core.specs.declared.ending.Ending.TheVariants.{TooMany, Memory}
-use Rattle.razor_core.specs.Messages.{rules_line}
 
--- the method makes so many entries of the rules: those of the expansion, or their field-by-field least cost
+-- the order of the fields in which the method composes: the stated one, the one that is asked for, or the one that costs
+-- least
+abbrev pub IsOrderOf : Method → List (Rule (List ℕ)) → List ℕ → Type 0
+IsOrderOf Expand rules order = order ≡ stated
+IsOrderOf Compile rules order = order ≡ stated
+IsOrderOf (Arrange Best) rules order = (cost : ℕ) × IsBestOrder rules order cost
+IsOrderOf (Arrange (In asked)) rules order = order ≡ asked
+
+-- the method makes so many entries of the rules: those of the expansion, or their field-by-field least cost in its order
 abbrev pub IsNeeded : Method → List (Rule (List ℕ)) → ℕ → Type 0
 IsNeeded Expand rules needed = needed ≡ expanded_count rules
 IsNeeded Compile rules needed = IsLeastCost stated rules needed
+IsNeeded (Arrange wanted) rules needed = (order : List ℕ) × IsOrderOf (Arrange wanted) rules order × IsLeastCost order rules needed
 
--- the method makes this table of the rules, for slots of this width
-abbrev pub IsMade : Method → List (Rule (List ℕ)) → ℕ → Table → Type 0
-IsMade Expand rules width table = IsExpansion rules width table
-IsMade Compile rules width table = IsCompiled rules width table
+-- the method makes this table of the rules in the order, for slots of this width
+abbrev pub IsMade : Method → List ℕ → List (Rule (List ℕ)) → ℕ → Table → Type 0
+IsMade Expand order rules width table = IsExpansion rules width table
+IsMade Compile order rules width table = IsCompiledIn stated rules width table
+IsMade (Arrange wanted) order rules width table = IsCompiledIn order rules width table
 
--- the text of a table that meets this, and the line on the rules of its list
-pub record IsTableOf (list : FilterList) (Meets : Table → Type 0) (outcome : Outcome) : Type 0 where
+-- what is said of a list of so many rules, of which so many are flagged: the order too, where it may be asked for
+abbrev pub made_line : Method → List ℕ → ℕ → ℕ → List ℕ
+made_line Expand order rules flagged = rules_line rules flagged
+made_line Compile order rules flagged = rules_line rules flagged
+made_line (Arrange wanted) order rules flagged = ordered_line rules flagged order
+
+-- the text of a table that the method makes, and the line on the rules of its list
+pub record IsTableOf (method : Method) (list : FilterList) (width : ℕ) (outcome : Outcome) : Type 0 where
+  pub order : List ℕ
+  pub is_order : IsOrderOf method list.rules order
   pub table : Table
-  pub meets : Meets table
+  pub meets : IsMade method order list.rules width table
   pub yes : outcome.yes ≡ true
   pub text : IsTextOf table outcome.text
-  pub line : outcome.line ≡ rules_line (length list.rules) list.flagged
+  pub line : outcome.line ≡ made_line method order (length list.rules) list.flagged
 
 -- more entries are needed than the limit
 abbrev pub NeedsMore : Method → List (Rule (List ℕ)) → ℕ → Stop → Type 0

@@ -1,8 +1,7 @@
 -- What ends a command: the turn of an input, or something later.
 use Rattle.std.specs.Prelude.{◌≡◌, ◌⊎◌, List, ◌∷◌, Ok, Err}
 use Rattle.list_generator.specs.DrawnRules.{generated}
-use Rattle.command_words.specs.declared.command.Method.TheVariants.{Compile}
-use Rattle.command_words.specs.Command.{Command, Make, Cert, Check, Trace, Selfrun}
+use Rattle.command_words.specs.Command.{Command, Compile, Make, Cert, Check, Trace, Selfrun}
 use Rattle.razor_core.specs.Turns.{Stop, turns_of}
 use Rattle.razor_core.specs.Make.{NeedsMore}
 use Rattle.razor_core.specs.Cert.{HasOther}

@@ -8,6 +8,7 @@ ghost use Rattle.command_words.specs.Asked.{meant};
 ghost use Rattle.razor_core.specs.Outside.{seen, IsNoInput};
 ghost use Rattle.razor_core.specs.Ending.{Ends};
 
+mod arrange;
 mod cert;
 mod check;
 mod compile;
@@ -16,6 +17,7 @@ mod drive;
 mod equiv;
 mod expand;
 mod generate;
+mod made;
 mod make;
 mod merge;
 mod migrate;

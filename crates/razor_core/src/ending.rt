@@ -42,7 +42,16 @@ pub enum Summary {
     /// Nothing.
     Nothing,
     /// How many rules its list has, and how many of them are flagged.
-    Rules { rules: u64, flagged: u64 },
+    Rules {
+        rules: u64,
+        flagged: u64,
+    },
+    /// The same, and in which order of the fields its table is composed.
+    Ordered {
+        rules: u64,
+        flagged: u64,
+        order: [u8; 5],
+    },
 }
 
 /// The status of an ending.

@@ -1,9 +1,9 @@
 //! What status 0 of each command means over bytes, from what the top call promises of the command alone. The functions do
 //! nothing.
 ghost use Rattle.std.specs.Prelude.{◌≡◌, ℕ, List, Some};
-ghost use Rattle.command_words.specs.declared.command.Method.TheVariants.{Expand, Compile};
-ghost use Rattle.command_words.specs.Command.{Cert, Check, Drive, Equiv, Gen, Make, Merge, Migrate, Selfrun, Sizes, Trace};
-ghost use Rattle.razor_core.specs.Headlines.{Adds, AreAlike, AreEqualLists, IsAnswered, IsCertified, IsCompiledText, IsDriven, IsExpandedText, IsMergedText, IsMigrated};
+ghost use Rattle.command_words.specs.Command.{Arrange, Cert, Check, Compile, Drive, Equiv, Expand, Gen, Make, Merge, Migrate, Selfrun, Sizes, Trace};
+ghost use Rattle.command_words.specs.Orders.{Wanted};
+ghost use Rattle.razor_core.specs.Headlines.{Adds, AreAlike, AreEqualLists, IsAnswered, IsArrangedText, IsCertified, IsCompiledText, IsDriven, IsExpandedText, IsMergedText, IsMigrated};
 ghost use Rattle.razor_core.specs.Outside.{Outside, Tells};
 ghost use Rattle.razor_core.specs.Promise.{KeepsPromise};
 ghost use Rattle.razor_core.specs.Selfrun.{Summarises};
@@ -15,6 +15,14 @@ pub fn compiled_tables_decide_as_their_lists()
     ensures { (before after : Outside) (line : List ℕ) (sizes : Sizes) (file text : List ℕ) →
         KeepsPromise (Make Compile sizes file) before after line 0 → before.remaining file ≡ Some text →
         Adds before after (IsCompiledText sizes.slot text) }
+{}
+
+/// What `arrange` has written is a table that decides as the list, of the least cost in its order of the fields, with no
+/// entry to spare.
+pub fn arranged_tables_decide_as_their_lists()
+    ensures { (before after : Outside) (line : List ℕ) (wanted : Wanted) (sizes : Sizes) (file text : List ℕ) →
+        KeepsPromise (Make (Arrange wanted) sizes file) before after line 0 → before.remaining file ≡ Some text →
+        Adds before after (IsArrangedText wanted sizes.slot text) }
 {}
 
 /// What `expand` has written is the direct expansion, which decides as the list.

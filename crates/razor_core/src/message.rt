@@ -2,7 +2,7 @@ ghost use Rattle.std.specs.Prelude.{◌≡◌};
 ghost use Rattle.razor_base.specs.Parts.{parts_text};
 ghost use Rattle.razor_core.specs.Says.{Says};
 ghost use Rattle.command_words.specs.Usage.{usage_text};
-ghost use Rattle.razor_core.specs.Messages.{bad_line_line};
+ghost use Rattle.razor_core.specs.Messages.{bad_line_line, ordered_line};
 ghost use Rattle.razor_core.specs.Ending.{ending_line, summary_text};
 
 use crate::ending::{Ending, Summary};
@@ -73,7 +73,35 @@ fn say_summary<E: Sink>(err: &mut E, summary: Summary)
                 Part::Text("\n"),
             ],
         ),
+        Summary::Ordered {
+            rules,
+            flagged,
+            order,
+        } => say_ordered(err, rules, flagged, order),
     }
+}
+
+/// Says how many rules a list has, how many are flagged, and in which order its table is composed.
+fn say_ordered<E: Sink>(err: &mut E, rules: u64, flagged: u64, order: [u8; 5])
+    ensures { Says E.written E.faults err.old err.new (ordered_line rules flagged order) }
+{
+    let [first, second, third, fourth, fifth] = order;
+    say(
+        err,
+        &[
+            Part::Text("rules "),
+            Part::Number(u128::from(rules)),
+            Part::Text(", flagged "),
+            Part::Number(u128::from(flagged)),
+            Part::Text(", order "),
+            Part::Number(u128::from(first)),
+            Part::Number(u128::from(second)),
+            Part::Number(u128::from(third)),
+            Part::Number(u128::from(fourth)),
+            Part::Number(u128::from(fifth)),
+            Part::Text("\n"),
+        ],
+    )
 }
 
 /// Says what is wrong with the line of the file.

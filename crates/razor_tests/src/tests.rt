@@ -1,3 +1,4 @@
+mod arranging;
 mod certifying;
 mod checking;
 mod comparing;

@@ -6,12 +6,13 @@ use razor_base::{Desk, MemDesk, Memory, read_all};
 use std::alloc::Global;
 
 /// The files in `data/`.
-const NAMES: [&str; 5] = [
+const NAMES: [&str; 6] = [
     "lab.list",
     "office.list",
     "lab.trace",
     "swap.script",
     "old.table",
+    "hosts.table",
 ];
 
 /// As many bytes as a file of the tour may have.

@@ -15,10 +15,14 @@ pub struct Step {
 }
 
 /// Every command.
-pub const STEPS: [Step; 12] = [
+pub const STEPS: [Step; 14] = [
     Step {
         words: &["compile", "lab.list"],
         file: Some("lab.table"),
+    },
+    Step {
+        words: &["arrange", "lab.list"],
+        file: None,
     },
     Step {
         words: &["expand", "--slot", "104", "lab.list"],
@@ -57,6 +61,10 @@ pub const STEPS: [Step; 12] = [
     },
     Step {
         words: &["migrate", "old.table"],
+        file: None,
+    },
+    Step {
+        words: &["merge", "hosts.table"],
         file: None,
     },
     Step {

@@ -8,12 +8,12 @@ ghost use Rattle.ternary_words.specs.Limits.{IsSlotWidth};
 ghost use Rattle.ternary_words.specs.Views.{table_of};
 ghost use Rattle.razor_core.specs.Make.{IsNotMade};
 
+use crate::commands::made::Made;
 use crate::ending::Ending;
 use filter_reader::RuleList;
 use rule_compilation::compile;
 use std::alloc::Global;
 use table_compose::ComposeError;
-use ternary_words::Table;
 
 /// The table of the field-by-field least cost, which decides every header as the list does.
 ///
@@ -25,17 +25,17 @@ pub fn compile_list<'a>(
     list: &RuleList,
     limit: u32,
     slot: u16,
-) -> Result<Table, Ending<'a>>
+) -> Result<Made, Ending<'a>>
     requires limit { limit ≤ 262144 }
     requires slot { ∥ IsSlotWidth slot ∥₁ }
-    ensures table { MatchResult result
-        (λ table. IsCompiled (filter_list list.now).rules slot (table_of table))
+    ensures made { MatchResult result
+        (λ made. (made.order ≡ stated) × IsCompiled (filter_list list.now).rules slot (table_of made.table))
         (λ ending. IsNotMade (IsLeastCost stated (filter_list list.now).rules) limit ending) }
-    ensures names { IfOk result (λ table. table.names ≡ list.now.names) }
-    ensures room { IfOk result (λ table. (needed : ℕ) → IsLeastCost stated (filter_list list.now).rules needed → needed ≤ limit) }
+    ensures names { IfOk result (λ made. made.table.names ≡ list.now.names) }
+    ensures room { IfOk result (λ made. (needed : ℕ) → IsLeastCost stated (filter_list list.now).rules needed → needed ≤ limit) }
 {
     match compile(alloc, &list.rules, &list.names, limit, slot) {
-        Ok(table) => Ok(table),
+        Ok(table) => Ok(Made::stated(table)),
         Err(ComposeError::TooMany { needed, limit }) => Err(Ending::TooMany { needed, limit }),
         Err(ComposeError::Memory) => Err(Ending::Memory),
     }

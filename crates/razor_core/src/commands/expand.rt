@@ -1,5 +1,6 @@
 //! `expand`: the direct expansion of a list.
 ghost use Rattle.std.specs.Prelude.{◌≡◌, ◌≤◌, IfOk, MatchResult};
+ghost use Rattle.field_boxes.specs.Fields.{stated};
 ghost use Rattle.filter_reader.specs.Lists.{filter_list};
 ghost use Rattle.rule_expansion.specs.Expansion.{expanded_count};
 ghost use Rattle.rule_expansion.specs.Tables.{IsExpansion};
@@ -7,11 +8,11 @@ ghost use Rattle.ternary_words.specs.Limits.{IsSlotWidth};
 ghost use Rattle.ternary_words.specs.Views.{table_of};
 ghost use Rattle.razor_core.specs.Make.{IsNotMade};
 
+use crate::commands::made::Made;
 use crate::ending::Ending;
 use filter_reader::RuleList;
 use rule_expansion::{ExpandError, expand};
 use std::alloc::Global;
-use ternary_words::Table;
 
 /// The direct expansion of the list: rule by rule one entry for each combination of the shortest covers
 /// of its five sets by prefixes, the source slowest and the protocol fastest.
@@ -22,17 +23,17 @@ pub fn expand_list<'a>(
     list: &RuleList,
     limit: u32,
     slot: u16,
-) -> Result<Table, Ending<'a>>
+) -> Result<Made, Ending<'a>>
     requires limit { limit ≤ 262144 }
     requires slot { ∥ IsSlotWidth slot ∥₁ }
-    ensures table { MatchResult result
-        (λ table. IsExpansion (filter_list list.now).rules slot (table_of table))
+    ensures made { MatchResult result
+        (λ made. (made.order ≡ stated) × IsExpansion (filter_list list.now).rules slot (table_of made.table))
         (λ ending. IsNotMade (λ needed. needed ≡ expanded_count (filter_list list.now).rules) limit ending) }
-    ensures names { IfOk result (λ table. table.names ≡ list.now.names) }
-    ensures room { IfOk result (λ table. expanded_count (filter_list list.now).rules ≤ limit) }
+    ensures names { IfOk result (λ made. made.table.names ≡ list.now.names) }
+    ensures room { IfOk result (λ made. expanded_count (filter_list list.now).rules ≤ limit) }
 {
     match expand(alloc, &list.rules, &list.names, limit, slot) {
-        Ok(table) => Ok(table),
+        Ok(table) => Ok(Made::stated(table)),
         Err(ExpandError::TooMany { needed, limit }) => Err(Ending::TooMany { needed, limit }),
         Err(ExpandError::Memory) => Err(Ending::Memory),
     }

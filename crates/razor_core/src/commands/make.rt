@@ -1,17 +1,18 @@
-//! What `expand` and `compile` share: a list is read, and its table is written.
+//! What `expand`, `compile` and `arrange` share: a list is read, and its table is written.
 ghost use Rattle.std.specs.Prelude.{◌≡◌, ◌≢◌, ◌≤◌, ℕ, List, IfOk, MatchResult, length};
 ghost use Rattle.std.specs.Io.KnownBytes.{Keeps};
 ghost use Rattle.command_words.specs.Command.{Make};
-ghost use Rattle.command_words.specs.Views.{sizes_of};
+ghost use Rattle.command_words.specs.Views.{method_seen, sizes_of};
 ghost use Rattle.filter_reader.specs.Lists.{filter_list};
 ghost use Rattle.ternary_words.specs.Views.{table_of};
 ghost use Rattle.razor_core.specs.Outside.{seen};
 ghost use Rattle.razor_core.specs.Ending.{Ends, summary_text};
-ghost use Rattle.razor_core.specs.Make.{IsMade, IsNeeded, IsNotMade};
-ghost use Rattle.razor_core.specs.Messages.{rules_line};
+ghost use Rattle.razor_core.specs.Make.{IsMade, IsNeeded, IsNotMade, IsOrderOf, made_line};
 
+use crate::commands::arrange::arrange_list;
 use crate::commands::compile::compile_list;
 use crate::commands::expand::expand_list;
+use crate::commands::made::Made;
 use crate::ending::{Ending, Summary};
 use crate::taking::take;
 use crate::texts::ListText;
@@ -19,7 +20,7 @@ use command_words::{Method, Sizes};
 use filter_reader::RuleList;
 use razor_base::{Desk, Sink};
 use std::alloc::Global;
-use ternary_words::{Table, write_table};
+use ternary_words::write_table;
 
 /// Writes the table that the method makes of the list.
 pub fn make_table<'a, D: Desk, K: Sink>(
@@ -30,7 +31,7 @@ pub fn make_table<'a, D: Desk, K: Sink>(
     desk: &mut D,
     out: &mut K,
 ) -> Ending<'a>
-    ensures ends { Ends (Make method (sizes_of sizes) file.now)
+    ensures ends { Ends (Make (method_seen method) (sizes_of sizes) file.now)
         (seen D.remaining D.faults K.written K.faults desk.old out.old)
         (seen D.remaining D.faults K.written K.faults desk.new out.new)
         result }
@@ -40,12 +41,12 @@ pub fn make_table<'a, D: Desk, K: Sink>(
         Ok(list) => list,
         Err(ending) => return ending,
     };
-    let table = match make_by(alloc, method, &list, sizes) {
-        Ok(table) => table,
+    let made = match make_by(alloc, method, &list, sizes) {
+        Ok(made) => made,
         Err(ending) => return ending,
     };
-    match write_table(&table, out) {
-        Ok(()) => Ending::Done(summary(&list)),
+    match write_table(&made.table, out) {
+        Ok(()) => Ending::Done(summary(method, &list, made.order)),
         Err(_) => Ending::WriteFault,
     }
 }
@@ -56,25 +57,32 @@ fn make_by<'a>(
     method: Method,
     list: &RuleList,
     sizes: Sizes,
-) -> Result<Table, Ending<'a>>
-    ensures table { MatchResult result
-        (λ table. IsMade method (filter_list list.now).rules sizes.slot (table_of table))
-        (λ ending. IsNotMade (IsNeeded method (filter_list list.now).rules) sizes.limit ending) }
-    ensures names { IfOk result (λ table. table.names ≡ list.now.names) }
-    ensures room { IfOk result (λ table. (needed : ℕ) → IsNeeded method (filter_list list.now).rules needed → needed ≤ sizes.limit) }
+) -> Result<Made, Ending<'a>>
+    ensures made { MatchResult result
+        (λ made. IsOrderOf (method_seen method) (filter_list list.now).rules made.order × IsMade (method_seen method) made.order (filter_list list.now).rules sizes.slot (table_of made.table))
+        (λ ending. IsNotMade (IsNeeded (method_seen method) (filter_list list.now).rules) sizes.limit ending) }
+    ensures names { IfOk result (λ made. made.table.names ≡ list.now.names) }
+    ensures room { IfOk result (λ made. (needed : ℕ) → IsNeeded (method_seen method) (filter_list list.now).rules needed → needed ≤ sizes.limit) }
 {
     match method {
         Method::Expand => expand_list(alloc, list, sizes.limit, sizes.slot),
         Method::Compile => compile_list(alloc, list, sizes.limit, sizes.slot),
+        Method::Arrange(wanted) => arrange_list(alloc, list, wanted, sizes.limit, sizes.slot),
     }
 }
 
-/// What is said of a list of which a table was made.
-fn summary(list: &RuleList) -> Summary
-    ensures { summary_text result ≡ rules_line (length (filter_list list.now).rules) list.now.flagged }
+/// What is said of a list of which the method made a table in the order.
+fn summary(method: Method, list: &RuleList, order: [u8; 5]) -> Summary
+    ensures { summary_text result ≡ made_line (method_seen method) order (length (filter_list list.now).rules) list.now.flagged }
 {
-    Summary::Rules {
-        rules: list.rules.len() as u64,
-        flagged: list.flagged,
+    let rules = list.rules.len() as u64;
+    let flagged = list.flagged;
+    match method {
+        Method::Expand | Method::Compile => Summary::Rules { rules, flagged },
+        Method::Arrange(_) => Summary::Ordered {
+            rules,
+            flagged,
+            order,
+        },
     }
 }

@@ -8,7 +8,7 @@ use Rattle.command_words.specs.Views.{form_seen}
 use Rattle.command_words.proofs.usage.put_lines.Goals as goal
 
 abbrev no_form : CommandForm
-no_form = record { command = Expand; name = record { ref_ptr = (0, 0); now = [] }; limit = Never; slot = Never; slots = Never; label = record { ref_ptr = (0, 0); now = [] } }
+no_form = record { command = Expand; name = record { ref_ptr = (0, 0); now = [] }; limit = Never; slot = Never; slots = Never; order = Never; label = record { ref_ptr = (0, 0); now = [] } }
 
 pub returns-in_err-put_line : goal.returns-in_err-put_line
 returns-in_err-put_line g c =

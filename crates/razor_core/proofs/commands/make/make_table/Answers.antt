@@ -4,10 +4,10 @@ use Rattle.ternary_words.specs.TableText.{table_text}
 use Rattle.ternary_words.specs.Views.{table_of}
 use Rattle.table_text.proofs.TableTexts.{table-read}
 use Rattle.command_words.specs.Command.{Make}
-use Rattle.command_words.specs.Views.{sizes_of}
+use Rattle.command_words.specs.Views.{method_seen, sizes_of}
 use Rattle.razor_core.specs.Ending.{IsDone}
 use Rattle.razor_core.specs.Inputs.{list_input}
-use Rattle.razor_core.specs.Messages.{rules_line}
+use Rattle.razor_core.specs.Make.{made_line}
 use Rattle.razor_core.specs.Outcome.{IsTextOf, Outcome}
 use Rattle.razor_core.specs.Outside.{seen}
 use Rattle.razor_core.specs.Taking.{value_of}
@@ -22,7 +22,7 @@ returns-in-Err-clause-ends g c =
     let before = seen g.D.Desk.remaining g.D.Desk.faults g.K.Sink.written g.K.Sink.faults c.args.desk.now c.args.out.now in
     let after = seen g.D.Desk.remaining g.D.Desk.faults g.K.Sink.written g.K.Sink.faults c.take.new.desk c.args.out.now in
     let still = kept (g.K.Sink.written c.args.out.now) in
-    turn_ends (Make c.args.method (sizes_of c.args.sizes) file) before after [] [] (list_input file) [] c.in-Err.ending (record { inputs_are = refl; passed = tt; kept = tt })
+    turn_ends (Make (method_seen c.args.method) (sizes_of c.args.sizes) file) before after [] [] (list_input file) [] c.in-Err.ending (record { inputs_are = refl; passed = tt; kept = tt })
     (record { keeps = still; cut = λ file e. still; calm = refl; short = still }) c.in-Err.ensures.turn
 
 pub returns-in-Err-make_by-clause-ends : goal.returns-in-Err-make_by-clause-ends
@@ -31,41 +31,43 @@ returns-in-Err-make_by-clause-ends g c =
     let before = seen g.D.Desk.remaining g.D.Desk.faults g.K.Sink.written g.K.Sink.faults c.args.desk.now c.args.out.now in
     let after = seen g.D.Desk.remaining g.D.Desk.faults g.K.Sink.written g.K.Sink.faults c.take.new.desk c.args.out.now in
     let passed = passed_taken (list_input file) (before.remaining file) (after.remaining file) (value_of c.in-Ok.list) c.in-Ok.ensures.turn in
-    not_made_ends c.args.method (sizes_of c.args.sizes) file before after (filter_list c.in-Ok.list) c.in-Err-make_by.ending (passed, tt) c.in-Err-make_by.ensures.table
+    not_made_ends (method_seen c.args.method) (sizes_of c.args.sizes) file before after (filter_list c.in-Ok.list) c.in-Err-make_by.ending (passed, tt) c.in-Err-make_by.ensures.made
     (kept (g.K.Sink.written c.args.out.now)) refl
 
 pub returns-in-Ok-write_table-clause-ends : goal.returns-in-Ok-write_table-clause-ends
 returns-in-Ok-write_table-clause-ends g c =
     let file = c.args.file.now in
-    let command = Make c.args.method (sizes_of c.args.sizes) file in
+    let command = Make (method_seen c.args.method) (sizes_of c.args.sizes) file in
     let before = seen g.D.Desk.remaining g.D.Desk.faults g.K.Sink.written g.K.Sink.faults c.args.desk.now c.args.out.now in
     let after = seen g.D.Desk.remaining g.D.Desk.faults g.K.Sink.written g.K.Sink.faults c.take.new.desk c.write_table.new.out in
     let taken = c.in-Ok.ensures.turn in
     let value = value_of c.in-Ok.list in
-    let table = table_of c.in-Ok-make_by.table in
+    let table = table_of c.in-Ok-make_by.made.table in
     let rules = length (filter_list c.in-Ok.list).rules in
     let flagged = c.in-Ok.list.flagged in
-    let line = rules_line rules flagged in
-    let text : IsTextOf table (table_text table) = record { written = refl; spells = table-read c.in-Ok-make_by.table (subst AreSpelled (sym c.in-Ok-make_by.ensures.names) c.in-Ok.ensures.holds) } in
+    let order = c.in-Ok-make_by.made.order in
+    let line = made_line (method_seen c.args.method) order rules flagged in
+    let text : IsTextOf table (table_text table) = record { written = refl; spells = table-read c.in-Ok-make_by.made.table (subst AreSpelled (sym c.in-Ok-make_by.ensures.names) c.in-Ok.ensures.holds) } in
     let made : Outcome = record { yes = true; text = table_text table; line = line } in (
-      (rules, flagged, c.summary.ensures),
+      (order, rules, flagged, c.summary.ensures),
       λ tells. subst (IsDone command before after true) (sym c.summary.ensures)
           (done_ends command before after (value ∷ []) made true (passed_taken (list_input file) (before.remaining file) (after.remaining file) value taken, tt)
-          (make_free c.args.method (sizes_of c.args.sizes) file (filter_list c.in-Ok.list) c.in-Ok-make_by.ensures.room)
-          (record { table = table; meets = c.in-Ok-make_by.ensures.table; yes = refl; text = text; line = refl }) refl c.in-Ok-write_table.ensures.ok
+          (make_free (method_seen c.args.method) (sizes_of c.args.sizes) file (filter_list c.in-Ok.list) c.in-Ok-make_by.ensures.room)
+          (record { order = order; is_order = c.in-Ok-make_by.ensures.made.0; table = table; meets = c.in-Ok-make_by.ensures.made.1; yes = refl; text = text; line = refl }) refl c.in-Ok-write_table.ensures.ok
           (read_taken (list_input file) (before.remaining file) (after.remaining file) value taken tells.0, tt) tells),
     )
 
 pub returns-clause-ends : goal.returns-clause-ends
 returns-clause-ends g c =
     let file = c.args.file.now in
-    let command = Make c.args.method (sizes_of c.args.sizes) file in
+    let command = Make (method_seen c.args.method) (sizes_of c.args.sizes) file in
     let before = seen g.D.Desk.remaining g.D.Desk.faults g.K.Sink.written g.K.Sink.faults c.args.desk.now c.args.out.now in
     let after = seen g.D.Desk.remaining g.D.Desk.faults g.K.Sink.written g.K.Sink.faults c.take.new.desk c.write_table.new.out in
     let value = value_of c.in-Ok.list in
-    let table = table_of c.in-Ok-make_by.table in
-    let text : IsTextOf table (table_text table) = record { written = refl; spells = table-read c.in-Ok-make_by.table (subst AreSpelled (sym c.in-Ok-make_by.ensures.names) c.in-Ok.ensures.holds) } in
-    let made : Outcome = record { yes = true; text = table_text table; line = rules_line (length (filter_list c.in-Ok.list).rules) c.in-Ok.list.flagged } in
+    let order = c.in-Ok-make_by.made.order in
+    let table = table_of c.in-Ok-make_by.made.table in
+    let text : IsTextOf table (table_text table) = record { written = refl; spells = table-read c.in-Ok-make_by.made.table (subst AreSpelled (sym c.in-Ok-make_by.ensures.names) c.in-Ok.ensures.holds) } in
+    let made : Outcome = record { yes = true; text = table_text table; line = made_line (method_seen c.args.method) order (length (filter_list c.in-Ok.list).rules) c.in-Ok.list.flagged } in
     cut_off_ends command before after (value ∷ []) made (passed_taken (list_input file) (before.remaining file) (after.remaining file) value c.in-Ok.ensures.turn, tt)
-    (inl (make_free c.args.method (sizes_of c.args.sizes) file (filter_list c.in-Ok.list) c.in-Ok-make_by.ensures.room))
-    (record { table = table; meets = c.in-Ok-make_by.ensures.table; yes = refl; text = text; line = refl }) c.in-Err-write_table.ensures.failed c.in-Err-write_table.ensures.err
+    (inl (make_free (method_seen c.args.method) (sizes_of c.args.sizes) file (filter_list c.in-Ok.list) c.in-Ok-make_by.ensures.room))
+    (record { order = order; is_order = c.in-Ok-make_by.ensures.made.0; table = table; meets = c.in-Ok-make_by.ensures.made.1; yes = refl; text = text; line = refl }) c.in-Err-write_table.ensures.failed c.in-Err-write_table.ensures.err

@@ -1,0 +1,40 @@
+-- Orders of the five fields, and how they are written.
+use Rattle.std.specs.Prelude.{ℕ, ◌-◌, Bool, true, not, ◌&&◌, ◌==◌, nat_eq, nat_lt, List, [], ◌∷◌, length, map, Option, Some, None, codes, if◌then◌else◌}
+use Rattle.std.specs.List.{list_all, list_any}
+use Rattle.std.specs.Char.{is_ascii_digit}
+use Rattle.std.specs.Str.{bytes_eq}
+
+-- no number stands twice
+abbrev pub are_apart : List ℕ → Bool
+are_apart [] = true
+are_apart (f ∷ fields) = not (list_any (nat_eq f) fields) && are_apart fields
+
+-- all of them are fields, which are numbered from 0
+abbrev pub are_fields : List ℕ → Bool
+are_fields fields = list_all (λ f. nat_lt f 5) fields
+
+-- five fields, each once
+abbrev pub is_order : List ℕ → Bool
+is_order fields = length fields == 5 && (are_fields fields && are_apart fields)
+
+-- the numbers of the digits of a word
+abbrev pub digits_of : List ℕ → List ℕ
+digits_of word = map (λ b. b - 48) word
+
+-- the order that a word of its digits writes
+abbrev pub order_written : List ℕ → Option (List ℕ)
+order_written word = if list_all is_ascii_digit word && is_order (digits_of word) then Some (digits_of word) else None
+
+-- the order that is wanted: the one that costs least, or this one
+pub data Wanted : Type 0 where
+  Best : Wanted
+  In : List ℕ → Wanted
+
+-- what a value of the option asks for
+abbrev pub wanted_in : Option (List ℕ) → Option Wanted
+wanted_in None = None
+wanted_in (Some fields) = Some (In fields)
+
+-- the order that a value of the option writes, where the option takes it
+unfoldable pub order_wanted : List ℕ → Option Wanted
+order_wanted value = if bytes_eq value (codes "best") then Some Best else wanted_in (order_written value)

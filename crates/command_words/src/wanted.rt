@@ -1,0 +1,27 @@
+//! The order of the fields that is wanted.
+ghost use Rattle.std.specs.Prelude.{◌≡◌};
+ghost use Rattle.std.specs.Option.{option_map};
+ghost use Rattle.command_words.specs.Orders.{order_wanted};
+ghost use Rattle.command_words.specs.Views.{wanted_seen};
+
+use crate::order::{FieldOrder, order_written};
+
+/// The order in which a table is composed.
+#[derive(Clone, Copy, Debug, PartialEq, Eq)]
+pub enum Wanted {
+    /// The order that costs least.
+    Best,
+    /// This order.
+    In(FieldOrder),
+}
+
+/// The order that a value of the option asks for; none where the option doesn't take it.
+#[tactic(auto, unfolding(crate::specs::Orders::order_wanted))]
+pub(crate) fn order_wanted(value: &[u8]) -> Option<Wanted>
+    ensures { option_map wanted_seen result ≡ order_wanted value.now }
+{
+    if value == b"best".as_slice() {
+        return Some(Wanted::Best);
+    }
+    Some(Wanted::In(order_written(value)?))
+}

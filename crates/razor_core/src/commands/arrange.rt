@@ -1,0 +1,72 @@
+//! `arrange`: the table of a list's least cost in an order of the fields.
+ghost use Rattle.std.specs.Prelude.{◌≡◌, ◌≤◌, ℕ, IfOk, MatchResult};
+ghost use Rattle.command_words.specs.Command.{Arrange};
+ghost use Rattle.command_words.specs.Views.{wanted_seen};
+ghost use Rattle.filter_reader.specs.Lists.{filter_list};
+ghost use Rattle.rule_compilation.specs.Compiled.{IsCompiledIn};
+ghost use Rattle.ternary_words.specs.Limits.{IsSlotWidth};
+ghost use Rattle.ternary_words.specs.Views.{table_of};
+ghost use Rattle.razor_core.specs.Make.{IsNeeded, IsNotMade, IsOrderOf};
+
+use crate::commands::made::Made;
+use crate::ending::Ending;
+use command_words::Wanted;
+use field_order::{Order, best_order};
+use filter_reader::RuleList;
+use razor_base::Memory;
+use rule_compilation::compile_in;
+use std::alloc::Global;
+use table_compose::ComposeError;
+use table_compose::laws::one_least_cost;
+
+/// The order that is wanted.
+fn order_of(alloc: Global, list: &RuleList, wanted: Wanted) -> Result<Order, Memory>
+    ensures { IfOk result (λ order. IsOrderOf (Arrange (wanted_seen wanted)) (filter_list list.now).rules order) }
+{
+    list.names.are_names();
+    match wanted {
+        Wanted::Best => {
+            let (order, _) = best_order(alloc, &list.rules)?;
+            Ok(order)
+        }
+        Wanted::In(asked) => match Order::new(asked.fields) {
+            Some(order) => Ok(order),
+            None => unreachable!(),
+        },
+    }
+}
+
+/// The table of the field-by-field least cost in the order that is wanted, which decides every header as the list does.
+///
+/// It says that cost as `composed`, and has at most so many entries; entries that decide nothing, written
+/// `miss`, count too. `limit` is the greatest cost, 1 to 262,144, and `slot` the width of the table's slots:
+/// 104, 144 or 288.
+pub fn arrange_list<'a>(
+    alloc: Global,
+    list: &RuleList,
+    wanted: Wanted,
+    limit: u32,
+    slot: u16,
+) -> Result<Made, Ending<'a>>
+    requires limit { limit ≤ 262144 }
+    requires slot { ∥ IsSlotWidth slot ∥₁ }
+    ensures made { MatchResult result
+        (λ made. IsOrderOf (Arrange (wanted_seen wanted)) (filter_list list.now).rules made.order × IsCompiledIn made.order (filter_list list.now).rules slot (table_of made.table))
+        (λ ending. IsNotMade (IsNeeded (Arrange (wanted_seen wanted)) (filter_list list.now).rules) limit ending) }
+    ensures names { IfOk result (λ made. made.table.names ≡ list.now.names) }
+    ensures room { IfOk result (λ made. (needed : ℕ) → IsNeeded (Arrange (wanted_seen wanted)) (filter_list list.now).rules needed → needed ≤ limit) }
+{
+    one_least_cost();
+    let order = match order_of(alloc, list, wanted) {
+        Ok(order) => order,
+        Err(_) => return Err(Ending::Memory),
+    };
+    match compile_in(alloc, order.fields(), &list.rules, &list.names, limit, slot) {
+        Ok(table) => Ok(Made {
+            table,
+            order: order.digits(),
+        }),
+        Err(ComposeError::TooMany { needed, limit }) => Err(Ending::TooMany { needed, limit }),
+        Err(ComposeError::Memory) => Err(Ending::Memory),
+    }
+}
