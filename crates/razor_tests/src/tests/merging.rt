@@ -1,6 +1,7 @@
 //! Merged tables.
 use super::check;
 use super::checking::ODD_ENTRIES;
+use super::tracing::check_calm_trace;
 use crate::setting::calm;
 use std::process::Abort;
 use std::test::Fail;
@@ -44,4 +45,21 @@ fn entries_of_one_run_are_joined(rt: HostRuntime) -> Result<(), Fail> {
         b"",
         b"in: line 1: first line\n",
     )
+}
+
+/// Protocols at the ends of what the entries hold, and the decisions there.
+const PROTOCOLS: &[u8] =
+    b"0 0 0 0 0\n0 0 0 0 3\n0 0 0 0 4\n0 0 0 0 5\n4294967295 4294967295 65535 65535 6\n0 0 0 0 7\n0 0 0 0 8\n0 0 0 0 255\n";
+
+#[test]
+fn merged_tables_answer_alike(rt: HostRuntime) -> Result<(), Fail> {
+    let four = b"miss\nmiss\naccept\naccept\naccept\naccept\nmiss\nmiss\n";
+    for table in [FOUR, ONE] {
+        check_calm_trace(&rt, table, PROTOCOLS, four)?;
+    }
+    let odd = b"deny\naccept\ndeny\ndeny\ndeny\ndeny\ndeny\ndeny\n";
+    for table in [ODD, ODD_ENTRIES] {
+        check_calm_trace(&rt, table, PROTOCOLS, odd)?;
+    }
+    Ok(())
 }

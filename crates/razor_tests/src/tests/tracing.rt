@@ -47,6 +47,16 @@ fn check_trace(
     Ok(())
 }
 
+/// The same where nothing fails.
+pub(super) fn check_calm_trace(
+    rt: &(impl Abort + AllocGlobal),
+    table: &[u8],
+    trace: &[u8],
+    out: &[u8],
+) -> Result<(), Fail> {
+    check_trace(rt, table, calm(trace), ROOM, 0, out, b"")
+}
+
 /// The same with reads of 1, 7 and 4,096 bytes, and no fault.
 fn check_reads(
     rt: &(impl Abort + AllocGlobal),
