@@ -128,4 +128,6 @@ def of_message(run, name):
         patterns = [{6: "write fault\n", 7: "out of memory\n"}.get(run.status, "")]
         if run.status == 0 and name in ("expand", "compile"):
             patterns = [f"rules {NUMBER}, flagged {NUMBER}\n"]
+        elif run.status == 0 and name == "arrange":
+            patterns = [f"rules {NUMBER}, flagged {NUMBER}, order [0-4]{{5}}\n"]
     return "" if any(matches(pattern, run.err) for pattern in patterns) else "a message of another form"
