@@ -1,9 +1,6 @@
 pub mod Decided
 pub mod Joined
 pub mod Shown
-pub mod LaidParts
-pub mod LaidNodes
-pub mod Kept
 pub mod BoxAnswers
 pub mod Boxed
 pub mod Fills

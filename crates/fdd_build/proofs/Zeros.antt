@@ -2,11 +2,13 @@
 use Rattle.std.proofs.Common.{◌≡◌, ℕ, List, [], ◌∷◌, ◌≤◌, ◌<◌, ◌∙◌, length, arith, sym, subst}
 use Rattle.std.specs.Prelude.{drop, slice_index_or}
 use Rattle.node_store.specs.declared.edge.NodeId.{NodeId}
-use Rattle.node_store.specs.Levels.{HasField, next, top_of}
+use Rattle.field_boxes.specs.Fields.{AreValues}
+use Rattle.node_store.specs.Levels.{HasField, IsLevel, next, top_of}
 use Rattle.node_store.specs.Diagram.{Node, level_of, answer}
-use Rattle.fdd_build.specs.Nothing.{AnswersNothing, AreNothing}
+use Rattle.fdd_build.specs.Nothing.{AnswersNothing, AreNothing, IsZero, AreZeros}
 use Rattle.node_store.specs.Store.{Grows}
 use Rattle.std.specs.List.{insert}
+use Rattle.std.proofs.lemmas.List.Elements.{All-cons, All-nil}
 use Rattle.node_store.proofs.Canonical.{is_next}
 use Rattle.node_store.proofs.Values.{each}
 use Rattle.fdd_build.proofs.Stays as stays
@@ -18,15 +20,25 @@ opened old new level to id field nothing at same = record {
   zero = each (λ values. answer new id values ≡ 0) level field (λ v rest low h. same v rest low ∙ nothing.zero rest h);
 }
 
+zero : (nodes : List Node) (level : List ℕ) (id : NodeId) → IsLevel level → AnswersNothing nodes level id.0 → IsZero nodes id
+zero nodes level id is n = record { within = subst IsLevel (sym n.level) is; zero = λ values h. n.zero values (subst (λ k. AreValues k values) n.level h) }
+
 -- the node of the level itself
 pub head : (nodes : List Node) (level : List ℕ) (ids : List NodeId) (d : NodeId) → AreNothing nodes level ids → AnswersNothing nodes level (slice_index_or ids 0 d).0
 head nodes level [] d n = absurd n
-head nodes [] (id ∷ ids) d n = n
+head nodes [] (id ∷ ids) d n = n.0
 head nodes (f ∷ level) (id ∷ ids) d n = n.0
 
 pub some : (nodes : List Node) (level : List ℕ) (ids : List NodeId) → AreNothing nodes level ids → 0 < length ids
 some nodes level [] n = absurd n
 some nodes level (id ∷ ids) n = omega arith
+
+-- each of them answers 0 for all values of its level
+pub all_zeros : (nodes : List Node) (level : List ℕ) (ids : List NodeId) → IsLevel level → AreNothing nodes level ids → AreZeros nodes ids
+all_zeros nodes level [] is n = absurd n
+all_zeros nodes [] (id ∷ []) is n = All-cons (IsZero nodes) id [] (zero nodes [] id is n.0) (All-nil (IsZero nodes))
+all_zeros nodes [] (id ∷ d ∷ ids) is n = cc
+all_zeros nodes (f ∷ level) (id ∷ ids) is n = All-cons (IsZero nodes) id ids (zero nodes (f ∷ level) id is n.0) (all_zeros nodes level ids is.1 n.1)
 
 -- those of the levels after it
 pub rest : (nodes : List Node) (level : List ℕ) (ids : List NodeId) → HasField level → AreNothing nodes level ids → AreNothing nodes (next level) (drop 1 ids)

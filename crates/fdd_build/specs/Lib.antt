@@ -2,5 +2,4 @@ pub mod Rules
 pub mod Sets
 pub mod Overlay
 pub mod Nothing
-pub mod Laid
-pub mod Memo
+pub mod Lasting

@@ -11,9 +11,9 @@ ghost use Rattle.node_store.specs.Store.{Grows};
 ghost use Rattle.fdd_build.specs.Sets.{sets_seen, box_rule};
 
 use crate::boxes::{boxed, sets_of_spans};
+use crate::laying::Laying;
 use crate::nothing::nothing_from;
 use crate::overlay::Overlay;
-use crate::walk::Walk;
 use field_boxes::{Rule, Span};
 use node_store::{NodeId, Store, stated_order};
 use razor_base::Memory;
@@ -120,11 +120,11 @@ fn under_sets(
 {
     let nothing = nothing_from(alloc, store, level)?;
     let added = boxed(alloc, store, level, nothing.as_slice(), sets, decision)?;
-    let walk = Walk {
-        alloc,
+    let laying = Laying {
         overlay: Overlay::Answer,
+        nothing,
     };
-    let id = walk.lay(store, level, nothing.as_slice(), above, added)?;
+    let id = laying.lay(alloc, store, level, above, added)?;
     Ok(id)
 }
 
@@ -147,10 +147,10 @@ pub(crate) fn over_sets(
 {
     let nothing = nothing_from(alloc, store, level)?;
     let inside = boxed(alloc, store, level, nothing.as_slice(), sets, 1)?;
-    let walk = Walk {
-        alloc,
+    let laying = Laying {
         overlay: Overlay::Decision(decision),
+        nothing,
     };
-    let id = walk.lay(store, level, nothing.as_slice(), inside, below)?;
+    let id = laying.lay(alloc, store, level, inside, below)?;
     Ok(id)
 }

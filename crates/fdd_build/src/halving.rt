@@ -11,9 +11,9 @@ ghost use Rattle.fdd_build.specs.Rules.{decided, hides};
 
 use crate::boxes::boxed;
 use crate::change::over_sets;
+use crate::laying::Laying;
 use crate::nothing::nothing_from;
 use crate::overlay::Overlay;
-use crate::walk::Walk;
 use field_boxes::Rule;
 use node_store::{NodeId, Store};
 use razor_base::Memory;
@@ -38,38 +38,39 @@ pub fn build(
     ensures grows { Grows store.old store.new }
 {
     let nothing = nothing_from(alloc, store, order)?;
-    let walk = Walk {
-        alloc,
+    let laying = Laying {
         overlay: Overlay::Answer,
+        nothing,
     };
-    let id = halved(&walk, store, order, nothing.as_slice(), rules)?;
+    let id = halved(alloc, &laying, store, order, rules)?;
     Ok(id)
 }
 
 /// The same, over the halves of the list.
 fn halved(
-    walk: &Walk,
+    alloc: Global,
+    laying: &Laying,
     store: &mut Store,
     order: &[u8],
-    nothing: &[NodeId],
     rules: &[Rule],
 ) -> Result<NodeId, Memory>
     requires order { IsLevel order.now }
-    requires nothing { AreNothing store.old order.now nothing.now }
-    requires overlay { walk.now.overlay ≡ Answer }
+    requires nothing { AreNothing store.old order.now laying.now.nothing.items }
+    requires overlay { laying.now.overlay ≡ Answer }
     ensures level { IfOk result (λ id. level_of store.new id.0 ≡ order.now) }
     ensures answers { IfOk result (λ id. (values : List ℕ) → AreValues order.now values → answer store.new id.0 values ≡ decided order.now rules.now values) }
     ensures grows { Grows store.old store.new }
 {
+    let nothing = laying.nothing.as_slice();
     match rules {
         [] => Ok(nothing[0]),
-        [rule] => one_rule(walk, store, order, nothing, rule),
+        [rule] => one_rule(alloc, store, order, nothing, rule),
         _ => {
             let (first, second) = rules.split_at(rules.len() / 2);
-            let upper = halved(walk, store, order, nothing, first)?;
-            let lower = halved(walk, store, order, nothing, second)?;
-            let lower = hidden(walk.alloc, store, order, first, lower)?;
-            let id = walk.lay(store, order, nothing, upper, lower)?;
+            let upper = halved(alloc, laying, store, order, first)?;
+            let lower = halved(alloc, laying, store, order, second)?;
+            let lower = hidden(alloc, store, order, first, lower)?;
+            let id = laying.lay(alloc, store, order, upper, lower)?;
             Ok(id)
         }
     }
@@ -77,7 +78,7 @@ fn halved(
 
 /// The diagram of one rule.
 fn one_rule(
-    walk: &Walk,
+    alloc: Global,
     store: &mut Store,
     order: &[u8],
     nothing: &[NodeId],
@@ -89,14 +90,7 @@ fn one_rule(
     ensures answers { IfOk result (λ id. (values : List ℕ) → AreValues order.now values → answer store.new id.0 values ≡ decided order.now (rule.now ∷ []) values) }
     ensures grows { Grows store.old store.new }
 {
-    let id = boxed(
-        walk.alloc,
-        store,
-        order,
-        nothing,
-        &rule.sets(),
-        rule.decision,
-    )?;
+    let id = boxed(alloc, store, order, nothing, &rule.sets(), rule.decision)?;
     Ok(id)
 }
 

@@ -6,10 +6,9 @@
 //! [`under_rule`] one that does but for what a rule matches. All lay one diagram over another: where the
 //! upper one answers 0, the lower one shows.
 //!
-//! Laying is one walk over pairs of nodes of one level. A pair of which one node answers 0 everywhere is
-//! known at sight. Any other pair is worked out once and kept: two leaves by their decisions, two inner
-//! nodes part by part of their field. So the cost of a walk goes by the pairs of nodes that meet, and not
-//! by the paths, of which there may be far more. `build` halves the list and lays the first half over the
+//! Laying is one walk over pairs of nodes of one level, by [`fdd_apply::apply`], where a pair of which one
+//! node answers 0 everywhere is known at sight. So the cost of a walk goes by the pairs of nodes that meet,
+//! and not by the paths, of which there may be far more. `build` halves the list and lays the first half over the
 //! second, since each laying touches all that the two halves share, however small one of them is.
 //!
 //! ```text
@@ -27,11 +26,9 @@ mod change;
 mod filling;
 mod fork;
 mod halving;
-mod memo;
+mod laying;
 mod nothing;
 mod overlay;
-mod pair;
-mod walk;
 
 pub use change::{over, under, under_rule};
 pub use halving::build;

@@ -3,8 +3,5 @@ pub mod Covering
 pub mod Together
 pub mod Inside
 pub mod Always
-pub mod Sight
-pub mod Lasting
-pub mod UnionParts
-pub mod UnionNodes
+pub mod United
 pub mod InTurn

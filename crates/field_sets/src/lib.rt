@@ -23,11 +23,11 @@
 mod constant;
 pub mod laws;
 mod laying;
-mod pair;
 mod parting;
 mod placed;
 mod reaching;
 mod sets;
+mod uniting;
 
 pub use laying::laid;
 pub use parting::parts_within;

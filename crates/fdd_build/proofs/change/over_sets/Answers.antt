@@ -1,4 +1,4 @@
-use Rattle.std.proofs.Common.{◌∙◌, ap, sym, subst}
+use Rattle.std.proofs.Common.{◌∙◌, ap}
 use Rattle.std.specs.Prelude.{cond}
 use Rattle.field_boxes.specs.Classifier.{matches}
 use Rattle.node_store.specs.Diagram.{answer}
@@ -9,7 +9,6 @@ use Rattle.fdd_build.specs.Sets.{sets_seen, box_rule}
 use Rattle.fdd_build.proofs.Shown.{box_over}
 use Rattle.node_store.proofs.Growth as growth
 use Rattle.fdd_build.proofs.Stays as stays
-use Rattle.fdd_build.specs.Nothing.{AreNothing}
 use Rattle.fdd_build.proofs.change.over_sets.Goals as goal
 
 pub returns-clause-answers : goal.returns-clause-answers
@@ -26,8 +25,7 @@ returns-clause-answers c = λ header h.
 
 pub lay-requires-clause-nothing : goal.lay-requires-clause-nothing
 lay-requires-clause-nothing c =
-    subst (AreNothing c.boxed.new.store c.args.level.now) (sym c.as_slice-2.ensures)
-    (stays.all_nothing c.nothing_from.new.store c.boxed.new.store c.args.level.now c.in_ok-nothing.nothing.items c.in_ok-inside.ensures.grows c.requires.level c.in_ok-nothing.ensures.nothing)
+    stays.all_nothing c.nothing_from.new.store c.boxed.new.store c.args.level.now c.in_ok-nothing.nothing.items c.in_ok-inside.ensures.grows c.requires.level c.in_ok-nothing.ensures.nothing
 
 pub lay-requires-clause-lower : goal.lay-requires-clause-lower
 lay-requires-clause-lower c =

@@ -1,5 +1,6 @@
 use Rattle.std.proofs.Common.{◌≡◌, ◌∙◌, ◌/◌, ap, sym, subst, arith, length, take, drop}
-use Rattle.std.specs.Prelude.{cond}
+use Rattle.std.specs.Prelude.{cond, List, slice_index_or}
+use Rattle.node_store.specs.declared.edge.NodeId.{NodeId}
 use Rattle.std.specs.List.{list_any}
 use Rattle.std.proofs.lemmas.List.{take-append-drop}
 use Rattle.fdd_build.proofs.Zeros.{head}
@@ -17,7 +18,7 @@ pub lay-requires-clause-nothing : goal.lay-requires-clause-nothing
 lay-requires-clause-nothing t c =
     let grown = growth.twice c.args.store.now c.halved.new.store c.hidden.new.store c.in_ok-upper-in_default.ensures.grows
     (growth.twice c.halved.new.store c.halved-in_default.new.store c.hidden.new.store c.in_ok-lower-in_default.ensures.grows c.in_ok-lower-in_default-2.ensures.grows) in
-    stays.all_nothing c.args.store.now c.hidden.new.store c.args.order.now c.args.nothing.now grown c.requires.order c.requires.nothing
+    stays.all_nothing c.args.store.now c.hidden.new.store c.args.order.now c.args.laying.now.nothing.items grown c.requires.order c.requires.nothing
 
 pub lay-requires-clause-upper : goal.lay-requires-clause-upper
 lay-requires-clause-upper t c =
@@ -28,7 +29,8 @@ lay-requires-clause-upper t c =
 
 pub returns-in-empty-clause-answers : goal.returns-in-empty-clause-answers
 returns-in-empty-clause-answers t c = λ header h.
-    (head c.args.store.now c.args.order.now c.args.nothing.now (record { 0 = 0 }) c.requires.nothing).zero header h
+    ap (λ (ids : List NodeId). answer c.args.store.now (slice_index_or ids 0 (record { 0 = 0 })).0 header) c.as_slice-nothing.ensures
+    ∙ (head c.args.store.now c.args.order.now c.args.laying.now.nothing.items (record { 0 = 0 }) c.requires.nothing).zero header h
     ∙ sym (decides_none c.args.order.now header c.args.rules.now (omega (arith, c.in-empty.len_below)))
 
 pub returns-in_ok-id-in_default-clause-answers : goal.returns-in_ok-id-in_default-clause-answers
@@ -57,5 +59,5 @@ returns-in_ok-id-in_default-clause-answers t c = λ header h.
 pub halved-requires-in_default : goal.halved-requires-in_default
 halved-requires-in_default t c = (
   omega (arith, c.decreases, c.in_default.len_at_least, ap length c.split_at.ensures.back, c.split_at.ensures.back_len),
-  (c.requires.order, (stays.all_nothing c.args.store.now c.halved.new.store c.args.order.now c.args.nothing.now c.in_ok-upper-in_default.ensures.grows c.requires.order c.requires.nothing, c.requires.overlay)),
+  (c.requires.order, (stays.all_nothing c.args.store.now c.halved.new.store c.args.order.now c.args.laying.now.nothing.items c.in_ok-upper-in_default.ensures.grows c.requires.order c.requires.nothing, c.requires.overlay)),
 )

@@ -1,8 +1,9 @@
-use Rattle.field_sets.proofs.Lasting.{sets_stay}
+use Rattle.fdd_apply.proofs.Stays.{results}
+use Rattle.field_sets.specs.Unions.{united}
 use Rattle.field_sets.proofs.sets.Sets.none.Goals as goal
 
 pub invariant_of-self : goal.invariant_of-self
-invariant_of-self c = sets_stay c.self.inside.store c.answering.new.store _ c.answering.ensures.grows c.self.invariant
+invariant_of-self c = results united c.self.inside.store c.answering.new.store c.self.inside.unions c.answering.ensures.grows c.self.invariant
 
 pub invariant_of-self-2 : goal.invariant_of-self-2
-invariant_of-self-2 c = sets_stay c.self.inside.store c.answering.new.store _ c.answering.ensures.grows c.self.invariant
+invariant_of-self-2 c = results united c.self.inside.store c.answering.new.store c.self.inside.unions c.answering.ensures.grows c.self.invariant

@@ -1,0 +1,4 @@
+pub mod Stays
+pub mod Kept
+pub mod AppliedParts
+pub mod AppliedNodes

@@ -1,0 +1,29 @@
+//! Two decision diagrams combined into one, in one walk over pairs of nodes.
+//!
+//! This is what Bryant calls apply. An [`Operation`] says which number comes of two, and [`apply`] gives the node that
+//! answers, for all values of a level's fields, what comes of the answers of two nodes. A pair that the operation knows
+//! at sight ends the walk there: so a union knows that the empty set adds nothing. Any other pair is worked out once and
+//! kept in [`Results`]: two leaves by their decisions, two inner nodes part by part of their field. So the cost of a walk
+//! goes by the pairs of nodes that meet, and not by the paths, of which there may be far more.
+//!
+//! Results stay true while the store grows. A caller may keep them over many walks with one operation, or make them anew
+//! for each.
+//!
+//! ```text
+//! let mut results = Results::new(alloc);
+//! let either = apply(alloc, &Union, &mut store, &mut results, &[2, 3, 4], ports, others)?;
+//! ```
+//!
+//! The store only gains nodes: a number that was handed out before keeps what it answers, also where memory was refused
+//! on the way.
+#![tactic(auto)]
+
+mod operation;
+mod pair;
+mod results;
+mod walk;
+
+pub use operation::Operation;
+pub use pair::Pair;
+pub use results::Results;
+pub use walk::apply;

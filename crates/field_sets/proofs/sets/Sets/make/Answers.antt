@@ -1,8 +1,0 @@
-use Rattle.field_sets.proofs.Lasting.{sets_stay}
-use Rattle.field_sets.proofs.sets.Sets.make.Goals as goal
-
-pub invariant_of-self-2 : goal.invariant_of-self-2
-invariant_of-self-2 c = sets_stay c.self.inside.store c.make.new.self _ c.make.ensures.grows c.self.invariant
-
-pub invariant_of-self : goal.invariant_of-self
-invariant_of-self c = sets_stay c.self.inside.store c.make.new.self _ c.make.ensures.grows c.self.invariant
