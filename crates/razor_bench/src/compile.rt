@@ -6,8 +6,9 @@ ghost use Rattle.node_store.specs.Diagram.{level_of};
 use crate::input::{MOST_LIST_BYTES, input, list_of};
 use anyhow::{Result, bail};
 use fdd_build::build;
+use field_sift::laws::orders;
 use node_store::{NodeId, Store, stated_order};
-use redundancy::{are_prefixes, remove};
+use redundancy::{TightTable, compose_tight};
 use std::alloc::Global;
 use std::fs::Files;
 use table_compose::{compose, cost};
@@ -53,9 +54,8 @@ fn finish(rt: &(impl Print + AllocGlobal), step: Step, store: &Store, root: Node
             println!(rt; "entries {}", entries.len())?;
         }
         Step::Removal => {
-            let entries = composed(rt.alloc(), store, root)?;
-            let kept = removed(rt.alloc(), entries)?;
-            println!(rt; "entries {}", kept.len())?;
+            let table = tight(rt.alloc(), store, root)?;
+            println!(rt; "entries {}", table.entries.len())?;
         }
     }
     Ok(())
@@ -71,11 +71,13 @@ fn composed(alloc: Global, store: &Store, root: NodeId) -> Result<Vec<Entry>>
     }
 }
 
-/// Those of the entries that stay.
-fn removed(alloc: Global, entries: Vec<Entry>) -> Result<Vec<Entry>> {
-    if !are_prefixes(entries.as_slice()) {
-        bail!("a word is no prefix");
+/// Those of its entries that stay.
+fn tight(alloc: Global, store: &Store, root: NodeId) -> Result<TightTable>
+    requires { level_of store.now root.0 ≡ stated }
+{
+    orders();
+    match compose_tight(alloc, store, &stated_order(), root, MOST_ENTRIES) {
+        Ok(table) => Ok(table),
+        Err(_) => bail!("no table is composed"),
     }
-    let kept = remove(alloc, entries)?;
-    Ok(kept)
 }

@@ -1,30 +1,13 @@
 -- The flags of a whole table.
-use Rattle.std.proofs.Common.{◌≡◌, ◌∷◌, ◌+◌, ◌<◌, ℕ, List, [], Bool, length, map, ap, arith, subst, sym, ◌∙◌, get_or, inl, inr}
+use Rattle.std.proofs.Common.{◌≡◌, ◌+◌, ◌<◌, ℕ, List, [], Bool, length, ap, arith, subst, sym, ◌∙◌, get_or, inl, inr}
 use Rattle.std.proofs.lemmas.Bool.{cases_lt}
-use Rattle.std.proofs.lemmas.List.{get_or_default, length-map}
+use Rattle.std.proofs.lemmas.List.{get_or_default}
 use Rattle.ternary_words.specs.declared.entry.Entry.{Entry}
-use Rattle.node_store.specs.Diagram.{Node, answer}
-use Rattle.field_boxes.specs.Fields.{AreValues}
-use Rattle.field_sift.specs.declared.pair.Pair.{Pair}
-use Rattle.field_sift.specs.declared.sifted.Sifted.{Sifted}
-use Rattle.field_sift.specs.Built.{ArePrefixes, row_at}
-use Rattle.field_sift.specs.Contexts.{IsRight}
+use Rattle.field_sift.specs.Built.{ArePrefixes}
 use Rattle.field_sift.specs.Flags.{AreRightFlags, with_flags}
-use Rattle.field_sift.specs.Marks.{marked}
 use Rattle.field_sift.specs.Orders.{IsOrder}
 use Rattle.field_sift.specs.Pass.{Keeps}
-use Rattle.field_sift.specs.Rows.{Row}
-use Rattle.field_sift.specs.Sifted.{IsSifted, answers_of, contexts_of}
-use Rattle.field_sift.proofs.Chosen.{chosen, flags-of-pair}
-
--- what was kept of the rows of the whole table for the one context that answers nothing
-pub flags_are : (nodes : List Node) (order : List ℕ) (entries : List Entry) (level : List ℕ) (rows : List Row) (pair : Pair) (s : Sifted) → level ≡ order → rows ≡ map (row_at order) entries →
-    ((values : List ℕ) → AreValues order values → answer nodes pair.after.0 values ≡ 0) → ((values : List ℕ) → AreValues order values → answer nodes pair.met.0 values ≡ 0) →
-    IsSifted nodes level rows (pair ∷ []) s → AreRightFlags order entries s.kept.items
-flags_are nodes order entries level rows pair s same_level are after met sifted =
-    flags-of-pair nodes order pair entries s.kept.items (answers_of nodes s.after.items) (sifted.flags ∙ ap length are ∙ length-map entries (row_at order)) after met
-    (subst (λ l. IsRight l (contexts_of nodes (pair ∷ [])) (marked (map (row_at order) entries) s.kept.items) (answers_of nodes s.after.items)) same_level
-    (subst (λ rs. IsRight level (contexts_of nodes (pair ∷ [])) (marked rs s.kept.items) (answers_of nodes s.after.items)) are sifted.right))
+use Rattle.field_sift.proofs.Chosen.{chosen}
 
 -- what is flagged is what a pass keeps
 pub kept_is : (order : List ℕ) (entries seen again kept : List Entry) (flags flags_seen : List Bool) → IsOrder order → ArePrefixes entries → seen ≡ entries → again ≡ entries → flags_seen ≡ flags → AreRightFlags order seen flags →

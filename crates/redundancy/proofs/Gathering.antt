@@ -84,7 +84,7 @@ map-append : {X Y : Type 0} (f : X → Y) (xs ys : List X) → map f (xs ++ ys) 
 map-append f [] ys = refl
 map-append f (x ∷ xs) ys = ap (λ zs. f x ∷ zs) (map-append f xs ys)
 
-runs-append : (runs more : List laws.Run) → rows_of_runs (runs ++ more) ≡ rows_of_runs runs ++ rows_of_runs more
+pub runs-append : (runs more : List laws.Run) → rows_of_runs (runs ++ more) ≡ rows_of_runs runs ++ rows_of_runs more
 runs-append [] more = refl
 runs-append (r ∷ runs) more = ap (λ (rows : List Row). map (in_front r.span) r.rows ++ rows) (runs-append runs more) ∙ sym (append_assoc (map (in_front r.span) r.rows) (rows_of_runs runs) (rows_of_runs more))
 
@@ -93,13 +93,13 @@ nil-right [] = refl
 nil-right (r ∷ rows) = ap (λ (rs : List Row). r ∷ rs) (nil-right rows)
 
 -- the runs lead to blocks that keep their rows
-runs_agree : (rows others : ℕ → List Row) (runs : List Run) → All (λ r. others r.block ≡ rows r.block) runs → rows_of_runs (map (run_by others) runs) ≡ rows_of_runs (map (run_by rows) runs)
+pub runs_agree : (rows others : ℕ → List Row) (runs : List Run) → All (λ r. others r.block ≡ rows r.block) runs → rows_of_runs (map (run_by others) runs) ≡ rows_of_runs (map (run_by rows) runs)
 runs_agree rows others [] h = refl
 runs_agree rows others (r ∷ runs) h =
     ap (λ (rs : List Row). map (in_front (interval_of r.span)) rs ++ rows_of_runs (map (run_by others) runs)) (h 0 r (omega arith))
     ∙ ap (λ (rs : List Row). map (in_front (interval_of r.span)) (rows r.block) ++ rs) (runs_agree rows others runs (λ k d less. h (suc k) d (omega (arith, less))))
 
-leads_stay : (s0 s1 : List Node) (b0 b1 : Blocks) (level : List ℕ) (runs : List Run) → BlocksGrow s0 s1 b0 b1 → FitRuns b0 level runs → FitRuns b1 level runs
+pub leads_stay : (s0 s1 : List Node) (b0 b1 : Blocks) (level : List ℕ) (runs : List Run) → BlocksGrow s0 s1 b0 b1 → FitRuns b0 level runs → FitRuns b1 level runs
 leads_stay s0 s1 b0 b1 level runs g h k d less =
     let l = h k d less in
     let older = l.older in

@@ -3,13 +3,18 @@ pub mod BlockRows
 pub mod BlocksStay
 pub mod Builds
 pub mod Chosen
+pub mod Costs
 pub mod Drafting
 pub mod Ends
+pub mod Fields
+pub mod Flagged
 pub mod Gathering
 pub mod Laid
 pub mod LayerDrafts
 pub mod ListRows
 pub mod Listing
+pub mod NodeRows
+pub mod NodeRuns
 pub mod Numbers
 pub mod Once
 pub mod Places
@@ -17,4 +22,7 @@ pub mod Recalled
 pub mod Rooms
 pub mod Running
 pub mod Sequences
+pub mod Tight
 pub mod FirstRows
+pub mod WholeFlags
+pub mod Words

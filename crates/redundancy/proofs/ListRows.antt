@@ -104,7 +104,7 @@ last_link most rows links leads place link e =
 some_link : (a b : Link) → Some a ≡ Some b → a ≡ b
 some_link a b h = cc
 
-some_known : (a b : ℕ) → Some (Some a) ≡ Some (Some b) → a ≡ b
+pub some_known : (a b : ℕ) → Some (Some a) ≡ Some (Some b) → a ≡ b
 some_known a b h = cc
 
 place_cases : {X : Type 0} (xs : List X) (y : X) (k : ℕ) (x : X) → slice_get (xs ++ y ∷ []) k ≡ Some x → ((k < length xs) × (slice_get xs k ≡ Some x)) ⊎ ((k ≡ length xs) × (Some x ≡ Some y))
@@ -179,7 +179,7 @@ pub none_listed : (blocks : Blocks) (lists : Lists) → AreLists blocks lists �
 unfolding list_rows
 none_listed blocks lists h = record { lists = h; count = omega arith; stay = λ other b. refl; within = tt; rows_are = refl }
 
-set_cases : {X : Type 0} (xs : List X) (i : ℕ) (y : X) (k : ℕ) (x : X) → slice_get (set xs i y) k ≡ Some x → (slice_get xs k ≡ Some x) ⊎ ((k ≡ i) × (Some x ≡ Some y))
+pub set_cases : {X : Type 0} (xs : List X) (i : ℕ) (y : X) (k : ℕ) (x : X) → slice_get (set xs i y) k ≡ Some x → (slice_get xs k ≡ Some x) ⊎ ((k ≡ i) × (Some x ≡ Some y))
 set_cases [] i y k x e = inl e
 set_cases (z ∷ xs) zero y zero x e = inr (refl, sym e)
 set_cases (z ∷ xs) zero y (suc k) x e = inl e

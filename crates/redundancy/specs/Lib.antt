@@ -5,3 +5,6 @@ pub mod Gathered
 pub mod Remembered
 pub mod Stretches
 pub mod Drafts
+pub mod NodeRows
+pub mod Known
+pub mod Kept

@@ -44,7 +44,7 @@ pub(crate) fn take_in(
 }
 
 /// Whether a flag is true.
-fn is_some_kept(kept: &[bool]) -> bool
+pub(crate) fn is_some_kept(kept: &[bool]) -> bool
     ensures { result ≡ list_any (λ b. b) kept.now }
 {
     kept.iter().any(|flag| *flag)

@@ -5,15 +5,20 @@
 //! entry that stays can be left out alone. The words have to be prefixes in each field ([`are_prefixes`]). [`remove_in`]
 //! does the same in an order of the fields: what stays doesn't depend on it, but what it costs does.
 //!
+//! [`compose_tight`] keeps the same of the table that a diagram composes, in any order of its fields, and writes no
+//! entry that doesn't stay.
+//!
 //! ```text
 //! let tight = remove(alloc, entries)?;
+//! let table = compose_tight(alloc, &store, &order, root, 262_144)?;
 //! ```
 //!
 //! Entries are seen field by field, as *blocks*: lists of entries over the fields of a level. A block is one
 //! entry with no field left, a *layer*, or two blocks in sequence. A layer has runs whose spans of the level's field
 //! rise and are apart, each in front of a block of the next level; so no run sees the entries of another. Composed
 //! tables repeat the same entries under many prefixes: lists of runs have numbers, equal ones one, and a list that was
-//! met before has its block. Each block is kept with the set of the values that it matches.
+//! met before has its block. Of a diagram a node's number names its block, and the rows of its prefix list are the runs,
+//! each in front of the block of the row's node. Each block is kept with the set of the values that it matches.
 //!
 //! What is kept of a block is worked out for a list of *contexts*: for each, what is answered behind the block,
 //! and the set of what an entry before it matches. Of two blocks in sequence the second stands behind the first
@@ -32,20 +37,26 @@ mod block;
 mod blocks;
 mod building;
 mod contexts;
+mod diagrams;
 mod distinct;
 mod draft;
 mod finishing;
+mod keeping;
+mod known;
 mod last;
 mod layering;
 mod level;
 mod lists;
 mod memo;
+mod nodes;
 mod prefixes;
 mod removing;
 mod runs;
 mod sets;
 mod sifting;
 mod tables;
+mod whole;
 
+pub use diagrams::{TightTable, compose_tight};
 pub use prefixes::are_prefixes;
 pub use removing::{remove, remove_in};

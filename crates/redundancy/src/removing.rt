@@ -8,9 +8,8 @@ ghost use Rattle.field_sift.specs.Orders.{IsOrder};
 
 use crate::blocks::Blocks;
 use crate::lists::Lists;
-use crate::memo::Memo;
 use crate::sets::Sets;
-use field_sift::Pair;
+use crate::whole::whole_flags;
 use field_sift::laws::{one_pass, orders, whole_table};
 use node_store::stated_order;
 use razor_base::Memory;
@@ -62,15 +61,8 @@ fn flags(alloc: Global, order: &[u8], entries: &[Entry]) -> Result<Vec<bool>, Me
     let mut sets = Sets::new(alloc);
     let mut blocks = Blocks::new(alloc);
     let mut lists = Lists::new(alloc);
-    let root = blocks.of(alloc, &mut sets, &mut lists, entries, order)?;
-    let none = sets.none(order)?;
-    let context = Pair {
-        after: none,
-        met: none,
-    };
-    let mut memo = Memo::new(alloc);
-    let sifted = blocks.sift(alloc, &mut sets, &mut memo, root, &[context])?;
-    Ok(sifted.kept)
+    let block = blocks.of(alloc, &mut sets, &mut lists, entries, order)?;
+    whole_flags(alloc, &mut sets, &blocks, block, order)
 }
 
 /// The entries that are flagged.

@@ -1,7 +1,6 @@
 -- What the composed entries of a diagram are to the rules that it was made of.
-use Rattle.std.proofs.Common.{◌≡◌, ℕ, ◌≤◌, List, length, map, ap, arith, sym, subst, ◌∙◌, Some}
-use Rattle.std.specs.Prelude.{IfErr, IfOk, MatchResult, Result, Ok, Err, vec_len}
-use Rattle.std.specs.Global.{Vec}
+use Rattle.std.proofs.Common.{◌≡◌, ℕ, ◌≤◌, List, length, ap, sym, subst, ◌∙◌}
+use Rattle.std.specs.Prelude.{IfErr, IfOk, MatchResult, Result, Ok, Err}
 use Rattle.std.specs.List.{All, AllByRecursion}
 use Rattle.field_boxes.specs.declared.rule.Rule as code
 use Rattle.field_boxes.specs.Fields.{AreValues, IsHeader, stated}
@@ -10,23 +9,26 @@ use Rattle.field_boxes.specs.NamedRules.{IsNumberedBy, named_rules}
 use Rattle.field_boxes.specs.Names.{AreDistinct, name_at}
 use Rattle.ternary_words.specs.declared.entry.Entry.{Entry}
 use Rattle.ternary_words.specs.Limits.{AreNumbered}
-use Rattle.ternary_words.specs.Table.{answer as table_answer}
-use Rattle.ternary_words.specs.Views.{entry_of}
 use Rattle.node_store.specs.Diagram.{Node, answer, level_of}
 use Rattle.node_store.specs.Store.{IsStore}
 use Rattle.fdd_build.specs.Rules.{decided}
 use Rattle.fdd_build.proofs.Decided.{named, within}
 use Rattle.table_compose.specs.LeastCost.{IsLeastCost}
 use Rattle.table_compose.specs.Diagrams.{DecideAs, IsCostOf, NamesApart}
-use Rattle.table_compose.specs.Composed.{AreComposed, IsAnswer, IsRefusal, decided as decided_first}
+use Rattle.table_compose.specs.Composed.{IsAnswer, IsRefusal}
 use Rattle.table_compose.specs.declared.composition.ComposeError.{ComposeError}
 use Rattle.table_compose.specs.declared.composition.ComposeError.TheVariants.{TooMany, Memory}
+use Rattle.field_sift.specs.Built.{ArePrefixes}
+use Rattle.field_sift.specs.Entries.{IsTight, answer as number_answer}
 use Rattle.field_sift.specs.Orders.{IsOrder, picked}
 use Rattle.field_sift.proofs.Orders.{picked_values}
 use Rattle.rule_compilation.specs.Compiled.{IsRefusedIn}
-use Rattle.rule_compilation.specs.Entries.{AreEntriesOf}
-use Rattle.rule_compilation.specs.Pass.{AreComposedOf, IsDiagramOf}
+use Rattle.redundancy.specs.declared.diagrams.TightTable.{TightTable}
+use Rattle.redundancy.specs.Kept.{AreKeptOf}
+use Rattle.rule_compilation.specs.Entries.{AreTightOf}
+use Rattle.rule_compilation.specs.Pass.{IsDiagramOf}
 use Rattle.rule_compilation.proofs.Ordered.{source_in}
+use Rattle.rule_compilation.proofs.Removed.{answer_named}
 
 -- the node of a store answers every header what the rules decide, and the rules decide numbers of these names
 pub record IsBuiltOf (order : List ℕ) (names : List (List ℕ)) (rules : List code.Rule) (nodes : List Node) (root : ℕ) : Type 0 where
@@ -70,17 +72,22 @@ pub refused : (order : List ℕ) (names : List (List ℕ)) (rules : List code.Ru
 refused order names rules nodes root limit Memory d h = tt
 refused order names rules nodes root limit (TooMany needed most) d h = (cost_of_rules order names rules nodes root needed d h.0, h.1, h.2)
 
--- what composing the diagram comes to, said of the rules
-pub compiled : (order : List ℕ) (names : List (List ℕ)) (rules : List code.Rule) (nodes : List Node) (root limit : ℕ) (result : Result (Vec Entry) ComposeError) → IsBuiltOf order names rules nodes root →
-    ((entries : List Entry) (header : List ℕ) (n : ℕ) → decided_first entries header ≡ Some n → table_answer (map (entry_of names) entries) header ≡ name_at names n) →
-    IfOk result (λ es. AreComposed nodes order root es.items) → IfOk result (λ es. IsCostOf nodes order root (vec_len es)) →
-    IfOk result (λ es. (header : List ℕ) → IsHeader header → decided_first es.items header ≡ Some (answer nodes root (picked order header))) →
-    IfOk result (λ es. All (λ e. IsAnswer nodes order root e.decision) es.items) → IfErr result (λ e. IsRefusal nodes order root limit e) →
-    MatchResult result (λ es. AreEntriesOf order names (named_rules names rules) es.items) (λ e. IsRefusedIn order (named_rules names rules) limit e)
-compiled order names rules nodes root limit (Ok es) d have_names composed cost answers decisions refusal = record {
-  composed = (nodes, root, diagram_of order names rules nodes root d, composed);
-  many = cost_of_rules order names rules nodes root (length es.items) d (subst (λ n. IsCostOf nodes order root n) (omega (arith, es.ok.0)) cost);
-  numbered = are_numbered order names rules nodes root es.items d decisions;
-  answers = λ header is. have_names es.items header (answer nodes root (picked order header)) (answers header is) ∙ by_header order names rules nodes root d header is;
+-- what composing the diagram without redundant entries comes to, said of the rules
+pub compiled : (order : List ℕ) (names : List (List ℕ)) (rules : List code.Rule) (nodes : List Node) (root limit : ℕ) (result : Result TightTable ComposeError) → IsBuiltOf order names rules nodes root →
+    IfOk result (λ t. IsCostOf nodes order root t.composed) → IfOk result (λ t. AreKeptOf nodes order root t.composed t.entries.items) → IfOk result (λ t. length t.entries.items ≤ t.composed) → IfOk result (λ t. IsTight t.entries.items) →
+    IfOk result (λ t. (header : List ℕ) → IsHeader header → number_answer t.entries.items header ≡ answer nodes root (picked order header)) →
+    IfOk result (λ t. All (λ e. IsAnswer nodes order root e.decision) t.entries.items) → IfOk result (λ t. ArePrefixes t.entries.items) → IfErr result (λ e. IsRefusal nodes order root limit e) →
+    MatchResult result (λ t. AreTightOf order names (named_rules names rules) t.composed t.entries.items) (λ e. IsRefusedIn order (named_rules names rules) limit e)
+compiled order names rules nodes root limit (Ok t) d cost kept few tight answers decisions prefixes refusal = record {
+  least = cost_of_rules order names rules nodes root t.composed d cost;
+  few = few;
+  numbered = are_numbered order names rules nodes root t.entries.items d decisions;
+  answers = λ header is. answer_named names t.entries.items header ∙ ap (name_at names) (answers header is) ∙ by_header order names rules nodes root d header is;
+  prefixes = prefixes;
+  all = kept.all;
+  made = (nodes, root, diagram_of order names rules nodes root d, kept.composed);
+  many = kept.many;
+  pass = kept.pass;
+  tight = tight;
 }
-compiled order names rules nodes root limit (Err e) d have_names composed cost answers decisions refusal = refused order names rules nodes root limit e d refusal
+compiled order names rules nodes root limit (Err e) d cost kept few tight answers decisions prefixes refusal = refused order names rules nodes root limit e d refusal

@@ -3,18 +3,8 @@ use Rattle.std.proofs.Common.{◌≡◌, ◌∷◌, ℕ, List, [], Bool, cond, a
 use Rattle.std.specs.Prelude.{◌&&◌, find, option_map, slice_index}
 use Rattle.field_boxes.specs.Classifier.{Rule, matches, set_holds, source}
 use Rattle.field_boxes.specs.Fields.{IsHeader, stated}
-use Rattle.field_sift.specs.Orders.{AreDistinct, IsMissing, IsOrder, picked}
+use Rattle.field_sift.specs.Orders.{IsOrder, picked}
 use Rattle.field_sift.proofs.Orders.{any_order, of_all, picked_stated}
-use Rattle.table_compose.specs.Composed as tables
-
--- the same said of a table's fields
-missing : (f : ℕ) (level : List ℕ) → IsMissing f level → tables.Missing f level
-missing f [] h = tt
-missing f (g ∷ level) h = (h.0, missing f level h.1)
-
-pub distinct : (level : List ℕ) → AreDistinct level → tables.AreDistinct level
-distinct [] h = tt
-distinct (f ∷ level) h = (missing f level h.0, distinct level h.1)
 
 -- whether the rule's set of a field holds the header's value
 abbrev holds_in : {A : Type 0} → List ℕ → Rule A → ℕ → Bool

@@ -1,5 +1,5 @@
 -- Tables of which entries were removed, by number and by name.
-use Rattle.std.proofs.Common.{◌≡◌, ◌∷◌, ℕ, zero, suc, ◌≤◌, List, [], Bool, true, false, cond, length, map, ap, arith, refl, sym, subst, ◌∙◌, Some, inl, inr}
+use Rattle.std.proofs.Common.{◌≡◌, ◌∷◌, ℕ, zero, suc, ◌≤◌, List, [], Bool, true, false, cond, length, map, ap, arith, refl, sym, ◌∙◌, Some}
 use Rattle.std.specs.Prelude.{find, Option, option_and_then}
 use Rattle.std.specs.List.{All, remove}
 use Rattle.std.proofs.lemmas.List.{length-map}
@@ -19,15 +19,10 @@ answer_step names true e o n h = refl
 answer_step names false e o n h = h
 
 -- what a table answers by name is the name of what it answers by number
-answer_named : (names : List (List ℕ)) (es : List code.Entry) (header : List ℕ) → answer (map (entry_of names) es) header ≡ name_at names (numbers.answer es header)
+pub answer_named : (names : List (List ℕ)) (es : List code.Entry) (header : List ℕ) → answer (map (entry_of names) es) header ≡ name_at names (numbers.answer es header)
 answer_named names [] header = refl
 answer_named names (e ∷ es) header =
     answer_step names (agrees (word_of e.word) (header_bits header)) e (find (entry_matches header) (map (entry_of names) es)) (numbers.answer es header) (answer_named names es header)
-
--- what is answered alike by number is answered alike by name
-pub answers_stay : (names : List (List ℕ)) (xs ys : List code.Entry) (header : List ℕ) → numbers.answer xs header ≡ numbers.answer ys header →
-    answer (map (entry_of names) xs) header ≡ answer (map (entry_of names) ys) header
-answers_stay names xs ys header same = answer_named names xs header ∙ ap (name_at names) same ∙ sym (answer_named names ys header)
 
 bounded_step : (count : ℕ) (t : Bool) (e : code.Entry) (n : ℕ) → e.decision ≤ count → n ≤ count → cond t e.decision n ≤ count
 bounded_step count true e n h rest = h
@@ -39,18 +34,6 @@ bounded count [] header h = omega arith
 bounded count (e ∷ es) header h =
     bounded_step count (agrees (word_of e.word) (header_bits header)) e (numbers.answer es header) (All-head (λ x. x.decision ≤ count) e es h)
     (bounded count es header (All-tail (λ x. x.decision ≤ count) e es h))
-
--- what holds of all entries holds of a part of them
-pub all_of_part : (P : code.Entry → Type 0) (xs ys : List code.Entry) → numbers.IsPart xs ys → All P ys → All P xs
-all_of_part P xs [] part all = subst (All P) (sym part) (All-nil P)
-all_of_part P xs (y ∷ ys) (inl kept) all = subst (All P) (sym kept.1) (All-cons P y kept.0 (All-head P y ys all) (all_of_part P kept.0 ys kept.2 (All-tail P y ys all)))
-all_of_part P xs (y ∷ ys) (inr part) all = all_of_part P xs ys part (All-tail P y ys all)
-
--- a part is no longer than the whole
-pub part_few : (xs ys : List code.Entry) → numbers.IsPart xs ys → length xs ≤ length ys
-part_few xs [] part = omega (arith, ap length part)
-part_few xs (y ∷ ys) (inl kept) = omega (arith, ap length kept.1, part_few kept.0 ys kept.2)
-part_few xs (y ∷ ys) (inr part) = omega (arith, part_few xs ys part)
 
 all_left : (P : code.Entry → Type 0) (xs : List code.Entry) (place : ℕ) → All P xs → All P (remove xs place)
 all_left P [] zero all = All-nil P

@@ -1,5 +1,5 @@
 -- Entries with the numbers of their decisions, as a table of the names.
-use Rattle.std.specs.Prelude.{◌≡◌, ℕ, List, length, map}
+use Rattle.std.specs.Prelude.{◌≡◌, ℕ, ◌≤◌, List, [], length, map}
 use Rattle.field_boxes.specs.Classifier.{Rule, source}
 use Rattle.field_boxes.specs.Fields.{IsHeader, stated}
 use Rattle.ternary_words.specs.declared.entry.Entry as code
@@ -7,12 +7,21 @@ use Rattle.ternary_words.specs.Limits.{AreNumbered}
 use Rattle.ternary_words.specs.Table.{answer}
 use Rattle.ternary_words.specs.Views.{entry_of}
 use Rattle.table_compose.specs.LeastCost.{IsLeastCost}
+use Rattle.field_sift.specs.Built.{ArePrefixes}
+use Rattle.field_sift.specs.Entries.{IsTight}
+use Rattle.field_sift.specs.Pass.{Keeps}
 use Rattle.rule_compilation.specs.Pass.{AreComposedOf}
 
--- the entries are the table of the rules' diagram in the order, decide every header as the rules do, by these names, and
--- are as many as the rules' least cost
-pub record AreEntriesOf (order : List ℕ) (names : List (List ℕ)) (rules : List (Rule (List ℕ))) (entries : List code.Entry) : Type 0 where
-  pub composed : AreComposedOf order names rules entries
-  pub many : IsLeastCost order rules (length entries)
+-- the entries decide every header as the rules do, by these names; they are what a pass keeps of so many entries that are
+-- the table of the rules' diagram in the order, as many as the rules' least cost
+pub record AreTightOf (order : List ℕ) (names : List (List ℕ)) (rules : List (Rule (List ℕ))) (composed : ℕ) (entries : List code.Entry) : Type 0 where
+  pub least : IsLeastCost order rules composed
+  pub few : length entries ≤ composed
   pub numbered : AreNumbered (length names) entries
   pub answers : (header : List ℕ) → IsHeader header → answer (map (entry_of names) entries) header ≡ source stated header rules
+  pub prefixes : ArePrefixes entries
+  pub all : List code.Entry
+  pub made : AreComposedOf order names rules all
+  pub many : length all ≡ composed
+  pub pass : Keeps [] all entries
+  pub tight : IsTight entries

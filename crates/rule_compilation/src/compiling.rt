@@ -1,24 +1,23 @@
 //! The table of a rule list.
-ghost use Rattle.std.specs.Prelude.{◌≡◌, ◌≤◌, ℕ, All, IfOk, MatchResult, length};
+ghost use Rattle.std.specs.Prelude.{◌≡◌, ◌≤◌, ℕ, All, IfOk, MatchResult};
 ghost use Rattle.field_boxes.specs.Fields.{stated};
 ghost use Rattle.field_boxes.specs.NamedRules.{IsNumberedBy, named_rules};
 ghost use Rattle.ternary_words.specs.Limits.{IsSlotWidth};
 ghost use Rattle.ternary_words.specs.Views.{table_of};
-ghost use Rattle.field_sift.specs.Built.{ArePrefixes};
 ghost use Rattle.field_sift.specs.Orders.{IsOrder};
 ghost use Rattle.table_compose.specs.LeastCost.{IsLeastCost};
 ghost use Rattle.rule_compilation.specs.Compiled.{IsCompiled, IsCompiledIn, IsRefused, IsRefusedIn};
-ghost use Rattle.rule_compilation.specs.Entries.{AreEntriesOf};
+ghost use Rattle.rule_compilation.specs.Entries.{AreTightOf};
 
 use fdd_build::build;
 use field_boxes::{Decisions, Rule};
 use field_sift::laws::orders;
 use node_store::{Store, stated_order};
-use redundancy::remove_in;
+use redundancy::{TightTable, compose_tight};
 use std::alloc::Global;
-use table_compose::laws::{decisions_have_names, distinct_names_tell_apart, one_least_cost};
-use table_compose::{ComposeError, compose};
-use ternary_words::{Entry, Table};
+use table_compose::ComposeError;
+use table_compose::laws::{distinct_names_tell_apart, one_least_cost};
+use ternary_words::Table;
 
 /// The table that decides every header as the rules do, for slots of `slot` trits (104, 144 or 288).
 ///
@@ -68,9 +67,7 @@ pub fn compile_in(
 {
     one_least_cost();
     names.are_names();
-    let entries = composed_entries(alloc, order, rules, names, limit)?;
-    let composed = entries.len() as u32;
-    let entries = remove_in(alloc, order, entries)?;
+    let TightTable { composed, entries } = tight_table(alloc, order, rules, names, limit)?;
     let names = names.copy(alloc)?;
     Ok(Table {
         slot,
@@ -80,27 +77,25 @@ pub fn compile_in(
     })
 }
 
-/// The entries of the table that is composed in the order, as many as the least cost.
-fn composed_entries(
+/// What stays of the table that is composed in the order, which has as many entries as the least cost.
+fn tight_table(
     alloc: Global,
     order: &[u8],
     rules: &[Rule],
     names: &Decisions,
     limit: u32,
-) -> Result<Vec<Entry>, ComposeError>
+) -> Result<TightTable, ComposeError>
     requires order { IsOrder order.now }
     requires numbered { All (IsNumberedBy names.now) rules.now }
-    ensures entries { MatchResult result
-        (λ entries. AreEntriesOf order.now names.now (named_rules names.now rules.now) entries.items)
+    ensures table { MatchResult result
+        (λ table. AreTightOf order.now names.now (named_rules names.now rules.now) table.composed table.entries.items)
         (λ e. IsRefusedIn order.now (named_rules names.now rules.now) limit e) }
-    ensures prefixes { IfOk result (λ entries. ArePrefixes entries.items) }
-    ensures within { IfOk result (λ entries. length entries.items ≤ limit) }
+    ensures within { IfOk result (λ table. table.composed ≤ limit) }
 {
     names.are_names();
     distinct_names_tell_apart();
-    decisions_have_names();
     let mut store = Store::new(alloc);
     let root = build(alloc, &mut store, order, rules)?;
     store.same_answers();
-    compose(alloc, &store, order, root, limit)
+    compose_tight(alloc, &store, order, root, limit)
 }

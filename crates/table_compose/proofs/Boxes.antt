@@ -20,7 +20,7 @@ use Rattle.std.specs.Global.{Vec}
 use Rattle.table_compose.specs.declared.row.Row.{Row}
 use Rattle.table_compose.specs.Rows.{rows_at}
 use Rattle.table_compose.specs.Plans.{IsMarked, AreClosedFrom, IsListOf, ArePlanned, width_of}
-use Rattle.table_compose.specs.Composed.{Box, behind, boxes, in_turn, HaveLists}
+use Rattle.table_compose.specs.Composed.{Box, behind, boxes, in_turn, HaveCosts, HaveLists}
 use Rattle.table_compose.proofs.Later.{child_older, child_marked, inner_of}
 
 -- as many boxes as the rows' children have together
@@ -114,33 +114,28 @@ decide_by nodes lists s (f ∷ fields) id is level h =
     let child = child_older nodes id r.label s (subst HasField (sym level) is) (h.0.children k d less) in
     decide_by nodes lists s fields r.label is.1 (child.1 ∙ ap next level) (h.1 k d less))
 
--- each node of the diagram has its list, and its rows cost what their children do
-abbrev pub CostLists : List Node → (ℕ → List PrefixRow) → List ℕ → List ℕ → ℕ → Type 0
-CostLists nodes lists costs [] id = slice_index costs id ≡ 1
-CostLists nodes lists costs (f ∷ fields) id = (weight costs (lists id) ≡ slice_index costs id) × All (λ r. CostLists nodes lists costs fields r.label) (lists id)
-
 -- as many boxes as the node costs
-pub count : (nodes : List Node) (lists : ℕ → List PrefixRow) (costs fields : List ℕ) (id : ℕ) → CostLists nodes lists costs fields id → length (boxes nodes lists fields id) ≡ slice_index costs id
-count nodes lists costs [] id h = sym h
+pub count : (nodes : List Node) (lists : ℕ → List PrefixRow) (costs fields : List ℕ) (id : ℕ) → HaveCosts nodes lists costs fields id → length (boxes nodes lists fields id) ≡ slice_index costs id
+count nodes lists costs [] id h = sym h.1
 count nodes lists costs (f ∷ fields) id h =
-    length_rows (boxes nodes lists fields) costs (lists id) (λ k d less. count nodes lists costs fields (slice_index_or (lists id) k d).label (h.1 k d less)) ∙ h.0
+    length_rows (boxes nodes lists fields) costs (lists id) (λ k d less. count nodes lists costs fields (slice_index_or (lists id) k d).label (h.2 k d less)) ∙ h.1
 
 -- what is planned of a diagram gives each of its nodes its list, with the costs of its rows
 pub have_by : (nodes : List Node) (marks : List Bool) (costs : List ℕ) (lists : List (Vec Row)) → IsStore nodes → AreClosedFrom nodes 0 marks → ArePlanned nodes marks costs lists →
     (level : List ℕ) (id : ℕ) → IsLevel level → level_of nodes id ≡ level → id < length costs → IsMarked marks id →
-    HaveLists nodes (rows_at lists) level id × CostLists nodes (rows_at lists) costs level id
-have_by nodes marks costs lists s closed planned [] id is level less marked = (tt, (planned id less marked).leaf level)
+    HaveLists nodes (rows_at lists) level id × HaveCosts nodes (rows_at lists) costs level id
+have_by nodes marks costs lists s closed planned [] id is level less marked = (tt, (less, (planned id less marked).leaf level))
 have_by nodes marks costs lists s closed planned (f ∷ fields) id is level less marked =
     let has : HasField (level_of nodes id) = subst HasField (sym level) is in
     let p = planned id less marked in
-    let below : (k : ℕ) (d : PrefixRow) → k < length (rows_at lists id) → HaveLists nodes (rows_at lists) fields (slice_index_or (rows_at lists id) k d).label × CostLists nodes (rows_at lists) costs fields (slice_index_or (rows_at lists id) k d).label =
+    let below : (k : ℕ) (d : PrefixRow) → k < length (rows_at lists id) → HaveLists nodes (rows_at lists) fields (slice_index_or (rows_at lists id) k d).label × HaveCosts nodes (rows_at lists) costs fields (slice_index_or (rows_at lists id) k d).label =
     λ k d within.
     let r = slice_index_or (rows_at lists id) k d in
     let c = (p.list has).children k d within in
     let child = child_older nodes id r.label s has c in
     let mark = subst (IsMarked marks) c.2 (child_marked nodes marks id c.0 closed marked (inner_of nodes id s has) c.1) in
     have_by nodes marks costs lists s closed planned fields r.label is.1 (child.1 ∙ ap next level) (omega (arith, child.0, less)) mark in
-    ((p.list has, λ k d within. (below k d within).0), (p.sum has, λ k d within. (below k d within).1))
+    ((p.list has, λ k d within. (below k d within).0), (less, p.sum has, λ k d within. (below k d within).1))
 
 count_rows : (tables : ℕ → List Box) (n : ℕ) (rows : List PrefixRow) → ((id : ℕ) → All (λ b. length b.prefixes ≡ n) (tables id)) → All (λ b. length b.prefixes ≡ suc n) (in_turn tables rows)
 count_rows tables n [] h = All-nil (λ (b : Box). length b.prefixes ≡ suc n)

@@ -8,7 +8,7 @@ use Rattle.prefix_min.specs.declared.row.PrefixRow.{PrefixRow}
 use Rattle.prefix_min.specs.PrefixList.{IsRight, weight}
 use Rattle.table_compose.specs.LeastCost.{Choice, IsPlan, IsLeastCost, plan_cost}
 use Rattle.table_compose.proofs.OneCost.{cost-unique}
-use Rattle.table_compose.proofs.Plans.{LabelsResidues, IsTaken, rows_of, weight-rows, right-rows, plan-rows, planned}
+use Rattle.table_compose.proofs.Choices.{LabelsResidues, IsTaken, rows_of, weight-rows, right-rows, plan-rows, planned}
 
 -- a right list of labels that are taken, which weighs n, and no right list weighs less
 pub record IsCheapestList (w : ℕ) (lab : ℕ → ℕ) (weights : List ℕ) (rows : List PrefixRow) (n : ℕ) : Type 0 where

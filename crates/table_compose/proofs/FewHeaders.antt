@@ -8,7 +8,7 @@ use Rattle.field_boxes.specs.Classifier.{Rule, residue}
 use Rattle.table_compose.specs.LeastCost.{Choice, IsPlan, IsLeastCost, AreAlike}
 use Rattle.node_store.specs.Levels.{bits_of}
 use Rattle.table_compose.proofs.OneCost.{alike-cost, alike-sym}
-use Rattle.table_compose.proofs.Plans.{All-found}
+use Rattle.table_compose.proofs.Choices.{All-found}
 use Rattle.table_compose.proofs.Singles.{AreSingles, singles}
 
 pub narrow : (f : ℕ) → width f ≤ 32

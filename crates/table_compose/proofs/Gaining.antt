@@ -25,14 +25,14 @@ use Rattle.table_compose.proofs.Later.{child_older}
 use Rattle.node_store.specs.Levels.{HasField, next}
 
 -- results of two lists, one after another
-zip_append : {A B : Type 0} (R : A → B → Type 0) (xs cs : List A) (bs ds : List B) → AllZip R xs bs → AllZip R cs ds → AllZip R (xs ++ cs) (bs ++ ds)
+pub zip_append : {A B : Type 0} (R : A → B → Type 0) (xs cs : List A) (bs ds : List B) → AllZip R xs bs → AllZip R cs ds → AllZip R (xs ++ cs) (bs ++ ds)
 zip_append R [] cs [] ds p q = q
 zip_append R [] cs (b ∷ bs) ds p q = absurd p
 zip_append R (a ∷ xs) cs [] ds p q = absurd p
 zip_append R (a ∷ xs) cs (b ∷ bs) ds p q = (p.0, zip_append R xs cs bs ds p.1 q)
 
 -- the boxes of one row more
-turn_more : (tables : ℕ → List Box) (rows : List Row) (i : ℕ) (d : Row) → i < length rows →
+pub turn_more : (tables : ℕ → List Box) (rows : List Row) (i : ℕ) (d : Row) → i < length rows →
     in_turn tables (rows_of (take (i + 1) rows)) ≡ in_turn tables (rows_of (take i rows)) ++ map (behind ((slice_index_or rows i d).prefix ∷ [])) (tables (slice_index_or rows i d).to.0)
 turn_more tables rows i d less =
     let r = slice_index_or rows i d in
@@ -45,7 +45,7 @@ turn_more tables rows i d less =
     ∙ ap (λ xs. in_turn tables (rows_of (take i rows)) ++ xs) (append-nil (table (row_of r)))
 
 -- the entries of a row's node are those of the row
-one_row : (f : ℕ) (level : List ℕ) (base : List Prefix) (p : Prefix) (bs : List Box) (es : List Entry) → AllZip (IsPlaced level (slice_set base f p)) bs es →
+pub one_row : (f : ℕ) (level : List ℕ) (base : List Prefix) (p : Prefix) (bs : List Box) (es : List Entry) → AllZip (IsPlaced level (slice_set base f p)) bs es →
     AllZip (IsPlaced (f ∷ level) base) (map (behind (p ∷ [])) bs) es
 one_row f level base p [] [] z = tt
 one_row f level base p [] (e ∷ es) z = absurd z
@@ -102,7 +102,7 @@ lists_at nodes lists [] id has have = absurd has
 lists_at nodes lists (f ∷ level) id has have = have
 
 -- what holds of each row of a list holds of each of its rows as the code has it
-all_row : (P : PrefixRow → Type 0) (rows : List PrefixRow) (items : List Row) (i : ℕ) (d : Row) → rows ≡ rows_of items → i < length items → All P rows → P (row_of (slice_index_or items i d))
+pub all_row : (P : PrefixRow → Type 0) (rows : List PrefixRow) (items : List Row) (i : ℕ) (d : Row) → rows ≡ rows_of items → i < length items → All P rows → P (row_of (slice_index_or items i d))
 all_row P rows items i d is less all =
     let n = length-map items row_of in
     subst P (get_or-map row_of items i d (row_of d) less) (subst (λ rs. All P rs) is all i (row_of d) (omega (arith, n, less)))

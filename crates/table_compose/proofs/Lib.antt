@@ -1,5 +1,5 @@
 pub mod OneCost
-pub mod Plans
+pub mod Choices
 pub mod Singles
 pub mod FewHeaders
 pub mod Cheapest

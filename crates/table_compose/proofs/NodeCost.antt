@@ -23,7 +23,7 @@ use Rattle.prefix_min.specs.PrefixList.{IsRight, weight}
 use Rattle.table_compose.specs.LeastCost.{AreAlike, IsLeastCost}
 use Rattle.table_compose.specs.Diagrams.{DecideAs, NamesApart, IsCostOf}
 use Rattle.table_compose.specs.Labels.{children_of, ArePieces}
-use Rattle.table_compose.proofs.Plans.{LabelsResidues, IsTaken}
+use Rattle.table_compose.proofs.Choices.{LabelsResidues, IsTaken}
 use Rattle.table_compose.proofs.Cheapest.{IsCheapestList, WeighsResidues, cheapest-list}
 use Rattle.table_compose.proofs.Children.{once, taken}
 use Rattle.table_compose.proofs.Labelled.{leads, end_leads}

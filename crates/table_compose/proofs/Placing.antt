@@ -1,5 +1,5 @@
 -- Prefixes put at their fields' places hold a header as they hold its values in their own order.
-use Rattle.std.proofs.Common.{◌≡◌, ◌≢◌, ◌∷◌, ℕ, zero, suc, List, [], ◌<◌, ◌/◌, ◌^◌, Bool, true, false, length, map, ap, arith, refl, sym, ◌∙◌, subst, set}
+use Rattle.std.proofs.Common.{◌≡◌, ◌∷◌, ℕ, zero, suc, List, [], ◌<◌, ◌/◌, ◌^◌, Bool, true, false, length, map, ap, arith, refl, sym, ◌∙◌, subst, set}
 use Rattle.std.specs.Prelude.{◌&&◌, ◌-◌, nat_eq, slice_index, slice_index_or}
 use Rattle.std.proofs.lemmas.List.{get_or-set_other, length-set}
 use Rattle.std.proofs.lemmas.Nat.{pow_pos}

@@ -32,7 +32,7 @@ use Rattle.table_compose.specs.declared.row.Row.{Row}
 use Rattle.table_compose.specs.Plans.{IsCosted, IsChild, IsPlanned, width_of}
 use Rattle.table_compose.specs.Rows.{child_at, led, rows_of as leading_of, row_of as as_label}
 use Rattle.table_compose.proofs.FewHeaders.{narrow}
-use Rattle.table_compose.proofs.Plans.{row_of, rows_of, front-rows, weight-rows}
+use Rattle.table_compose.proofs.Choices.{row_of, rows_of, front-rows, weight-rows}
 use Rattle.table_compose.proofs.Singles.{AreSingles, singles}
 use Rattle.table_compose.proofs.Children.{taken}
 use Rattle.table_compose.proofs.Labelled.{follow, whole, light}

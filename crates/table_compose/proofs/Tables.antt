@@ -1,12 +1,12 @@
 -- What the entries of a whole table say.
-use Rattle.std.proofs.Common.{◌≡◌, ◌∷◌, ◌++◌, ℕ, suc, List, [], Bool, true, false, length, ap, arith, refl, rules, sym, ◌∙◌, subst}
+use Rattle.std.proofs.Common.{◌≡◌, ◌∷◌, ◌++◌, ℕ, suc, List, [], Bool, true, false, length, ap, arith, refl, sym, ◌∙◌, subst}
 use Rattle.std.specs.Prelude.{cond, find, Option, Some, option_map, slice_index}
 use Rattle.std.specs.List.{All, AllZip}
 use Rattle.std.specs.Global.{Vec}
 use Rattle.std.proofs.lemmas.List.Elements.{All-nil, All-cons, All-head, All-tail}
 use Rattle.field_boxes.specs.declared.prefix.Prefix.{Prefix}
 use Rattle.node_store.specs.Levels.{IsLevel}
-use Rattle.field_boxes.specs.Fields.{stated, IsHeader}
+use Rattle.field_boxes.specs.Fields.{IsHeader}
 use Rattle.ternary_words.specs.declared.entry.Entry.{Entry}
 use Rattle.ternary_words.specs.Word.{agrees, header_bits}
 use Rattle.ternary_words.specs.Prefixes.{all_hold}
@@ -17,9 +17,9 @@ use Rattle.prefix_min.specs.declared.row.PrefixRow.{PrefixRow}
 use Rattle.table_compose.specs.declared.row.Row.{Row}
 use Rattle.table_compose.specs.Rows.{rows_at}
 use Rattle.table_compose.specs.Plans.{ArePlans}
-use Rattle.table_compose.specs.Composed.{Box, boxes, HaveLists, IsPlaced, placed, picked, open_all, AreDistinct, Gains, IsPrefixWord, decided}
+use Rattle.table_compose.specs.Composed.{Box, boxes, HaveCosts, HaveLists, IsPlaced, placed, picked, open_all, AreDistinct, Gains, IsPrefixWord, decided}
 use Rattle.table_compose.proofs.Placing.{box_at, picked_values}
-use Rattle.table_compose.proofs.Boxes.{CostLists, prefix_count, count, decide_by, first_of, have_by}
+use Rattle.table_compose.proofs.Boxes.{prefix_count, count, decide_by, first_of, have_by}
 
 same_length : (level : List ℕ) (bs : List Box) (es : List Entry) → AllZip (IsPlaced level open_all) bs es → length es ≡ length bs
 same_length level [] [] z = refl
@@ -54,14 +54,13 @@ prefix_words level (b ∷ bs) (e ∷ es) z = All-cons (λ x. IsPrefixWord x.word
 
 -- what is planned of a diagram: each node has its list, with the costs of its rows
 pub have_all : (nodes : List Node) (fields : List ℕ) (root : ℕ) (costs : List ℕ) (lists : List (Vec Row)) → IsStore nodes → IsLevel fields → level_of nodes root ≡ fields → ArePlans nodes root costs lists →
-    HaveLists nodes (rows_at lists) fields root × CostLists nodes (rows_at lists) costs fields root
+    HaveLists nodes (rows_at lists) fields root × HaveCosts nodes (rows_at lists) costs fields root
 have_all nodes fields root costs lists s is level p = have_by nodes p.marks costs lists s p.closed p.planned fields root is level (omega (arith, p.count)) p.root_marked
 
 -- as many entries as the diagram costs
-pub counted : (nodes : List Node) (fields : List ℕ) (root : ℕ) (costs : List ℕ) (lists : List (Vec Row)) (es : List Entry) → IsStore nodes → IsLevel fields → level_of nodes root ≡ fields → ArePlans nodes root costs lists →
-    AllZip (IsPlaced fields open_all) (boxes nodes (rows_at lists) fields root) es → length es ≡ slice_index costs root
-counted nodes fields root costs lists es s is level p z =
-    same_length fields (boxes nodes (rows_at lists) fields root) es z ∙ count nodes (rows_at lists) costs fields root (have_all nodes fields root costs lists s is level p).1
+pub counted : (nodes : List Node) (fields : List ℕ) (root : ℕ) (costs : List ℕ) (lists : ℕ → List PrefixRow) (es : List Entry) → HaveCosts nodes lists costs fields root →
+    AllZip (IsPlaced fields open_all) (boxes nodes lists fields root) es → length es ≡ slice_index costs root
+counted nodes fields root costs lists es have z = same_length fields (boxes nodes lists fields root) es z ∙ count nodes lists costs fields root have
 
 -- the first entry that matches a header has the diagram's answer
 pub answers : (nodes : List Node) (fields : List ℕ) (root : ℕ) (lists : ℕ → List PrefixRow) (es : List Entry) → IsStore nodes → IsLevel fields → AreDistinct fields → level_of nodes root ≡ fields → HaveLists nodes lists fields root →

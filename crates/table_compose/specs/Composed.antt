@@ -10,6 +10,7 @@ use Rattle.ternary_words.specs.Prefixes.{FitFields, all_hold, fields_trits}
 use Rattle.ternary_words.specs.Views.{word_of}
 use Rattle.node_store.specs.Diagram.{Node, answer}
 use Rattle.prefix_min.specs.declared.row.PrefixRow.{PrefixRow}
+use Rattle.prefix_min.specs.PrefixList.{weight}
 use Rattle.table_compose.specs.Diagrams.{IsCostOf}
 use Rattle.table_compose.specs.Plans.{IsListOf}
 use Rattle.table_compose.specs.declared.composition.ComposeError.{ComposeError}
@@ -37,6 +38,11 @@ boxes nodes lists (f ∷ fields) id = in_turn (boxes nodes lists fields) (lists 
 abbrev pub HaveLists : List Node → (ℕ → List PrefixRow) → List ℕ → ℕ → Type 0
 HaveLists nodes lists [] id = Unit {0}
 HaveLists nodes lists (f ∷ fields) id = IsListOf nodes id (lists id) × All (λ r. HaveLists nodes lists fields r.label) (lists id)
+
+-- each node of the diagram costs what the nodes of its rows cost together, and a leaf 1
+abbrev pub HaveCosts : List Node → (ℕ → List PrefixRow) → List ℕ → List ℕ → ℕ → Type 0
+HaveCosts nodes lists costs [] id = (id < length costs) × (slice_index costs id ≡ 1)
+HaveCosts nodes lists costs (f ∷ fields) id = (id < length costs) × (weight costs (lists id) ≡ slice_index costs id) × All (λ r. HaveCosts nodes lists costs fields r.label) (lists id)
 
 -- the entry's word is that of a prefix in each field
 pub record IsWordOf (word : Word) (prefixes : List Prefix) : Type 0 where

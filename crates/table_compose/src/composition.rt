@@ -1,5 +1,5 @@
 //! The composed table of a diagram.
-ghost use Rattle.std.specs.Prelude.{◌≡◌, ◌≤◌, ℕ, List, Some, All, vec_len, IfOk, IfErr};
+ghost use Rattle.std.specs.Prelude.{◌≡◌, ◌≤◌, ◌<◌, ℕ, List, Some, All, length, slice_index, vec_len, IfOk, IfErr};
 ghost use Rattle.std.specs.List.{AllZip};
 ghost use Rattle.field_boxes.specs.Fields.{IsHeader};
 ghost use Rattle.node_store.specs.Levels.{IsLevel};
@@ -7,7 +7,7 @@ ghost use Rattle.node_store.specs.Diagram.{level_of, answer};
 ghost use Rattle.table_compose.specs.declared.composition.ComposeError.TheVariants.{Memory as OutOfMemory};
 ghost use Rattle.table_compose.specs.Diagrams.{IsCostOf};
 ghost use Rattle.table_compose.specs.Rows.{rows_at};
-ghost use Rattle.table_compose.specs.Composed.{HaveLists, IsPlaced, picked, open_all, AreDistinct, boxes, AreComposed, decided, IsAnswer, IsPrefixWord, IsRefusal};
+ghost use Rattle.table_compose.specs.Composed.{HaveCosts, HaveLists, IsPlaced, picked, open_all, AreDistinct, boxes, AreComposed, decided, IsAnswer, IsPrefixWord, IsRefusal};
 
 use crate::diagram_plans::Plans;
 use crate::entries::add_table;
@@ -69,13 +69,37 @@ pub fn compose(
     ensures refusal { IfErr result (λ e. IsRefusal store.now order.now root.0 limit e) }
 {
     store.same_answers();
+    let plans = plans_within(alloc, store, order, root, limit)?;
+    let entries = table(alloc, store, order, &plans, root, plans.cost(root) as usize)?;
+    Ok(entries)
+}
+
+/// What each node of the diagram costs, and its prefix list, where the diagram costs no more than the limit.
+pub fn plans_within(
+    alloc: Global,
+    store: &Store,
+    order: &[u8],
+    root: NodeId,
+    limit: u32,
+) -> Result<Plans, ComposeError>
+    requires order { IsLevel order.now }
+    requires root { level_of store.now root.0 ≡ order.now }
+
+    ensures lists { IfOk result (λ plans. HaveLists store.now (rows_at plans.lists.items) order.now root.0) }
+    // A node costs what the nodes of its rows cost together, and a leaf one entry.
+    ensures costs { IfOk result (λ plans. HaveCosts store.now (rows_at plans.lists.items) plans.costs.items order.now root.0) }
+    ensures room { IfOk result (λ plans. root.0 < length plans.costs.items) }
+    ensures least { IfOk result (λ plans. IsCostOf store.now order.now root.0 (slice_index plans.costs.items root.0)) }
+    ensures within { IfOk result (λ plans. slice_index plans.costs.items root.0 ≤ limit) }
+    ensures refusal { IfErr result (λ e. IsRefusal store.now order.now root.0 limit e) }
+{
+    store.same_answers();
     let plans = Plans::of(alloc, store, root)?;
     let needed = plans.cost(root);
     if needed > u128::from(limit) {
         return Err(ComposeError::TooMany { needed, limit });
     }
-    let entries = table(alloc, store, order, &plans, root, needed as usize)?;
-    Ok(entries)
+    Ok(plans)
 }
 
 /// The entries of the diagram's table, for which room is made at once.

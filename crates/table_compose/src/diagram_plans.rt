@@ -1,6 +1,7 @@
 //! The plans of all nodes of a diagram.
 ghost use Rattle.std.specs.Prelude.{◌≡◌, ◌<◌, length, slice_index, IfOk};
 ghost use Rattle.table_compose.specs.Plans.{ArePlans};
+ghost use Rattle.table_compose.specs.Rows.{rows_at, rows_of};
 
 use crate::node_plan::NodePlan;
 use crate::reached::reached;
@@ -13,14 +14,14 @@ use std::alloc::Global;
 ///
 /// Numbers up to the root's that aren't those of its nodes cost nothing here and have no rows.
 #[derive(Drop)]
-pub(crate) struct Plans {
+pub struct Plans {
     pub costs: Vec<u128>,
     pub lists: Vec<Vec<Row>>,
 }
 
 impl Plans {
     /// Each node is worked out once, in the order of the numbers: its children come before it.
-    pub fn of(alloc: Global, store: &Store, root: NodeId) -> Result<Plans, Memory>
+    pub(crate) fn of(alloc: Global, store: &Store, root: NodeId) -> Result<Plans, Memory>
         requires { root.0 < length store.now }
         ensures { IfOk result (λ plans. ArePlans store.now root.0 plans.costs.items plans.lists.items) }
     {
@@ -44,5 +45,13 @@ impl Plans {
         ensures { result ≡ slice_index self.now.costs.items id.0 }
     {
         self.costs[id.0]
+    }
+
+    /// The prefix list of the node under the number; a leaf has no rows.
+    pub fn rows(&self, id: NodeId) -> &[Row]
+        requires { id.0 < length self.now.lists.items }
+        ensures { rows_at self.now.lists.items id.0 ≡ rows_of result.now }
+    {
+        self.lists[id.0].as_slice()
     }
 }

@@ -10,7 +10,7 @@
 //! values that are alike, because nodes that answer alike have one number; they are the labels of the node's
 //! field, what they cost is what the labels weigh, and the least weight of the field is what the node costs.
 //! [`cost`] gives the cost of a root, [`Costs`] the costs of many roots of one store, and [`compose`] writes the
-//! entries, by the prefix lists of all nodes. All go by the order in which the diagram reads its fields, whichever it
+//! entries, by the prefix lists of all nodes; [`plans_within`] gives these lists alone. All go by the order in which the diagram reads its fields, whichever it
 //! is; the entry has each prefix in its field.
 //!
 //! ```text
@@ -34,6 +34,8 @@ mod node_plan;
 mod reached;
 mod row;
 
-pub use composition::{ComposeError, compose};
+pub use composition::{ComposeError, compose, plans_within};
 pub use costs::Costs;
+pub use diagram_plans::Plans;
 pub use least_cost::cost;
+pub use row::Row;

@@ -3,7 +3,7 @@ use node_store::NodeId;
 
 /// A row of a node's prefix list: the values of the prefix that no earlier row holds lead to the node.
 #[derive(Clone, Copy, Debug, PartialEq, Eq)]
-pub(crate) struct Row {
+pub struct Row {
     pub prefix: Prefix,
     pub to: NodeId,
 }

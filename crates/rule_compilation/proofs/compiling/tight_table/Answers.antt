@@ -1,0 +1,26 @@
+use Rattle.std.proofs.lemmas.List.Elements.{recursion_from_All}
+use Rattle.field_boxes.specs.NamedRules.{IsNumberedBy}
+use Rattle.rule_compilation.proofs.Composed.{IsBuiltOf, compiled}
+use Rattle.rule_compilation.proofs.compiling.tight_table.Goals as goal
+
+pub build-requires : goal.build-requires
+build-requires c = c.requires.order.level
+
+pub returns-clause-table : goal.returns-clause-table
+returns-clause-table c =
+    let order = c.args.order.now in
+    let names = c.args.names.now in
+    let rules = c.args.rules.now in
+    let nodes = c.build.new.store in
+    let root = c.in_ok-root.root.0 in
+    let built : IsBuiltOf order names rules nodes root = record {
+      numbered = recursion_from_All (IsNumberedBy names) rules c.requires.numbered;
+      ordered = c.requires.order;
+      answers = c.in_ok-root.ensures.answers;
+      store = c.same_answers.ensures.store;
+      level = c.in_ok-root.ensures.level;
+      distinct = c.are_names.ensures.distinct;
+      apart = c.distinct_names_tell_apart.ensures nodes order root names c.are_names.ensures.distinct;
+    } in
+    let tight = c.compose_tight.ensures in
+    compiled order names rules nodes root c.args.limit c.compose_tight.result built tight.composed tight.pass tight.few tight.tight tight.answers tight.decisions tight.prefixes tight.refusal
