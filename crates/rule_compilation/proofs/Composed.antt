@@ -46,12 +46,12 @@ bounded order names rules nodes root d values ok = subst (λ n. n ≤ length nam
 by_name : (order : List ℕ) (names : List (List ℕ)) (rules : List code.Rule) (nodes : List Node) (root : ℕ) → IsBuiltOf order names rules nodes root → DecideAs nodes order root (name_at names) (named_rules names rules)
 by_name order names rules nodes root d values ok = named order names rules values d.numbered ∙ ap (name_at names) (sym (d.answers values ok))
 
-by_header : (order : List ℕ) (names : List (List ℕ)) (rules : List code.Rule) (nodes : List Node) (root : ℕ) → IsBuiltOf order names rules nodes root → (header : List ℕ) → IsHeader header →
+pub by_header : (order : List ℕ) (names : List (List ℕ)) (rules : List code.Rule) (nodes : List Node) (root : ℕ) → IsBuiltOf order names rules nodes root → (header : List ℕ) → IsHeader header →
     name_at names (answer nodes root (picked order header)) ≡ source stated header (named_rules names rules)
 by_header order names rules nodes root d header is =
     sym (by_name order names rules nodes root d (picked order header) (picked_values order header d.ordered.level is)) ∙ source_in order header (named_rules names rules) d.ordered is
 
-diagram_of : (order : List ℕ) (names : List (List ℕ)) (rules : List code.Rule) (nodes : List Node) (root : ℕ) → IsBuiltOf order names rules nodes root → IsDiagramOf order names (named_rules names rules) nodes root
+pub diagram_of : (order : List ℕ) (names : List (List ℕ)) (rules : List code.Rule) (nodes : List Node) (root : ℕ) → IsBuiltOf order names rules nodes root → IsDiagramOf order names (named_rules names rules) nodes root
 diagram_of order names rules nodes root d = record { store = d.store; level = d.level; distinct = d.distinct; answers = by_header order names rules nodes root d }
 
 -- the least cost of the diagram is that of the rules

@@ -7,7 +7,7 @@ ghost use Rattle.ternary_words.specs.Views.{table_of};
 ghost use Rattle.field_sift.specs.Orders.{IsOrder};
 ghost use Rattle.table_compose.specs.LeastCost.{IsLeastCost};
 ghost use Rattle.rule_compilation.specs.Compiled.{IsCompiled, IsCompiledIn, IsRefused, IsRefusedIn};
-ghost use Rattle.rule_compilation.specs.Entries.{AreTightOf};
+ghost use Rattle.rule_compilation.specs.Entries.{AreEntriesOf, AreTightOf};
 
 use fdd_build::build;
 use field_boxes::{Decisions, Rule};
@@ -15,9 +15,9 @@ use field_sift::laws::orders;
 use node_store::{Store, stated_order};
 use redundancy::{TightTable, compose_tight};
 use std::alloc::Global;
-use table_compose::ComposeError;
 use table_compose::laws::{distinct_names_tell_apart, one_least_cost};
-use ternary_words::Table;
+use table_compose::{ComposeError, compose};
+use ternary_words::{Entry, Table};
 
 /// The table that decides every header as the rules do, for slots of `slot` trits (104, 144 or 288).
 ///
@@ -75,6 +75,30 @@ pub fn compile_in(
         entries,
         names,
     })
+}
+
+/// The table that is composed in the order, whole: as many entries as the least cost, of which many may be left out.
+///
+/// Where the least cost is more than `limit`, no entry is made.
+pub fn compose_in(
+    alloc: Global,
+    order: &[u8],
+    rules: &[Rule],
+    names: &Decisions,
+    limit: u32,
+) -> Result<Vec<Entry>, ComposeError>
+    requires order { IsOrder order.now }
+    requires numbered { All (IsNumberedBy names.now) rules.now }
+    ensures { MatchResult result
+        (λ entries. AreEntriesOf order.now names.now (named_rules names.now rules.now) entries.items)
+        (λ e. IsRefusedIn order.now (named_rules names.now rules.now) limit e) }
+{
+    names.are_names();
+    distinct_names_tell_apart();
+    let mut store = Store::new(alloc);
+    let root = build(alloc, &mut store, order, rules)?;
+    store.same_answers();
+    compose(alloc, &store, order, root, limit)
 }
 
 /// What stays of the table that is composed in the order, which has as many entries as the least cost.

@@ -7,11 +7,12 @@
 //! let table = compile(alloc, &list.rules, &list.names, 262_144, 144)?;
 //! ```
 //!
-//! [`compile_in`] reads the fields in another order, in which the least cost may be another.
+//! [`compile_in`] reads the fields in another order, in which the least cost may be another, and [`compose_in`] gives the
+//! composed table whole.
 //!
 //! `specs/Compiled.antt` says what the table is; it stands on rules, headers and plans, and on no diagram.
 #![tactic(auto)]
 
 mod compiling;
 
-pub use compiling::{compile, compile_in};
+pub use compiling::{compile, compile_in, compose_in};

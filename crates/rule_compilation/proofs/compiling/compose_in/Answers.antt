@@ -1,0 +1,32 @@
+use Rattle.std.proofs.lemmas.List.Elements.{recursion_from_All}
+use Rattle.field_boxes.specs.NamedRules.{IsNumberedBy}
+use Rattle.rule_compilation.proofs.Composed.{IsBuiltOf}
+use Rattle.rule_compilation.proofs.Whole.{distinct, whole}
+use Rattle.rule_compilation.proofs.compiling.compose_in.Goals as goal
+
+pub build-requires : goal.build-requires
+build-requires c = c.requires.order.level
+
+pub compose-requires-clause-order : goal.compose-requires-clause-order
+compose-requires-clause-order c = c.requires.order.level
+
+pub compose-requires-clause-apart : goal.compose-requires-clause-apart
+compose-requires-clause-apart c = distinct c.args.order.now c.requires.order.apart
+
+pub returns : goal.returns
+returns c =
+    let order = c.args.order.now in
+    let names = c.args.names.now in
+    let rules = c.args.rules.now in
+    let nodes = c.build.new.store in
+    let root = c.in_ok-root.root.0 in
+    let built : IsBuiltOf order names rules nodes root = record {
+      numbered = recursion_from_All (IsNumberedBy names) rules c.requires.numbered;
+      ordered = c.requires.order;
+      answers = c.in_ok-root.ensures.answers;
+      store = c.same_answers.ensures.store;
+      level = c.in_ok-root.ensures.level;
+      distinct = c.are_names.ensures.distinct;
+      apart = c.distinct_names_tell_apart.ensures nodes order root names c.are_names.ensures.distinct;
+    } in
+    whole order names rules nodes root c.args.limit c.compose.result built c.compose.ensures.composed c.compose.ensures.count c.compose.ensures.answers c.compose.ensures.prefixes c.compose.ensures.refusal
