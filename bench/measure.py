@@ -30,9 +30,10 @@ def time_tool():
     return path
 
 
-def once(command, given=None, status=0):
-    """One run over a file that ends with a status: its milliseconds, its peak memory in bytes, and what it wrote."""
-    with tempfile.NamedTemporaryFile("r") as report, tempfile.TemporaryFile() as out, open(given or "/dev/null", "rb") as text:
+def once(command, given=None, status=0, kept=True):
+    """One run over a file that ends with a status: its milliseconds, its peak memory in bytes, and what it wrote, if that is kept."""
+    written = tempfile.TemporaryFile() if kept else open("/dev/null", "w+b")
+    with tempfile.NamedTemporaryFile("r") as report, written as out, open(given or "/dev/null", "rb") as text:
         whole = [time_tool(), "-v", "-o", report.name, *map(str, command)]
         start = time.perf_counter()
         ended = subprocess.run(whole, stdin=text, stdout=out, stderr=subprocess.PIPE)
@@ -44,13 +45,36 @@ def once(command, given=None, status=0):
         return milliseconds, int(peak.group(1)) * 1024, out.read().decode()
 
 
-def best(command, given=None, status=0):
-    """The least time and the least peak memory of three runs over a file, and what the command wrote."""
-    runs = [once(command, given, status) for _ in range(RUNS)]
+def best(command, given=None, status=0, kept=True):
+    """The least time and the least peak memory of three runs over a file, and what the command wrote, if that is kept."""
+    runs = [once(command, given, status, kept) for _ in range(RUNS)]
     texts = {text for _, _, text in runs}
     if len(texts) != 1:
         fail(f"{command} writes different texts")
     return min(run[0] for run in runs), min(run[1] for run in runs), texts.pop()
+
+
+class Builds:
+    """Times of one diagram: what it takes beside reading the list, and what every command takes that reads one."""
+
+    # So often a run does its work, so that the start of the process counts little.
+    TIMES = 10
+
+    def __init__(self, bench, razor):
+        self.bench = bench
+        self.start, _, _ = best([razor, "audit", "/dev/null"])
+
+    def timed(self, path):
+        """The milliseconds of a diagram alone, and those of a process that reads the list and does nothing."""
+        read, both = (best([self.bench, step, self.TIMES], path)[0] / self.TIMES for step in ("read", "diagram"))
+        return both - read, self.start + read
+
+
+def drawn_list(folder, kind, rules):
+    """The path of a list of bench/rule-list."""
+    path = pathlib.Path(f"{folder}/{kind}, {rules:,}")
+    path.write_bytes(subprocess.run([ROOT / "bench/rule-list", kind, str(rules)], capture_output=True, check=True).stdout)
+    return path
 
 
 def table(head, rows):

@@ -25,6 +25,7 @@ WRONG = (
 ENTRY = f"[0-9A-F]{{8}}/[0-9A-F]{{8}} [0-9A-F]{{8}}/[0-9A-F]{{8}} [0-9A-F]{{4}}/[0-9A-F]{{4}} [0-9A-F]{{4}}/[0-9A-F]{{4}} [0-9A-F]{{2}}/[0-9A-F]{{2}} {NAME}\n"
 TABLE = f"table 2 slot (104|144|288) composed {NUMBER} entries {NUMBER}\n({ENTRY})*"
 SPAN = f"{NUMBER}-{NUMBER}"
+STATE_LINE = f"rule {NUMBER} ((live|droppable)( {NUMBER}){{5}}|never)\n"
 SCRIPT_LINE = f"(begun {NUMBER}|busy|no room {NUMBER} {NUMBER} {NUMBER}|stage {NUMBER} of {NUMBER}( back)?|idle|device fault|{NAME})\n"
 
 OUTPUTS = {
@@ -33,6 +34,8 @@ OUTPUTS = {
     "migrate": TABLE,
     "arrange": TABLE,
     "merge": TABLE,
+    "audit": f"({STATE_LINE})*",
+    "query": f"({SPAN} {SPAN} {SPAN} {SPAN} {SPAN}\n)*boxes {NUMBER}\n",
     "equiv": "equal\n",
     "cert": f"({SPAN} {SPAN} {SPAN} {SPAN} {SPAN} ({NUMBER}|-) ({NUMBER}|-)\n)*rows {NUMBER}\n",
     "check": f"valid rows={NUMBER}\n",
@@ -111,7 +114,19 @@ def of_output(run, name):
         pattern = "([^\n]+\n)*"
     else:
         pattern = ""
-    return "" if matches(pattern, run.out) else "an output of another form"
+    if not matches(pattern, run.out):
+        return "an output of another form"
+    return "" if run.status != 0 or is_counted(name, run.out.splitlines()) else "lines that are counted wrongly"
+
+
+def is_counted(name, lines):
+    """Whether the numbers of the lines are right."""
+    match name:
+        case "audit":
+            return all(line.split()[1] == str(number) for number, line in enumerate(lines, 1))
+        case "query":
+            return lines[-1] == f"boxes {len(lines) - 1}"
+    return True
 
 
 def of_message(run, name):

@@ -5,13 +5,14 @@ import re
 
 FILES = ("list", "table", "trace", "certificate", "script")
 NUMBERS = {"seed": range(0, 2**31), "count": range(0, 65_537)}
+SPANS = {"source": 2**32 - 1, "destination": 2**32 - 1, "source port": 65_535, "destination port": 65_535, "protocol": 255}
 ORDERS = tuple("".join(order) for order in itertools.permutations("01234"))
 OPTIONS = {"--limit": range(1, 262_145), "--slot": (104, 144, 288), "--slots": range(1, 262_145), "--order": (*ORDERS, "best")}
 
 
 @dataclasses.dataclass(frozen=True)
 class Command:
-    """A command: the kinds of its file and number words, and of those that may be repeated up to eight times."""
+    """A command: the kinds of its plain words, and of those that may be repeated up to eight times."""
 
     places: tuple
     more: str = ""
@@ -41,6 +42,8 @@ COMMANDS = {
     "migrate": Command(("table",)),
     "arrange": Command(("list",), options=("--order", "--limit", "--slot"), counts_entries=True),
     "merge": Command(("table",)),
+    "audit": Command(("list",)),
+    "query": Command(("list", *SPANS, "decision")),
 }
 
 
@@ -52,6 +55,27 @@ def built_commands(usage):
 
 def in_range(text, values):
     return re.fullmatch("[0-9]{1,10}", text) is not None and int(text) in values
+
+
+def is_span(text, greatest):
+    """Whether the text is a star or two numbers, of which the second is neither below the first nor above the greatest."""
+    found = re.fullmatch("([0-9]{1,10})-([0-9]{1,10})", text)
+    return text == "*" or found is not None and int(found[1]) <= int(found[2]) <= greatest
+
+
+def is_decision(text):
+    """Whether the text is `miss`, a decision word, or the name of a rule that has none."""
+    own = re.fullmatch("#([1-9][0-9]{0,4})", text)
+    return re.fullmatch("[A-Za-z0-9_.-]{1,32}", text) is not None or own is not None and int(own[1]) <= 65_536
+
+
+def is_right(kind, text):
+    """Whether a plain word of this kind may be so."""
+    if kind in SPANS:
+        return is_span(text, SPANS[kind])
+    if kind in NUMBERS:
+        return in_range(text, NUMBERS[kind])
+    return kind in FILES or is_decision(text)
 
 
 def is_taken(option, text):
@@ -79,7 +103,7 @@ def parted(words, command):
 
 
 def spelled(words, built):
-    """The kind and text of each file and number word of the command that the words spell, or none."""
+    """The kind and text of each plain word of the command that the words spell, or none."""
     if not words or words[0] not in built:
         return None
     command = COMMANDS[words[0]]
@@ -93,7 +117,7 @@ def spelled(words, built):
     if not all(is_taken(name, value) for name, value in options.items()):
         return None
     pairs = list(zip(kinds, places))
-    if not all(in_range(text, NUMBERS[kind]) for kind, text in pairs if kind in NUMBERS):
+    if not all(is_right(kind, text) for kind, text in pairs):
         return None
     files = [text for kind, text in pairs if kind in FILES]
     return pairs if len(set(files)) == len(files) else None

@@ -97,6 +97,16 @@ def table(random):
     return "".join(line + "\n" for line in lines).encode()
 
 
+def asked(random, greatest):
+    """A span of values up to the greatest, or a star for all of them."""
+    low, high = sorted(random.choice((0, greatest, 80, random.randrange(greatest + 1))) % (greatest + 1) for _ in range(2))
+    return random.choice(("*", f"{low}-{high}", f"{low}-{high}", f"0{low % 10_000}-{greatest}"))
+
+
+def asked_decision(random):
+    return random.choice(DECISIONS + ("miss", "miss", "#1", "#2", "#65536", "none", "-", "-x"))
+
+
 def certificate(random):
     """A certificate of one row, which is right for a list and a table without entries."""
     claims = random.choice(("- -", "1 1", "1 -", "- 1"))

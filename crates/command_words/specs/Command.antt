@@ -1,5 +1,6 @@
 -- The commands, with their numbers and file words.
-use Rattle.std.specs.Prelude.{ℕ, List}
+use Rattle.std.specs.Prelude.{ℕ, List, Option}
+use Rattle.field_boxes.specs.Classifier.{Interval}
 use Rattle.command_words.specs.Orders.{Wanted}
 
 -- the greatest number of entries, and the width of a slot
@@ -14,7 +15,8 @@ pub data Method : Type 0 where
   Compile : Method
   Arrange : Wanted → Method
 
--- a command; one that makes a table of a list says by which method
+-- a command; one that makes a table of a list says by which method, and one that asks a list in which spans, and for which
+-- decision, or for none
 pub data Command : Type 0 where
   Make : Method → Sizes → List ℕ → Command
   Equiv : List ℕ → List ℕ → Command
@@ -26,3 +28,5 @@ pub data Command : Type 0 where
   Selfrun : ℕ → ℕ → Command
   Migrate : List ℕ → Command
   Merge : List ℕ → Command
+  Audit : List ℕ → Command
+  Query : List ℕ → List Interval → Option (List ℕ) → Command

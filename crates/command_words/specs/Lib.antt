@@ -3,6 +3,7 @@ pub mod Numbers
 pub mod Orders
 pub mod Options
 pub mod Items
+pub mod Questions
 pub mod Command
 pub mod Forms
 pub mod Naming

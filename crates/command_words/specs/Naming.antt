@@ -2,9 +2,11 @@
 use Rattle.std.specs.Prelude.{ℕ, Bool, true, not, ◌&&◌, List, [], ◌∷◌, length, nat_le, Option, Some, None, if◌then◌else◌}
 use Rattle.std.specs.List.{list_any}
 use Rattle.std.specs.Str.{bytes_eq}
+use Rattle.field_boxes.specs.Classifier.{Interval}
 use Rattle.command_words.specs.declared.form.CommandName.{CommandName}
 use Rattle.command_words.specs.declared.form.CommandName.TheVariants as names
-use Rattle.command_words.specs.Command.{Command, Sizes, Expand, Compile, Arrange, Make, Equiv, Cert, Check, Trace, Drive, Gen, Selfrun, Migrate, Merge}
+use Rattle.command_words.specs.Command.{Command, Sizes, Expand, Compile, Arrange, Make, Equiv, Cert, Check, Trace, Drive, Gen, Selfrun, Migrate, Merge, Audit, Query}
+use Rattle.command_words.specs.Questions.{decision_asked, spans_asked}
 use Rattle.command_words.specs.Orders.{Wanted}
 use Rattle.command_words.specs.Numbers.{number_between}
 use Rattle.command_words.specs.Steps.{◌>>=◌}
@@ -56,6 +58,14 @@ drawing command (seed ∷ rules ∷ []) = do
   Some (command seed rules)
 drawing command words = None
 
+-- the command that asks a list where it decides so, inside five spans
+abbrev pub asking : (List ℕ → List Interval → Option (List ℕ) → Command) → List (List ℕ) → Option Command
+asking command (list ∷ source ∷ destination ∷ from ∷ to ∷ protocol ∷ decision ∷ []) = do
+  spans ← spans_asked 0 (source ∷ destination ∷ from ∷ to ∷ protocol ∷ [])
+  decision ← decision_asked decision
+  Some (command list spans decision)
+asking command words = None
+
 -- the command of the name
 abbrev pub command_named : CommandName → Settings → List (List ℕ) → Option Command
 command_named names.Expand settings words = over_one (Make Expand settings.sizes) words
@@ -70,3 +80,5 @@ command_named names.Selfrun settings words = drawing Selfrun words
 command_named names.Migrate settings words = over_one Migrate words
 command_named names.Arrange settings words = over_one (Make (Arrange settings.order) settings.sizes) words
 command_named names.Merge settings words = over_one Merge words
+command_named names.Audit settings words = over_one Audit words
+command_named names.Query settings words = asking Query words

@@ -1,5 +1,6 @@
 -- Values of the code without where they lie in memory.
 use Rattle.std.specs.Prelude.{ℕ, Bool, true, List}
+use Rattle.field_boxes.specs.Spans.{intervals_of}
 use Rattle.command_words.specs.declared.command.Command as code_command
 use Rattle.command_words.specs.declared.command.Command.TheVariants as asked
 use Rattle.command_words.specs.declared.form.CommandForm.{CommandForm}
@@ -7,7 +8,7 @@ use Rattle.command_words.specs.declared.reading.WordKind.{WordKind}
 use Rattle.command_words.specs.declared.reading.WordKind.TheVariants as code
 use Rattle.command_words.specs.declared.settings.Settings as code_settings
 use Rattle.command_words.specs.declared.sizes.Sizes as code_sizes
-use Rattle.command_words.specs.Command.{Command, Method, Sizes, Expand, Compile, Arrange, Make, Equiv, Cert, Check, Trace, Gen, Selfrun, Migrate, Merge}
+use Rattle.command_words.specs.Command.{Command, Method, Sizes, Expand, Compile, Arrange, Make, Equiv, Cert, Check, Trace, Gen, Selfrun, Migrate, Merge, Audit, Query}
 use Rattle.command_words.specs.declared.command.Method as code_method
 use Rattle.command_words.specs.declared.command.Method.TheVariants as methods
 use Rattle.command_words.specs.declared.wanted.Wanted as code_wanted
@@ -16,6 +17,7 @@ use Rattle.command_words.specs.Orders.{Wanted, Best, In}
 use Rattle.command_words.specs.Forms.{Form}
 use Rattle.command_words.specs.Items.{Reading, Ends, Awaits, Gives, Stands, Fails}
 use Rattle.command_words.specs.Naming.{Settings, driving, is_script_run}
+use Rattle.command_words.specs.Questions.{name_in}
 
 -- how a word reads, as the code tells it
 abbrev pub kind_seen : WordKind → Reading
@@ -73,3 +75,5 @@ spelled_over words (asked.Gen drawing) = Gen drawing.seed drawing.rules
 spelled_over words (asked.Selfrun drawing) = Selfrun drawing.seed drawing.rules
 spelled_over words (asked.Migrate table) = Migrate table.now
 spelled_over words (asked.Merge table) = Merge table.now
+spelled_over words (asked.Audit list) = Audit list.now
+spelled_over words (asked.Query question) = Query question.list.now (intervals_of question.spans) (name_in question.decision.now)

@@ -1,6 +1,7 @@
 //! The commands.
 use crate::drawing::Drawing;
 use crate::files::{ThreeFiles, TwoFiles};
+use crate::question::Question;
 use crate::sizes::{Sizes, Slots};
 use crate::wanted::Wanted;
 
@@ -43,4 +44,8 @@ pub enum Command<'a> {
     Migrate(&'a str),
     /// Writes a table with its entries merged.
     Merge(&'a str),
+    /// Writes the state of each rule of a list.
+    Audit(&'a str),
+    /// Writes the boxes inside a box in which a list decides as asked.
+    Query(Question<'a>),
 }

@@ -20,6 +20,8 @@ pub(crate) enum CommandName {
     Migrate,
     Arrange,
     Merge,
+    Audit,
+    Query,
 }
 
 /// Whether a command takes an option: never, if it is there, or it has to be there.
@@ -105,7 +107,7 @@ fn script_form(command: CommandName, name: &'static str) -> CommandForm
 
 /// The forms of the commands that are built, in the order of the usage text.
 #[tactic(auto, unfolding(crate::specs::Forms::forms))]
-pub(crate) fn forms() -> [CommandForm; 12]
+pub(crate) fn forms() -> [CommandForm; 14]
     ensures { map form_seen result ≡ forms }
 {
     [
@@ -121,6 +123,8 @@ pub(crate) fn forms() -> [CommandForm; 12]
         plain_form(CommandName::Migrate, "migrate", "TABLE"),
         ordered_form(CommandName::Arrange, "arrange"),
         plain_form(CommandName::Merge, "merge", "TABLE"),
+        plain_form(CommandName::Audit, "audit", "LIST"),
+        plain_form(CommandName::Query, "query", "LIST S D SP DP P DECISION"),
     ]
 }
 

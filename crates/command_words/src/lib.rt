@@ -5,7 +5,7 @@
 //! options; every other word is a plain word, unless it has a `-` in front and more behind it, which makes
 //! the words no command. The table in `form` says how each command is spelled: its name, which options it
 //! takes or needs, and what its plain words are called; the usage text is made of it. `naming` gives each
-//! name its [`Command`], over what the options come to and the plain words, which are file words or numbers.
+//! name its [`Command`], over what the options come to and the plain words, which are file words, numbers, or what is asked of a list.
 //! A further command is a line of the table, a case of `naming`, and a variant of [`Command`].
 //!
 //! `specs/Spelling.antt` says what words spell: the words are parted into items, at most one value is given
@@ -29,6 +29,7 @@ mod option;
 mod order;
 mod parts;
 mod plain;
+mod question;
 mod reading;
 pub mod rows;
 mod settings;
@@ -44,6 +45,7 @@ pub use drawing::Drawing;
 pub use files::{ThreeFiles, TwoFiles};
 pub use order::FieldOrder;
 pub use plain::PlainWords;
+pub use question::Question;
 pub use sizes::{Sizes, Slots};
 pub use spelling::spelled_command;
 pub use usage::write_usage;

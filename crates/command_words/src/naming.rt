@@ -9,6 +9,7 @@ use crate::command::{Command, Method};
 use crate::drawing::seed_and_rules;
 use crate::files::{is_script_run, one_file, three_files, two_files};
 use crate::form::CommandName;
+use crate::question::question_of;
 use crate::settings::Settings;
 use crate::sizes::{Sizes, Slots};
 
@@ -63,5 +64,7 @@ pub(crate) fn named<'a>(
         CommandName::Migrate => Some(Command::Migrate(one_file(words)?)),
         CommandName::Arrange => making(Method::Arrange(order), sizes, words),
         CommandName::Merge => Some(Command::Merge(one_file(words)?)),
+        CommandName::Audit => Some(Command::Audit(one_file(words)?)),
+        CommandName::Query => Some(Command::Query(question_of(words)?)),
     }
 }

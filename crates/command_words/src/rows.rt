@@ -1,10 +1,11 @@
 //! Worked rows of the definitions: what words spell. The functions do nothing.
-#![tactic(auto, unfolding(crate::specs::Forms::forms, crate::specs::Spelling::command_of, crate::specs::Items::reading_of, crate::specs::Options::size_in, crate::specs::Options::width_in, crate::specs::Orders::order_wanted, crate::specs::Numbers::number_between))]
+#![tactic(auto, unfolding(crate::specs::Forms::forms, crate::specs::Spelling::command_of, crate::specs::Items::reading_of, crate::specs::Options::size_in, crate::specs::Options::width_in, crate::specs::Orders::order_wanted, crate::specs::Numbers::number_between, crate::specs::Questions::span_written, crate::specs::Questions::span_asked, crate::specs::Questions::is_decision))]
 
 ghost use Rattle.std.specs.Prelude.{◌≡◌, ◌∷◌, [], ◌++◌, Some, None, codes};
 ghost use Rattle.std.specs.List.{flat_map};
-ghost use Rattle.command_words.specs.Command.{Arrange, Cert, Compile, Expand, Check, Drive, Equiv, Gen, Make, Selfrun};
+ghost use Rattle.command_words.specs.Command.{Arrange, Audit, Cert, Compile, Expand, Check, Drive, Equiv, Gen, Make, Query, Selfrun};
 ghost use Rattle.command_words.specs.Orders.{Best, In};
+ghost use Rattle.command_words.specs.Questions.{span};
 ghost use Rattle.command_words.specs.Spelling.{command_of};
 ghost use Rattle.command_words.specs.Usage.{usage_text};
 
@@ -115,6 +116,25 @@ pub fn worked_numbers()
     ensures standard_input_as_number { command_of (codes "gen" ∷ codes "-" ∷ codes "1" ∷ []) ≡ None }
 {}
 
+/// A list is asked inside five spans, each written as `*` or by its ends, for a decision word, a rule's own name or
+/// `miss`. These words are no file words, and may be equal.
+pub fn worked_questions()
+    ensures all { command_of (codes "query" ∷ codes "in" ∷ codes "*" ∷ codes "*" ∷ codes "*" ∷ codes "*" ∷ codes "*" ∷ codes "accept" ∷ [])
+        ≡ Some (Query (codes "in") (span 0 4294967295 ∷ span 0 4294967295 ∷ span 0 65535 ∷ span 0 65535 ∷ span 0 255 ∷ []) (Some (codes "accept"))) }
+    ensures spans { command_of (codes "query" ∷ codes "in" ∷ codes "1-2" ∷ codes "0-4294967295" ∷ codes "007-7" ∷ codes "0-0" ∷ codes "255-255" ∷ codes "miss" ∷ [])
+        ≡ Some (Query (codes "in") (span 1 2 ∷ span 0 4294967295 ∷ span 7 7 ∷ span 0 0 ∷ span 255 255 ∷ []) None) }
+    ensures own_name { command_of (codes "query" ∷ codes "in" ∷ codes "*" ∷ codes "*" ∷ codes "*" ∷ codes "*" ∷ codes "0-7" ∷ codes "#65536" ∷ [])
+        ≡ Some (Query (codes "in") (span 0 4294967295 ∷ span 0 4294967295 ∷ span 0 65535 ∷ span 0 65535 ∷ span 0 7 ∷ []) (Some (codes "#65536"))) }
+    ensures upside_down { command_of (codes "query" ∷ codes "in" ∷ codes "*" ∷ codes "*" ∷ codes "*" ∷ codes "*" ∷ codes "9-8" ∷ codes "deny" ∷ []) ≡ None }
+    ensures too_great { command_of (codes "query" ∷ codes "in" ∷ codes "*" ∷ codes "*" ∷ codes "*" ∷ codes "*" ∷ codes "0-256" ∷ codes "deny" ∷ []) ≡ None }
+    ensures one_number { command_of (codes "query" ∷ codes "in" ∷ codes "*" ∷ codes "*" ∷ codes "*" ∷ codes "*" ∷ codes "6" ∷ codes "deny" ∷ []) ≡ None }
+    ensures leading_zero { command_of (codes "query" ∷ codes "in" ∷ codes "*" ∷ codes "*" ∷ codes "*" ∷ codes "*" ∷ codes "*" ∷ codes "#01" ∷ []) ≡ None }
+    ensures no_rule { command_of (codes "query" ∷ codes "in" ∷ codes "*" ∷ codes "*" ∷ codes "*" ∷ codes "*" ∷ codes "*" ∷ codes "#65537" ∷ []) ≡ None }
+    ensures no_word { command_of (codes "query" ∷ codes "in" ∷ codes "*" ∷ codes "*" ∷ codes "*" ∷ codes "*" ∷ codes "*" ∷ codes "a b" ∷ []) ≡ None }
+    ensures no_decision { command_of (codes "query" ∷ codes "in" ∷ codes "*" ∷ codes "*" ∷ codes "*" ∷ codes "*" ∷ codes "*" ∷ []) ≡ None }
+    ensures audited { command_of (codes "audit" ∷ codes "in" ∷ []) ≡ Some (Audit (codes "in")) }
+{}
+
 /// The usage text.
 pub fn worked_usage()
     ensures { usage_text ≡ flat_map (λ line. line ++ 10 ∷ []) (codes "usage: razor COMMAND"
@@ -130,5 +150,7 @@ pub fn worked_usage()
         ∷ codes "  migrate TABLE"
         ∷ codes "  arrange [--order P] [--limit N] [--slot W] LIST"
         ∷ codes "  merge TABLE"
+        ∷ codes "  audit LIST"
+        ∷ codes "  query LIST S D SP DP P DECISION"
         ∷ []) }
 {}

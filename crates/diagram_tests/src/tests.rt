@@ -1,3 +1,4 @@
+mod auditing;
 mod building;
 mod joints;
 mod nodes;

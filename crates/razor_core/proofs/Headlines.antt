@@ -7,18 +7,18 @@ use Rattle.table_text.specs.Reading as tables
 use Rattle.bank_update.specs.Script as scripts
 use Rattle.table_text.specs.Reading.{table_in_text}
 use Rattle.ternary_words.specs.Table.{Table}
-use Rattle.field_boxes.specs.Classifier.{Rule}
+use Rattle.field_boxes.specs.Classifier.{Interval, Rule}
 use Rattle.filter_reader.specs.ListText.{list_text}
 use Rattle.list_generator.specs.DrawnRules.{generated}
 use Rattle.bit_merge.proofs.Merged.{is_alike, is_fewer, is_tight}
 use Rattle.command_words.specs.Orders.{Wanted}
-use Rattle.command_words.specs.Command.{Command, Method, Arrange, Compile, Expand, Cert, Check, Drive, Equiv, Gen, Make, Migrate, Merge, Selfrun, Sizes, Trace}
+use Rattle.command_words.specs.Command.{Command, Method, Arrange, Compile, Expand, Cert, Check, Drive, Equiv, Gen, Make, Migrate, Merge, Selfrun, Sizes, Trace, Audit, Query}
 use Rattle.razor_core.specs.Selfrun.{Summarises}
 use Rattle.razor_core.specs.Trace.{answers_text, taken_of}
 use Rattle.razor_core.specs.Cert.{IsCertificateOf, Writes}
 use Rattle.razor_core.specs.Check.{AnswerAlike, Certifies}
 use Rattle.razor_core.specs.Equiv.{DecideAlike, Compares}
-use Rattle.razor_core.specs.Headlines.{Adds, AreAlike, AreEqualLists, IsAnswered, IsArrangedText, IsCertified, IsCompiledText, IsDriven, IsExpandedText, IsMigrated, IsMergedText}
+use Rattle.razor_core.specs.Headlines.{Adds, AreAlike, AreEqualLists, IsAnswered, IsArrangedText, IsCertified, IsCompiledText, IsDriven, IsExpandedText, IsMigrated, IsMergedText, IsAudited, IsQueried}
 use Rattle.razor_core.specs.Make.{IsMade, IsOrderOf}
 use Rattle.razor_core.specs.Inputs.{Input, Value, as_list, as_script, as_table, certificate_input, lines_value, is_too_long, list_input, list_value, script_input, script_value, table_input, table_value, trace_input, text_of_list, text_of_script, text_of_table}
 use Rattle.razor_core.specs.Gives.{Gives}
@@ -237,6 +237,24 @@ module _ (before after : Outside) (line : List ℕ) where
           tight = is_tight entries out joined;
         },
       )
+
+  pub audited : (file text : List ℕ) → KeepsPromise (Audit file) before after line 0 → before.remaining file ≡ Some text → Adds before after (IsAudited text)
+  audited file text is known =
+      let command : Command = Audit file in
+      let done = is.done refl (told (before.remaining file) text known, tt) in
+      let first = first_of (turn (list_input file) (bytes_at before file)) (Ok []) done.values done.pass.turns in
+      let read = listed file text first.value (turn_told before (list_input file) text first.value known first.turned_is) in
+      let gives = subst (λ (v : Value). Gives command (v ∷ first.rest) done.outcome) read.2 (subst (λ (vs : List Value). Gives command vs done.outcome) first.values_are done.gives) in
+      (done.outcome.text, done.written, record { list = read.0; states = gives.text.0; spelled = read.1; right = gives.text.1; lines = gives.text.2 })
+
+  pub queried : (box : List Interval) (name : Option (List ℕ)) (file text : List ℕ) → KeepsPromise (Query file box name) before after line 0 → before.remaining file ≡ Some text → Adds before after (IsQueried box name text)
+  queried box name file text is known =
+      let command : Command = Query file box name in
+      let done = is.done refl (told (before.remaining file) text known, tt) in
+      let first = first_of (turn (list_input file) (bytes_at before file)) (Ok []) done.values done.pass.turns in
+      let read = listed file text first.value (turn_told before (list_input file) text first.value known first.turned_is) in
+      let gives = subst (λ (v : Value). Gives command (v ∷ first.rest) done.outcome) read.2 (subst (λ (vs : List Value). Gives command vs done.outcome) first.values_are done.gives) in
+      (done.outcome.text, done.written, record { list = read.0; spelled = read.1; answer = gives.text })
 
   pub drawn : (seed rules : ℕ) → KeepsPromise (Gen seed rules) before after line 0 → Adds before after (λ written. written ≡ list_text (generated seed rules).rules)
   drawn seed rules is =

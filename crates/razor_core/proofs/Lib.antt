@@ -14,3 +14,6 @@ pub mod SpelledNames
 pub mod FieldOrders
 pub mod OrderText
 pub mod Headlines
+pub mod OneText
+pub mod StateLines
+pub mod AnsweredBoxes

@@ -1,6 +1,6 @@
 -- What each command defines for what its inputs come to.
 use Rattle.std.specs.Prelude.{List, ◌∷◌}
-use Rattle.command_words.specs.Command.{Command, Make, Equiv, Cert, Check, Trace, Drive, Gen, Selfrun, Migrate, Merge}
+use Rattle.command_words.specs.Command.{Command, Make, Equiv, Cert, Check, Trace, Drive, Gen, Selfrun, Migrate, Merge, Audit, Query}
 use Rattle.razor_core.specs.Outcome.{Outcome}
 use Rattle.razor_core.specs.Make.{IsTableOf}
 use Rattle.razor_core.specs.Equiv.{Compares}
@@ -12,6 +12,8 @@ use Rattle.razor_core.specs.Gen.{Draws}
 use Rattle.razor_core.specs.Selfrun.{SumsUp}
 use Rattle.razor_core.specs.Migrate.{Migrates}
 use Rattle.razor_core.specs.Merge.{Merges}
+use Rattle.razor_core.specs.Audit.{Audits}
+use Rattle.razor_core.specs.Query.{Queries}
 use Rattle.razor_core.specs.Inputs.{Value, list_value, table_value, script_value, lines_value, inputs}
 
 -- the outcome is one that the command defines for these values
@@ -26,4 +28,6 @@ Gives (Gen seed rules) values outcome = Draws seed rules outcome
 Gives (Selfrun seed rules) values outcome = SumsUp seed rules outcome
 Gives (Migrate file) (table_value table ∷ values) outcome = Migrates table outcome
 Gives (Merge file) (table_value table ∷ values) outcome = Merges table outcome
+Gives (Audit file) (list_value list ∷ values) outcome = Audits list.rules outcome
+Gives (Query file box name) (list_value list ∷ values) outcome = Queries box name list.rules outcome
 Gives command values outcome = ⊥

@@ -1,5 +1,5 @@
 -- What status 0 of a command means, over the bytes of its inputs and of its output.
-use Rattle.std.specs.Prelude.{◌≡◌, ◌≤◌, ℕ, List, length, map, Ok}
+use Rattle.std.specs.Prelude.{◌≡◌, ◌≤◌, ℕ, List, length, map, Ok, Option}
 use Rattle.std.specs.Io.KnownBytes.{Appends}
 use Rattle.std.specs.List.{concat}
 use Rattle.bank_update.specs.Machine.{unsettled}
@@ -7,7 +7,7 @@ use Rattle.bank_update.specs.Runs.{session}
 use Rattle.bank_update.specs.Script.{Event, script_of}
 use Rattle.command_words.specs.Command.{Arrange}
 use Rattle.command_words.specs.Orders.{Wanted}
-use Rattle.field_boxes.specs.Classifier.{source}
+use Rattle.field_boxes.specs.Classifier.{Interval, source}
 use Rattle.field_boxes.specs.Fields.{IsHeader, stated}
 use Rattle.filter_reader.specs.FilterList.{FilterList, list_of}
 use Rattle.rule_compilation.specs.Compiled.{IsTight}
@@ -27,6 +27,10 @@ use Rattle.razor_core.specs.Outside.{Outside}
 use Rattle.razor_core.specs.Trace.{answers_text, taken_of}
 use Rattle.razor_core.specs.Turns.{turns_of}
 use Rattle.razor_core.specs.Cert.{IsCertificateOf}
+use Rattle.razor_core.specs.Audit.{states_text}
+use Rattle.razor_core.specs.Query.{AreAnswered}
+use Rattle.rule_audit.specs.State.{AreStates}
+use Rattle.rule_audit.specs.declared.state.RuleState.{RuleState}
 
 -- the output is the text of a table whose first match gives every header the decision of the list's first match; its
 -- number is the list's field-by-field least cost, it has at most so many entries, and none of them can go
@@ -124,6 +128,20 @@ pub record IsDriven (slots : ℕ) (before : Outside) (files : List (List ℕ)) (
   pub script_spelled : script_of (length files) script_bytes ≡ Ok events
   pub tables_spelled : turns_of before (map table_input files) ≡ Ok (map value_of_table tables)
   pub lines : written ≡ concat (session tables (unsettled slots) events)
+
+-- the output has a line for each rule of the list, with its state
+pub record IsAudited (list_bytes written : List ℕ) : Type 0 where
+  pub list : FilterList
+  pub states : List RuleState
+  pub spelled : list_of list_bytes ≡ Ok list
+  pub right : AreStates list.rules states
+  pub lines : written ≡ states_text states
+
+-- the output is the boxes inside the box in which the list decides this name, or none, and how many they are
+pub record IsQueried (box : List Interval) (name : Option (List ℕ)) (list_bytes written : List ℕ) : Type 0 where
+  pub list : FilterList
+  pub spelled : list_of list_bytes ≡ Ok list
+  pub answer : AreAnswered box name list.rules written
 
 -- what was added to the output is so
 abbrev pub Adds : Outside → Outside → (List ℕ → Type 0) → Type 0

@@ -4,7 +4,7 @@ use Rattle.filter_reader.specs.FilterList as lists
 use Rattle.table_text.specs.Reading as tables
 use Rattle.bank_update.specs.Script as scripts
 use Rattle.ternary_words.specs.Table.{Table}
-use Rattle.command_words.specs.Command.{Command, Make, Equiv, Cert, Check, Trace, Drive, Gen, Selfrun, Migrate, Merge}
+use Rattle.command_words.specs.Command.{Command, Make, Equiv, Cert, Check, Trace, Drive, Gen, Selfrun, Migrate, Merge, Audit, Query}
 use Rattle.razor_core.specs.declared.line_reason.LineReason.{LineReason}
 use Rattle.razor_core.specs.declared.line_reason.LineReason.TheVariants.{OfList, OfTable, OfScript}
 
@@ -58,6 +58,8 @@ inputs (Gen seed rules) = []
 inputs (Selfrun seed rules) = []
 inputs (Migrate table) = table_input table ∷ []
 inputs (Merge table) = table_input table ∷ []
+inputs (Audit list) = list_input list ∷ []
+inputs (Query list box name) = list_input list ∷ []
 
 -- the inputs that a command reads to their end where its answer is yes, or no: a certificate that is wrong needn't be
 abbrev pub read_by : Command → Bool → List Input

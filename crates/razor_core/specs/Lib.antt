@@ -11,6 +11,9 @@ pub mod Gen
 pub mod Selfrun
 pub mod Migrate
 pub mod Merge
+pub mod OneText
+pub mod Audit
+pub mod Query
 pub mod Gives
 pub mod Outside
 pub mod Stopping

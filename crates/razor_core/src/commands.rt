@@ -9,6 +9,7 @@ ghost use Rattle.razor_core.specs.Outside.{seen, IsNoInput};
 ghost use Rattle.razor_core.specs.Ending.{Ends};
 
 mod arrange;
+mod audit;
 mod cert;
 mod check;
 mod compile;
@@ -21,10 +22,12 @@ mod made;
 mod make;
 mod merge;
 mod migrate;
+mod query;
 mod selfrun;
 mod trace;
 
 use crate::ending::Ending;
+use audit::audit_list;
 use cert::certify;
 use check::check_certificate;
 use command_words::{Asked, Command};
@@ -34,6 +37,7 @@ use generate::draw_list;
 use make::make_table;
 use merge::merge_table;
 use migrate::migrate_table;
+use query::query_list;
 use razor_base::{Desk, Sink};
 use selfrun::run_load;
 use std::alloc::Global;
@@ -67,5 +71,7 @@ pub fn run<'a, D: Desk, K: Sink>(
         Command::Selfrun(drawing) => run_load(alloc, drawing, out),
         Command::Migrate(file) => migrate_table(alloc, file, desk, out),
         Command::Merge(file) => merge_table(alloc, file, desk, out),
+        Command::Audit(file) => audit_list(alloc, file, desk, out),
+        Command::Query(question) => query_list(alloc, question, desk, out),
     }
 }

@@ -1,9 +1,10 @@
 //! What status 0 of each command means over bytes, from what the top call promises of the command alone. The functions do
 //! nothing.
-ghost use Rattle.std.specs.Prelude.{◌≡◌, ℕ, List, Some};
-ghost use Rattle.command_words.specs.Command.{Arrange, Cert, Check, Compile, Drive, Equiv, Expand, Gen, Make, Merge, Migrate, Selfrun, Sizes, Trace};
+ghost use Rattle.std.specs.Prelude.{◌≡◌, ℕ, List, Option, Some};
+ghost use Rattle.field_boxes.specs.Classifier.{Interval};
+ghost use Rattle.command_words.specs.Command.{Arrange, Audit, Cert, Check, Compile, Drive, Equiv, Expand, Gen, Make, Merge, Migrate, Query, Selfrun, Sizes, Trace};
 ghost use Rattle.command_words.specs.Orders.{Wanted};
-ghost use Rattle.razor_core.specs.Headlines.{Adds, AreAlike, AreEqualLists, IsAnswered, IsArrangedText, IsCertified, IsCompiledText, IsDriven, IsExpandedText, IsMergedText, IsMigrated};
+ghost use Rattle.razor_core.specs.Headlines.{Adds, AreAlike, AreEqualLists, IsAnswered, IsArrangedText, IsAudited, IsCertified, IsCompiledText, IsDriven, IsExpandedText, IsMergedText, IsMigrated, IsQueried};
 ghost use Rattle.razor_core.specs.Outside.{Outside, Tells};
 ghost use Rattle.razor_core.specs.Promise.{KeepsPromise};
 ghost use Rattle.razor_core.specs.Selfrun.{Summarises};
@@ -80,6 +81,20 @@ pub fn merged_tables_answer_alike()
     ensures { (before after : Outside) (line : List ℕ) (file text : List ℕ) →
         KeepsPromise (Merge file) before after line 0 → before.remaining file ≡ Some text →
         Adds before after (IsMergedText text) }
+{}
+
+/// What `audit` has written is the state of each rule.
+pub fn states_are_those_of_the_rules()
+    ensures { (before after : Outside) (line : List ℕ) (file text : List ℕ) →
+        KeepsPromise (Audit file) before after line 0 → before.remaining file ≡ Some text →
+        Adds before after (IsAudited text) }
+{}
+
+/// What `query` has written are the boxes in which the list decides as asked, and how many they are.
+pub fn boxes_are_where_the_list_decides_so()
+    ensures { (before after : Outside) (line : List ℕ) (box : List Interval) (name : Option (List ℕ)) (file text : List ℕ) →
+        KeepsPromise (Query file box name) before after line 0 → before.remaining file ≡ Some text →
+        Adds before after (IsQueried box name text) }
 {}
 
 /// What `gen` has written is the list that the seed gives.

@@ -1,4 +1,5 @@
 mod arranging;
+mod auditing;
 mod certifying;
 mod checking;
 mod comparing;
@@ -49,6 +50,10 @@ const WEB: &[u8] = b"@10.0.0.0/8\t0.0.0.0/0\t0 : 65535\t80 : 80\t0x06/0xFF\tweb\
 /// The table of the rule above.
 const WEB_TABLE: &[u8] =
     b"table 2 slot 144 composed 1 entries 1\n0A000000/FF000000 00000000/00000000 0000/0000 0050/FFFF 06/FF web\n";
+
+/// The usage text.
+const USAGE: &[u8] =
+    b"usage: razor COMMAND\n  expand [--limit N] [--slot W] LIST\n  compile [--limit N] [--slot W] LIST\n  equiv A B\n  cert LIST TABLE\n  check LIST TABLE CERT\n  trace TABLE TRACE\n  drive --slots N SCRIPT TABLE ..\n  gen SEED N\n  selfrun SEED N\n  migrate TABLE\n  arrange [--order P] [--limit N] [--slot W] LIST\n  merge TABLE\n  audit LIST\n  query LIST S D SP DP P DECISION\n";
 
 /// How a call ended, with what it wrote and said.
 #[derive(Drop)]
@@ -196,9 +201,7 @@ fn knows_its_words(rt: HostRuntime) -> Result<(), Fail> {
         &["--help"],
     ];
     for words in none {
-        let usage =
-            b"usage: razor COMMAND\n  expand [--limit N] [--slot W] LIST\n  compile [--limit N] [--slot W] LIST\n  equiv A B\n  cert LIST TABLE\n  check LIST TABLE CERT\n  trace TABLE TRACE\n  drive --slots N SCRIPT TABLE ..\n  gen SEED N\n  selfrun SEED N\n  migrate TABLE\n  arrange [--order P] [--limit N] [--slot W] LIST\n  merge TABLE\n";
-        check(&rt, words, calm(WEB), 2, b"", usage)?;
+        check(&rt, words, calm(WEB), 2, b"", USAGE)?;
     }
     let limits: [&[&str]; 3] = [
         &["compile", "--limit=5", "in"],

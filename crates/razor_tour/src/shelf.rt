@@ -6,13 +6,14 @@ use razor_base::{Desk, MemDesk, Memory, read_all};
 use std::alloc::Global;
 
 /// The files in `data/`.
-const NAMES: [&str; 6] = [
+const NAMES: [&str; 7] = [
     "lab.list",
     "office.list",
     "lab.trace",
     "swap.script",
     "old.table",
     "hosts.table",
+    "edge.list",
 ];
 
 /// As many bytes as a file of the tour may have.

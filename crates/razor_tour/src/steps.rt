@@ -15,7 +15,7 @@ pub struct Step {
 }
 
 /// Every command.
-pub const STEPS: [Step; 14] = [
+pub const STEPS: [Step; 17] = [
     Step {
         words: &["compile", "lab.list"],
         file: Some("lab.table"),
@@ -68,6 +68,36 @@ pub const STEPS: [Step; 14] = [
         file: None,
     },
     Step {
+        words: &["audit", "edge.list"],
+        file: None,
+    },
+    Step {
+        words: &[
+            "query",
+            "edge.list",
+            "*",
+            "3232235786-3232235786",
+            "*",
+            "443-443",
+            "6-6",
+            "accept",
+        ],
+        file: None,
+    },
+    Step {
+        words: &[
+            "query",
+            "edge.list",
+            "*",
+            "3232235786-3232235786",
+            "*",
+            "*",
+            "*",
+            "miss",
+        ],
+        file: None,
+    },
+    Step {
         words: &["gen", "7", "3"],
         file: None,
     },
@@ -80,6 +110,14 @@ pub const STEPS: [Step; 14] = [
         file: None,
     },
 ];
+
+/// A word as it is typed: in the place of a bare star a shell would put the names of files.
+fn typed(word: &str) -> &str {
+    match word {
+        "*" => "'*'",
+        _ => word,
+    }
+}
 
 impl Step {
     /// Runs the command, and shows it with what it writes, what it says, and a status that isn't 0.
@@ -113,7 +151,7 @@ impl Step {
     fn show<K: Sink>(&self, out: &mut K) -> Result<()> {
         write_all(out, b"$ razor")?;
         for word in self.words {
-            write_parts(out, &[Part::Text(" "), Part::Text(word)])?;
+            write_parts(out, &[Part::Text(" "), Part::Text(typed(word))])?;
         }
         if let Some(file) = self.file {
             write_parts(out, &[Part::Text(" | tee "), Part::Text(file)])?;

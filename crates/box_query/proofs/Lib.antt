@@ -1,0 +1,14 @@
+pub mod Held
+pub mod Runs
+pub mod Parts
+pub mod Alone
+pub mod Apart
+pub mod NodeBoxes
+pub mod Texts
+pub mod Few
+pub mod Shared
+pub mod Cutting
+pub mod Asking
+pub mod Meant
+pub mod Walking
+pub mod Ended

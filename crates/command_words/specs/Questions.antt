@@ -1,0 +1,53 @@
+-- What is asked of a list: in which spans, and where it decides what.
+use Rattle.std.specs.Prelude.{ℕ, ◌+◌, ◌==◌, Bool, false, not, ◌&&◌, ◌||◌, List, [], ◌∷◌, take, drop, codes, position, Option, Some, None, option_map, if◌then◌else◌}
+use Rattle.std.specs.Option.{is_some}
+use Rattle.std.specs.Str.{bytes_eq}
+use Rattle.field_boxes.specs.Classifier.{Interval}
+use Rattle.field_boxes.specs.Fields.{greatest_of}
+use Rattle.field_boxes.specs.Names.{is_decision_word, miss}
+use Rattle.command_words.specs.Numbers.{number_between}
+use Rattle.command_words.specs.Steps.{◌>>=◌}
+
+-- what stands before the first separator, and what stands after it
+abbrev pub split_once : ℕ → List ℕ → Option (List ℕ × List ℕ)
+split_once separator word = option_map (λ i. (take i word, drop (i + 1) word)) (position (λ b. b == separator) word)
+
+abbrev pub span : ℕ → ℕ → Interval
+span lo hi = record { lo = lo; hi = hi }
+
+-- the values from one number to another, with '-' between them
+unfoldable pub span_written : ℕ → List ℕ → Option Interval
+span_written greatest word = do
+  ends ← split_once 45 word
+  lo ← number_between 0 greatest ends.0
+  hi ← number_between lo greatest ends.1
+  Some (span lo hi)
+
+-- all values up to the greatest, or a span of them
+unfoldable pub span_asked : ℕ → List ℕ → Option Interval
+span_asked greatest word = if bytes_eq word (codes "*") then Some (span 0 greatest) else span_written greatest word
+
+-- the spans of the fields from one on, a word each
+abbrev pub spans_asked : ℕ → List (List ℕ) → Option (List Interval)
+spans_asked field [] = Some []
+spans_asked field (word ∷ words) = do
+  span ← span_asked (greatest_of field) word
+  spans ← spans_asked (field + 1) words
+  Some (span ∷ spans)
+
+-- '#' and the number of a rule, 1 to 65536, without leading zeros
+abbrev pub is_own_name : List ℕ → Bool
+is_own_name (hash ∷ digit ∷ digits) = hash == 35 && (not (digit == 48) && is_some (number_between 1 65536 (digit ∷ digits)))
+is_own_name word = false
+
+-- what a query may name: a decision word, the name of a rule without one, or miss
+unfoldable pub is_decision : List ℕ → Bool
+is_decision word = bytes_eq word miss || (is_decision_word word || is_own_name word)
+
+-- the name that a text is of a decision: none for miss
+abbrev pub name_in : List ℕ → Option (List ℕ)
+name_in text = if bytes_eq text miss then None else Some text
+
+-- the decision that a word names
+abbrev pub decision_asked : List ℕ → Option (Option (List ℕ))
+decision_asked word = if is_decision word then Some (name_in word) else None

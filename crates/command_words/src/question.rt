@@ -1,0 +1,120 @@
+//! What is asked of a list.
+ghost use Rattle.std.specs.Prelude.{◌≡◌, ◌≤◌, ◌==◌, ◌∷◌, [], List, ℕ, Option, IfSome, map, position};
+ghost use Rattle.std.specs.Option.{option_map};
+ghost use Rattle.field_boxes.specs.Classifier.{Interval};
+ghost use Rattle.field_boxes.specs.Spans.{AreInside, interval_of, intervals_of};
+ghost use Rattle.command_words.specs.Command.{Command};
+ghost use Rattle.command_words.specs.Naming.{asking};
+ghost use Rattle.command_words.specs.Questions.{is_decision, is_own_name, name_in, span_asked, span_written, spans_asked, split_once};
+
+use crate::number::number_between;
+use field_boxes::{Span, decision_word, greatest};
+
+/// Where a list is asked for a decision: inside five spans, each within its field. The decision is the text of a
+/// name, or `miss` for none.
+#[derive(Clone, Copy, Debug)]
+pub struct Question<'a> {
+    pub list: &'a str,
+    pub spans: [Span; 5],
+    pub decision: &'a str,
+    pub ghost inside: { AreInside spans },
+}
+
+/// The place of the first separator.
+fn place_of(word: &[u8], separator: u8) -> Option<usize>
+    ensures { result ≡ position (λ b. b == separator) word.now }
+{
+    word.iter().position(|&byte| byte == separator)
+}
+
+/// What stands before the first separator, and what stands after it.
+fn split_once(word: &[u8], separator: u8) -> Option<(&[u8], &[u8])>
+    ensures { option_map (λ parts. (parts.0.now, parts.1.now)) result ≡ split_once separator word.now }
+{
+    let place = place_of(word, separator)?;
+    Some((&word[..place], &word[place + 1..]))
+}
+
+/// The values from one number to another, no greater than the greatest.
+#[tactic(auto, unfolding(crate::specs::Questions::span_written))]
+fn span_written(word: &[u8], greatest: u32) -> Option<Span>
+    ensures span { option_map interval_of result ≡ span_written greatest word.now }
+    ensures within { IfSome result (λ span. span.hi ≤ greatest) }
+{
+    let (lo, hi) = split_once(word, b'-')?;
+    let lo = number_between(lo, 0, greatest)?;
+    let hi = number_between(hi, lo, greatest)?;
+    Some(Span { lo, hi })
+}
+
+/// All values up to the greatest for `*`, or a span of them.
+#[tactic(auto, unfolding(crate::specs::Questions::span_asked))]
+fn span_asked(word: &[u8], greatest: u32) -> Option<Span>
+    ensures span { option_map interval_of result ≡ span_asked greatest word.now }
+    ensures within { IfSome result (λ span. span.hi ≤ greatest) }
+{
+    if word == b"*".as_slice() {
+        return Some(Span {
+            lo: 0,
+            hi: greatest,
+        });
+    }
+    span_written(word, greatest)
+}
+
+/// The spans of the five fields.
+fn spans_asked(
+    source: &str,
+    destination: &str,
+    from: &str,
+    to: &str,
+    protocol: &str,
+) -> Option<[Span; 5]>
+    ensures spans { option_map intervals_of result ≡ spans_asked 0 (source.now ∷ destination.now ∷ from.now ∷ to.now ∷ protocol.now ∷ []) }
+    ensures inside { IfSome result AreInside }
+{
+    Some([
+        span_asked(source.as_bytes(), greatest(0))?,
+        span_asked(destination.as_bytes(), greatest(1))?,
+        span_asked(from.as_bytes(), greatest(2))?,
+        span_asked(to.as_bytes(), greatest(3))?,
+        span_asked(protocol.as_bytes(), greatest(4))?,
+    ])
+}
+
+/// Whether the word is the name that a rule without a decision word has: `#` and its number.
+fn own_name(word: &[u8]) -> bool
+    ensures { result ≡ is_own_name word.now }
+{
+    match word {
+        [b'#', first, ..] => *first != b'0' && number_between(&word[1..], 1, 65_536).is_some(),
+        _ => false,
+    }
+}
+
+/// Whether the word is `miss`, or the name of a decision.
+#[tactic(auto, unfolding(crate::specs::Questions::is_decision))]
+fn is_decision(word: &[u8]) -> bool
+    ensures { result ≡ is_decision word.now }
+{
+    word == b"miss".as_slice() || decision_word(word) || own_name(word)
+}
+
+/// What the words ask: a list, five spans and a decision.
+pub(crate) fn question_of<'a>(words: &[&'a str]) -> Option<Question<'a>>
+    ensures { (command : List ℕ → List Interval → Option (List ℕ) → Command) →
+        option_map (λ question. command question.list.now (intervals_of question.spans) (name_in question.decision.now)) result ≡ asking command (map (λ word. word.now) words.now) }
+{
+    let &[list, source, destination, from, to, protocol, decision] = words else {
+        return None;
+    };
+    let spans = spans_asked(source, destination, from, to, protocol)?;
+    if !is_decision(decision.as_bytes()) {
+        return None;
+    }
+    Some(Question {
+        list,
+        spans,
+        decision,
+    })
+}

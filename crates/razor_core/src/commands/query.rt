@@ -1,0 +1,81 @@
+//! `query`: the boxes inside a box in which a list decides as asked.
+ghost use Rattle.std.specs.Prelude.{◌≢◌, ℕ, List};
+ghost use Rattle.std.specs.Io.KnownBytes.{Keeps};
+ghost use Rattle.command_words.specs.Command.{Query};
+ghost use Rattle.command_words.specs.Questions.{name_in};
+ghost use Rattle.field_boxes.specs.Spans.{intervals_of};
+ghost use Rattle.filter_reader.specs.Lists.{filter_list};
+ghost use Rattle.razor_base.specs.Output.{Writes};
+ghost use Rattle.razor_core.specs.Ending.{Ends};
+ghost use Rattle.razor_core.specs.Outside.{seen};
+ghost use Rattle.razor_core.specs.OneText.{IsEndOf};
+ghost use Rattle.razor_core.specs.Query.{count_line, AreAnswered, IsCounted};
+
+use crate::ending::{Ending, Summary};
+use crate::taking::take;
+use crate::texts::ListText;
+use box_query::{QueryError, query};
+use command_words::Question;
+use filter_reader::RuleList;
+use razor_base::{Desk, Failed, Part, Sink, write_parts};
+use std::alloc::Global;
+
+/// Writes the boxes inside the spans in which the list decides as asked, and how many they are.
+pub fn query_list<'a, D: Desk, K: Sink>(
+    alloc: Global,
+    question: Question<'a>,
+    desk: &mut D,
+    out: &mut K,
+) -> Ending<'a>
+    ensures ends { Ends (Query question.entry.list.now (intervals_of question.entry.spans) (name_in question.entry.decision.now))
+        (seen D.remaining D.faults K.written K.faults desk.old out.old)
+        (seen D.remaining D.faults K.written K.faults desk.new out.new)
+        result }
+    ensures others { (other : List ℕ) → other ≢ question.entry.list.now → Keeps (D.remaining desk.old other) (D.remaining desk.new other) }
+{
+    let list = match take(alloc, &ListText, question.list, desk) {
+        Ok(list) => list,
+        Err(ending) => return ending,
+    };
+    answer_question(alloc, &list, question, out)
+}
+
+/// Writes the boxes and how many they are, and says how the command ends.
+fn answer_question<'a, K: Sink>(
+    alloc: Global,
+    list: &RuleList,
+    question: Question<'a>,
+    out: &mut K,
+) -> Ending<'a>
+    ensures { IsEndOf (AreAnswered (intervals_of question.entry.spans) (name_in question.entry.decision.now) (filter_list list.now).rules)
+        (K.written out.old) (K.written out.new) (K.faults out.old) (K.faults out.new) result }
+{
+    let Some(number) = list.names.number(question.decision) else {
+        return counted(0, out);
+    };
+    match query(alloc, list, &question.spans, number, out) {
+        Ok(boxes) => counted(boxes, out),
+        Err(QueryError::Fault) => Ending::WriteFault,
+        Err(QueryError::Memory) => Ending::Memory,
+    }
+}
+
+/// Writes how many boxes there are.
+fn write_count<K: Sink>(boxes: u128, out: &mut K) -> Result<(), Failed>
+    ensures { Writes K.written K.faults out.old out.new (count_line boxes) result }
+{
+    write_parts(
+        out,
+        &[Part::Text("boxes "), Part::Number(boxes), Part::Text("\n")],
+    )
+}
+
+/// Writes how many boxes there are, and says how the command ends.
+fn counted<'a, K: Sink>(boxes: u128, out: &mut K) -> Ending<'a>
+    ensures { IsCounted boxes (K.written out.old) (K.written out.new) (K.faults out.old) (K.faults out.new) result }
+{
+    match write_count(boxes, out) {
+        Ok(()) => Ending::Done(Summary::Nothing),
+        Err(_) => Ending::WriteFault,
+    }
+}

@@ -1,0 +1,99 @@
+-- A node over edges to what comes of the parts of two nodes is what comes of the two nodes.
+use Rattle.std.proofs.Common.{◌≡◌, ◌∷◌, ℕ, List, ◌≤◌, ◌∙◌, sym, ap, subst}
+use Rattle.std.specs.Prelude.{map, slice_index_or}
+use Rattle.std.specs.List.{AllZip}
+use Rattle.field_boxes.specs.Fields.{AreValues}
+use Rattle.node_store.specs.Levels.{HasField, IsLevel, next, top_of}
+use Rattle.node_store.specs.declared.edge.Edge.{Edge}
+use Rattle.node_store.specs.declared.edge.NodeId.{NodeId}
+use Rattle.node_store.specs.declared.split.Part.{Part}
+use Rattle.node_store.specs.Diagram.{Node, level_of, edges_of, answer}
+use Rattle.node_store.specs.Edges.{AreFull, child_of}
+use Rattle.node_store.specs.Split.{IsSplit, to_left, to_right}
+use Rattle.node_store.specs.Store.{Grows, LeadTo}
+use Rattle.node_store.proofs.Edges.{rise_of, full_from}
+use Rattle.node_store.proofs.Canonical.{chosen, in_use, is_level, is_next}
+use Rattle.field_boxes.specs.declared.rule.Rule.{Rule}
+use Rattle.rule_audit.specs.declared.pair.Pair.{Pair}
+use Rattle.rule_audit.specs.Joined.{joined}
+use Rattle.rule_audit.specs.Laid.{AreAt, IsLaid, IsLaidPart}
+use Rattle.node_store.proofs.Values.{each}
+use Rattle.rule_audit.proofs.LaidParts as parts
+use Rattle.node_store.proofs.Growth as growth
+
+-- the edges and the parts as slices
+pub from_slices : (rules : List Rule) (nodes : List Node) (ps ps' : List Part) (es' es : List Edge) → ps ≡ ps' → es ≡ es' →
+    AllZip (IsLaidPart rules nodes) ps es' → AllZip (IsLaidPart rules nodes) ps' es
+from_slices rules nodes ps ps' es' es p q zip =
+    subst (λ x. AllZip (IsLaidPart rules nodes) ps' x) (sym q) (subst (λ x. AllZip (IsLaidPart rules nodes) x es') p zip)
+
+-- what `make` asks of the edges
+pub full : (rules : List Rule) (nodes : List Node) (greatest : ℕ) (ps : List Part) (es : List Edge) → AreFull greatest (map to_left ps) →
+    AllZip (IsLaidPart rules nodes) ps es → AreFull greatest es
+full rules nodes greatest ps es f zip = full_from greatest 0 es (parts.rise rules nodes greatest 0 ps es (rise_of greatest (map to_left ps) f) zip)
+
+pub children : (rules : List Rule) (old mid : List Node) (place : List ℕ) (ps : List Part) (es : List Edge) → Grows old mid → IsLevel place →
+    LeadTo old place (map to_left ps) → AllZip (IsLaidPart rules mid) ps es → LeadTo mid place es
+children rules old mid place ps es g is left zip =
+    parts.lead rules mid place ps es
+    (λ k d h. let at = left k d h in growth.level_kept old mid (slice_index_or (map to_left ps) k d).to.0 g (in_use old (slice_index_or (map to_left ps) k d).to.0 place is at) ∙ at)
+    zip
+
+module _ (rules : List Rule) (old mid new : List Node) (first : Grows old mid) (second : Grows mid new) where
+  -- what an old node answers in the end, by its child
+  by_child : (id : ℕ) (place : List ℕ) (child v : ℕ) (values : List ℕ) → level_of old id ≡ place → HasField place → child_of (edges_of old id) v ≡ child → level_of old child ≡ next place →
+      answer new id (v ∷ values) ≡ answer mid child values
+  by_child id place child v values l field is below =
+      growth.answers_twice old mid new id (v ∷ values) first second (in_use old id place (is_level place field) l)
+      ∙ ap (λ n. answer old n values) is
+      ∙ sym (first.answers child values (in_use old child (next place) (is_next place field) below))
+
+  pub made : (pair : Pair) (laid : NodeId) (place : List ℕ) (ps : List Part) (es : List Edge) → HasField place → AreAt old place pair →
+      IsSplit (top_of place) (edges_of old pair.upper.0) (edges_of old pair.lower.0) ps →
+      LeadTo old (next place) (map to_left ps) → LeadTo old (next place) (map to_right ps) →
+      AllZip (IsLaidPart rules mid) ps es → level_of new laid.0 ≡ place →
+      ((v : ℕ) (values : List ℕ) → v ≤ top_of place → answer new laid.0 (v ∷ values) ≡ answer mid (child_of es v) values) →
+      IsLaid rules new pair laid
+  made pair laid place ps es field at split left right zip level answers =
+      let a = pair.upper.0 in
+      let b = pair.lower.0 in
+      let grown = growth.twice old mid new first second in
+      let top = growth.level_kept old new a grown (in_use old a place (is_level place field) at.upper) ∙ at.upper in
+      let bottom = growth.level_kept old new b grown (in_use old b place (is_level place field) at.lower) ∙ at.lower in
+      let rise = rise_of (top_of place) (map to_left ps) split.full in
+      let by_value : (v : ℕ) (values : List ℕ) → v ≤ top_of place → AreValues (next place) values →
+      answer new laid.0 (v ∷ values) ≡ joined rules (answer new a (v ∷ values)) (answer new b (v ∷ values)) =
+      λ v values low h.
+      let x = child_of (map to_left ps) v in
+      let y = child_of (map to_right ps) v in
+      let x_at = chosen (λ n. level_of old n ≡ next place) (top_of place) 0 (map to_left ps) v rise low left in
+      let y_at = parts.right_level old (next place) (top_of place) 0 v ps rise right low in
+      let comes = parts.comes rules mid (top_of place) 0 v ps es rise zip low in
+      let x_mid = growth.level_kept old mid x first (in_use old x (next place) (is_next place field) x_at) ∙ x_at in
+      answers v values low
+      ∙ comes.answers values (subst (λ k. AreValues k values) (sym x_mid) h)
+      ∙ sym (ap (λ n. joined rules n (answer new b (v ∷ values))) (by_child a place x v values at.upper field (sym (split.left v low)) x_at)
+      ∙ ap (λ n. joined rules (answer mid x values) n) (by_child b place y v values at.lower field (sym (split.right v low)) y_at)) in record {
+        within = subst IsLevel (sym top) (is_level place field);
+        beside = bottom ∙ sym top;
+        level = level ∙ sym top;
+        answers = λ values h.
+            each (λ vs. answer new laid.0 vs ≡ joined rules (answer new a vs) (answer new b vs)) place field by_value values (subst (λ k. AreValues k values) top h);
+      }
+
+-- what comes of a pair of old nodes answers all values
+pub whole : (rules : List Rule) (old new : List Node) (place : List ℕ) (pair : Pair) (laid : NodeId) → Grows old new → IsLevel place → AreAt old place pair → IsLaid rules new pair laid →
+    (level_of new laid.0 ≡ place) × ((header : List ℕ) → AreValues place header →
+    answer new laid.0 header ≡ joined rules (answer old pair.upper.0 header) (answer old pair.lower.0 header))
+whole rules old new place pair laid g is at l =
+    let a = pair.upper.0 in
+    let b = pair.lower.0 in
+    let in_a = in_use old a place is at.upper in
+    let in_b = in_use old b place is at.lower in
+    let top = growth.level_kept old new a g in_a ∙ at.upper in (
+      l.level ∙ top,
+      λ header h.
+          l.answers header (subst (λ k. AreValues k header) (sym top) h)
+          ∙ ap (λ n. joined rules n (answer new b header)) (g.answers a header in_a)
+          ∙ ap (λ n. joined rules (answer old a header) n) (g.answers b header in_b),
+    )

@@ -1,0 +1,159 @@
+-- The states of rules with names, by what labels tell.
+use Rattle.std.proofs.Common.{◌≡◌, ◌∷◌, ℕ, ◌<◌, ◌+◌, zero, suc, List, [], Bool, true, false, ap, refl, sym, ◌∙◌, subst, length, arith, inl, inr}
+use Rattle.std.specs.Prelude.{◌⊎◌, cond, nat_eq, Option, Some, None, All, slice_index_or}
+use Rattle.std.specs.List.{remove, AllByRecursion}
+use Rattle.std.proofs.lemmas.Bool.{eq-eqb, ne_eqb}
+use Rattle.std.proofs.lemmas.List.Elements.{recursion_from_All}
+use Rattle.std.proofs.lemmas.List.{length-map}
+use Rattle.field_boxes.specs.declared.rule.Rule as code
+use Rattle.field_boxes.specs.Classifier.{matches, source}
+use Rattle.field_boxes.specs.Fields.{stated, IsHeader}
+use Rattle.field_boxes.specs.NamedRules.{IsNumberedBy, named_rule, named_rules}
+use Rattle.field_boxes.specs.Names.{AreDistinct, name_at}
+use Rattle.field_boxes.specs.Rules.{rule_of}
+use Rattle.fdd_build.specs.Rules.{decided}
+use Rattle.fdd_build.proofs.Decided.{decided_head, named, within}
+use Rattle.rule_audit.specs.declared.label.Next.{Next}
+use Rattle.rule_audit.specs.declared.label.Next.TheVariants.{Nothing, Alike, Otherwise}
+use Rattle.rule_audit.specs.declared.state.RuleState.{RuleState}
+use Rattle.rule_audit.specs.declared.state.RuleState.TheVariants.{Live, Droppable, Never}
+use Rattle.rule_audit.specs.Joined.{AllDecide}
+use Rattle.rule_audit.specs.Labels.{label_at, labelled, next_of}
+use Rattle.rule_audit.specs.Meeting.{IsNeeded, IsStateSoFar, next_shown}
+use Rattle.rule_audit.specs.State.{AreStates, IsChanged, IsFirst, IsState}
+use Rattle.rule_audit.proofs.Alone.{matches_by_sets}
+use Rattle.rule_audit.proofs.Firsts.{PassesFirst, passes-position, position-passes}
+use Rattle.rule_audit.proofs.Told.{Tells, meets, tells}
+
+-- each rule decides something
+pub all_decide : (names : List (List ℕ)) (rules : List code.Rule) → AllByRecursion (IsNumberedBy names) rules → AllDecide rules
+all_decide names [] h = tt
+all_decide names (rule ∷ rules) h = (h.0.0, all_decide names rules h.1)
+
+numbered_remove : (names : List (List ℕ)) (rules : List code.Rule) (k : ℕ) → AllByRecursion (IsNumberedBy names) rules → AllByRecursion (IsNumberedBy names) (remove rules k)
+numbered_remove names [] zero h = h
+numbered_remove names [] (suc k) h = h
+numbered_remove names (rule ∷ rules) zero h = h.1
+numbered_remove names (rule ∷ rules) (suc k) h = (h.0, numbered_remove names rules k h.1)
+
+named_remove : (names : List (List ℕ)) (rules : List code.Rule) (k : ℕ) → remove (named_rules names rules) k ≡ named_rules names (remove rules k)
+named_remove names [] zero = refl
+named_remove names [] (suc k) = refl
+named_remove names (rule ∷ rules) zero = refl
+named_remove names (rule ∷ rules) (suc k) = ap (λ rs. named_rule names rule ∷ rs) (named_remove names rules k)
+
+module _ (header : List ℕ) where
+  same_meets : (names : List (List ℕ)) (rule : code.Rule) → matches stated header (named_rule names rule) ≡ meets stated header rule
+  same_meets names rule = matches_by_sets stated header (named_rule names rule) (rule_of rule) refl
+
+  first_named : (names : List (List ℕ)) (rules : List code.Rule) (k : ℕ) → PassesFirst (meets stated header) rules k → PassesFirst (matches stated header) (named_rules names rules) k
+  first_named names [] k h = h
+  first_named names (rule ∷ rules) zero h = same_meets names rule ∙ h
+  first_named names (rule ∷ rules) (suc k) h = (same_meets names rule ∙ h.0, first_named names rules k h.1)
+
+  first_numbered : (names : List (List ℕ)) (rules : List code.Rule) (k : ℕ) → PassesFirst (matches stated header) (named_rules names rules) k → PassesFirst (meets stated header) rules k
+  first_numbered names [] k h = h
+  first_numbered names (rule ∷ rules) zero h = sym (same_meets names rule) ∙ h
+  first_numbered names (rule ∷ rules) (suc k) h = (sym (same_meets names rule) ∙ h.0, first_numbered names rules k h.1)
+
+  -- where a rule matches, something is decided
+  decides : (rules : List code.Rule) (k : ℕ) → AllDecide rules → PassesFirst (meets stated header) rules k → 0 < decided stated rules header
+  decides [] k all h = absurd h
+  decides (rule ∷ rules) zero all h = rw (decided_head stated header rule rules true h) all.0
+  decides (rule ∷ rules) (suc k) all h = rw (decided_head stated header rule rules false h.0) (decides rules k all.1 h.1)
+
+-- with the same decision the next one is alike
+alike_next : (d : ℕ) → 0 < d → next_of d d ≡ Alike
+alike_next d h =
+    ap (λ t. cond t Nothing (cond (nat_eq d d) Alike Otherwise)) (ne_eqb d 0 (λ e. omega (arith, h, e)))
+    ∙ ap (λ t. cond t Alike Otherwise) (eq-eqb d d refl)
+
+needed_differs : (d e : ℕ) → 0 < d → IsNeeded (Some (next_of d e)) → e ≡ d → ⊥
+needed_differs d e h needed same = subst (λ n. IsNeeded (Some n)) (ap (next_of d) same ∙ alike_next d h) needed
+
+differ_needed_by : (s t : Bool) → t ≡ false → IsNeeded (Some (cond s Nothing (cond t Alike Otherwise)))
+differ_needed_by true t e = tt
+differ_needed_by false true e = absurd (let f : true ≡ false = e in cc)
+differ_needed_by false false e = tt
+
+differ_needed : (d e : ℕ) → (e ≡ d → ⊥) → IsNeeded (Some (next_of d e))
+differ_needed d e h = differ_needed_by (nat_eq e 0) (nat_eq d e) (ne_eqb d e (λ same. h (sym same)))
+
+module _ (names : List (List ℕ)) (rules : List code.Rule) (numbered : AllByRecursion (IsNumberedBy names) rules) (distinct : AreDistinct names) (k : ℕ) (header : List ℕ) where
+  abbrev all_number : ℕ
+  all_number = decided stated rules header
+
+  abbrev without_number : ℕ
+  without_number = decided stated (remove rules k) header
+
+  without : source stated header (remove (named_rules names rules) k) ≡ name_at names without_number
+  without = ap (source stated header) (named_remove names rules k) ∙ named stated names (remove rules k) header (numbered_remove names rules k numbered)
+
+  same_numbers : without_number ≡ all_number → IsChanged (named_rules names rules) k header → ⊥
+  same_numbers e changed = changed (without ∙ ap (name_at names) e ∙ sym (named stated names rules header numbered))
+
+  other_numbers : (without_number ≡ all_number → ⊥) → IsChanged (named_rules names rules) k header
+  other_numbers differ e =
+      differ (distinct without_number all_number (within stated names (remove rules k) header (numbered_remove names rules k numbered)) (within stated names rules header numbered)
+      (sym without ∙ e ∙ named stated names rules header numbered))
+
+  changed_by : (o : Option Next) → Tells stated header rules k o → IsNeeded o → IsChanged (named_rules names rules) k header
+  changed_by None t needed = absurd needed
+  changed_by (Some next) t needed =
+      other_numbers (needed_differs all_number without_number (decides header rules k (all_decide names rules numbered) t.0) (subst (λ n. IsNeeded (Some n)) t.1 needed))
+
+  needed_by : (o : Option Next) → Tells stated header rules k o → IsChanged (named_rules names rules) k header → IsNeeded o
+  needed_by None t changed = absurd (same_numbers t.1 changed)
+  needed_by (Some next) t changed = subst (λ n. IsNeeded (Some n)) (sym t.1) (differ_needed all_number without_number (λ e. same_numbers e changed))
+
+  first_by : (o : Option Next) → Tells stated header rules k o → o ≡ Some Alike → IsFirst (named_rules names rules) k header
+  first_by None t e = let f : None ≡ Some Alike = e in cc
+  first_by (Some next) t e = passes-position (matches stated header) (named_rules names rules) k (first_named header names rules k t.0)
+
+  none_by : (o : Option Next) → Tells stated header rules k o → o ≡ None → IsFirst (named_rules names rules) k header → ⊥
+  none_by None t e first = t.0 (first_numbered header names rules k (position-passes (matches stated header) (named_rules names rules) k first))
+  none_by (Some next) t e first = let f : Some next ≡ None = e in cc
+
+  alike_by : (o : Option Next) → Tells stated header rules k o → IsFirst (named_rules names rules) k header → (o ≡ Some Alike) ⊎ IsNeeded o
+  alike_by None t first = absurd (none_by None t refl first)
+  alike_by (Some Nothing) t first = inr tt
+  alike_by (Some Alike) t first = inl refl
+  alike_by (Some Otherwise) t first = inr tt
+
+module _ (names : List (List ℕ)) (rules : List code.Rule) (numbered : AllByRecursion (IsNumberedBy names) rules) (distinct : AreDistinct names) (k : ℕ) where
+  abbrev shown : List ℕ → Option Next
+  shown header = next_shown k (label_at (labelled stated 0 rules header))
+
+  told : (header : List ℕ) → Tells stated header rules k (shown header)
+  told header =
+      let same : 0 + k ≡ k = omega arith in
+      subst (λ n. Tells stated header rules k (next_shown n (label_at (labelled stated 0 rules header)))) same (tells stated header 0 k rules)
+
+  is_state : (state : RuleState) → IsStateSoFar IsHeader shown state → IsState (named_rules names rules) k state
+  is_state (Live header) s = record {
+    in_fields = s.0;
+    holds = changed_by names rules numbered distinct k header.values (shown header.values) (told header.values) s.1;
+    least = λ h ok before changed. s.2 h ok before (needed_by names rules numbered distinct k h (shown h) (told h) changed);
+  }
+  is_state (Droppable header) s = (
+    (λ h ok changed. s.0 h ok (needed_by names rules numbered distinct k h (shown h) (told h) changed)),
+    record {
+      in_fields = s.1;
+      holds = first_by names rules numbered distinct k header.values (shown header.values) (told header.values) s.2;
+      least = λ h ok before first. elim (alike_by names rules numbered distinct k h (shown h) (told h) first) [
+        | inl alike ↦ s.3 h ok before alike
+        | inr needed ↦ s.0 h ok needed
+      ];
+    },
+  )
+  is_state Never s = λ h ok first. none_by names rules numbered distinct k h (shown h) (told h) (s h ok) first
+
+pub are_states : (names : List (List ℕ)) (rules : List code.Rule) (states : List RuleState) → All (IsNumberedBy names) rules → AreDistinct names → length states ≡ length rules →
+    ((k : ℕ) (d : RuleState) → k < length rules → IsStateSoFar IsHeader (λ h. next_shown k (label_at (labelled stated 0 rules h))) (slice_index_or states k d)) →
+    AreStates (named_rules names rules) states
+are_states names rules states numbered distinct count each = record {
+  count = count ∙ sym (length-map rules (named_rule names));
+  each = λ k d less.
+      is_state names rules (recursion_from_All (IsNumberedBy names) rules numbered) distinct k (slice_index_or states k d)
+      (each k d (let n = length-map rules (named_rule names) in omega (arith, n, less)));
+}

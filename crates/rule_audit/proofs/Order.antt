@@ -1,0 +1,82 @@
+-- The order of headers, and the values with which they begin.
+use Rattle.std.proofs.Common.{◌≡◌, ◌∷◌, ◌++◌, ℕ, List, [], ◌≤◌, ◌<◌, length, drop, refl, ap, arith, ◌∙◌, inl, inr}
+use Rattle.std.specs.Prelude.{◌⊎◌, suc}
+use Rattle.field_boxes.specs.Fields.{AreValues, ComesBefore}
+
+pub none_before : (h : List ℕ) → ComesBefore h [] → ⊥
+none_before [] b = b
+none_before (v ∷ h) b = b
+
+pub before_itself : (h : List ℕ) → ComesBefore h h → ⊥
+before_itself [] b = b
+before_itself (v ∷ h) (inl less) = omega (arith, less)
+before_itself (v ∷ h) (inr b) = before_itself h b.1
+
+pub in_turn : (a b c : List ℕ) → ComesBefore a b → ComesBefore b c → ComesBefore a c
+in_turn [] b c p q = absurd p
+in_turn (x ∷ a) [] c p q = absurd p
+in_turn (x ∷ a) (y ∷ b) [] p q = absurd q
+in_turn (x ∷ a) (y ∷ b) (z ∷ c) (inl p) (inl q) = inl (omega (arith, p, q))
+in_turn (x ∷ a) (y ∷ b) (z ∷ c) (inl p) (inr q) = inl (omega (arith, p, q.0))
+in_turn (x ∷ a) (y ∷ b) (z ∷ c) (inr p) (inl q) = inl (omega (arith, p.0, q))
+in_turn (x ∷ a) (y ∷ b) (z ∷ c) (inr p) (inr q) = inr (p.0 ∙ q.0, in_turn a b c p.1 q.1)
+
+-- before some values is before all that begin with them
+pub before_more : (h front rest : List ℕ) → ComesBefore h front → ComesBefore h (front ++ rest)
+before_more h [] rest b = absurd (none_before h b)
+before_more [] (x ∷ front) rest b = b
+before_more (v ∷ h) (x ∷ front) rest (inl less) = inl less
+before_more (v ∷ h) (x ∷ front) rest (inr b) = inr (b.0, before_more h front rest b.1)
+
+pub by_value : (front : List ℕ) (u v : ℕ) (xs ys : List ℕ) → u < v → ComesBefore (front ++ u ∷ xs) (front ++ v ∷ ys)
+by_value [] u v xs ys h = inl h
+by_value (x ∷ front) u v xs ys h = inr (refl, by_value front u v xs ys h)
+
+pub before_raised : (front h : List ℕ) (u v : ℕ) → u ≤ v → ComesBefore h (front ++ u ∷ []) → ComesBefore h (front ++ v ∷ [])
+before_raised [] [] u v l b = b
+before_raised [] (x ∷ h) u v l (inl less) = inl (omega (arith, less, l))
+before_raised [] (x ∷ h) u v l (inr b) = absurd (none_before h b.1)
+before_raised (x ∷ front) [] u v l b = b
+before_raised (x ∷ front) (y ∷ h) u v l (inl less) = inl less
+before_raised (x ∷ front) (y ∷ h) u v l (inr b) = inr (b.0, before_raised front h u v l b.1)
+
+-- none that begins so is before the value 0
+pub before_zero : (front h : List ℕ) → ComesBefore h (front ++ 0 ∷ []) → ComesBefore h front
+before_zero [] [] b = b
+before_zero [] (x ∷ h) (inl less) = absurd (omega (arith, less))
+before_zero [] (x ∷ h) (inr b) = absurd (none_before h b.1)
+before_zero (x ∷ front) [] b = b
+before_zero (x ∷ front) (y ∷ h) (inl less) = inl less
+before_zero (x ∷ front) (y ∷ h) (inr b) = inr (b.0, before_zero front h b.1)
+
+two : (v lo hi : ℕ) → v < suc hi → (v < lo) ⊎ ((lo ≤ v) × (v ≤ hi))
+two v lo hi h = grind (arith, h)
+
+-- begins with the values, and goes on with one from lo to hi
+pub record Within (front : List ℕ) (lo hi : ℕ) (h : List ℕ) : Type 0 where
+  pub value : ℕ
+  pub rest : List ℕ
+  pub low : lo ≤ value
+  pub high : value ≤ hi
+  pub is : h ≡ front ++ value ∷ rest
+
+longer : (x y : ℕ) (front h : List ℕ) (lo hi : ℕ) → y ≡ x → Within front lo hi h → Within (x ∷ front) lo hi (y ∷ h)
+longer x y front h lo hi e w = record { value = w.value; rest = w.rest; low = w.low; high = w.high; is = ap (λ n. n ∷ h) e ∙ ap (λ xs. x ∷ xs) w.is }
+
+-- what is before the value after hi is before lo, or has a value from lo to hi
+pub cut : (front h : List ℕ) (lo hi : ℕ) → ComesBefore h (front ++ suc hi ∷ []) → ComesBefore h (front ++ lo ∷ []) ⊎ Within front lo hi h
+cut [] [] lo hi b = absurd b
+cut [] (v ∷ rest) lo hi (inl less) = elim (two v lo hi less) [
+  | inl below ↦ inl (inl below)
+  | inr both ↦ inr (record { value = v; rest = rest; low = both.0; high = both.1; is = refl })
+]
+cut [] (v ∷ rest) lo hi (inr b) = absurd (none_before rest b.1)
+cut (x ∷ front) [] lo hi b = absurd b
+cut (x ∷ front) (y ∷ h) lo hi (inl less) = inl (inl less)
+cut (x ∷ front) (y ∷ h) lo hi (inr b) = elim (cut front h lo hi b.1) [ inl c ↦ inl (inr (b.0, c)) | inr w ↦ inr (longer x y front h lo hi b.0 w) ]
+
+-- the values after the first ones are those of the fields after them
+pub rest_values : (fields front rest : List ℕ) → AreValues fields (front ++ rest) → AreValues (drop (length front) fields) rest
+rest_values fields [] rest h = h
+rest_values [] (x ∷ front) rest h = absurd h
+rest_values (f ∷ fields) (x ∷ front) rest h = rest_values fields front rest h.1
