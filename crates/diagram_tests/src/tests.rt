@@ -1,4 +1,3 @@
-mod auditing;
 mod building;
 mod joints;
 mod nodes;

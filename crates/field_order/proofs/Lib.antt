@@ -3,3 +3,17 @@ pub mod FieldLevels
 pub mod Places
 pub mod RuleCosts
 pub mod Trials
+pub mod Without
+pub mod Values
+pub mod Parts
+pub mod NodeParts
+pub mod Searched
+pub mod Kept
+pub mod Stays
+pub mod Zipped
+pub mod Rows
+pub mod Fronted
+pub mod Steps
+pub mod Weighed
+pub mod Rearranged
+pub mod Roots

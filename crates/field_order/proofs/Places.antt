@@ -15,7 +15,7 @@ one_more x base = grind arith
 rises : (x y base : ℕ) → x < y → x * base + base ≤ y * base
 rises x y base h = omega (arith, one_more x base, mul-le (suc x) base y base (omega (arith, h)) (omega arith))
 
-small : (xs : List ℕ) → All (λ f. f < 5) xs → place_of xs < 5 ^ length xs
+pub small : (xs : List ℕ) → All (λ f. f < 5) xs → place_of xs < 5 ^ length xs
 small [] all = omega arith
 small (f ∷ xs) all =
     let a = rises f 5 (5 ^ length xs) (All-head (λ g. g < 5) f xs all) in

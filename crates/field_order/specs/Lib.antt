@@ -1,2 +1,5 @@
 pub mod Order
 pub mod Best
+pub mod Fronts
+pub mod Worth
+pub mod Search

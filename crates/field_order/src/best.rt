@@ -1,76 +1,118 @@
 //! The best order of the fields for a rule list.
 ghost use Rattle.std.specs.Prelude.{◌≡◌, ◌<◌, ◌≤◌, ◌+◌, ℕ, List, IfOk};
+ghost use Rattle.field_boxes.specs.Classifier.{Rule as Named};
 ghost use Rattle.field_boxes.specs.NamedRules.{named_rules};
-ghost use Rattle.table_compose.specs.Costs.{AreCostsOf};
-ghost use Rattle.field_order.specs.Best.{AreNamesOf, IsBestBelow, IsBestOrder};
+ghost use Rattle.node_store.specs.Diagram.{level_of};
+ghost use Rattle.node_store.specs.Store.{Grows};
+ghost use Rattle.field_order.specs.Best.{AreNamesOf, IsBestOrder};
+ghost use Rattle.field_order.specs.Fronts.{AreFronts};
+ghost use Rattle.field_order.specs.Order.{place_of};
+ghost use Rattle.field_order.specs.Search.{IsBestSoFar, DecidesAs, IsTried, usual};
+ghost use Rattle.field_order.specs.Worth.{AreWorths};
 
-use crate::costing::cost_among;
+use crate::fronts::Fronts;
 use crate::order::Order;
+use crate::search::worth;
+use crate::worth::{Worth, Worths};
+use fdd_build::build;
 use field_boxes::Rule;
-use node_store::Store;
+use node_store::{NodeId, Store};
 use razor_base::Memory;
 use std::alloc::Global;
-use table_compose::Costs;
+use table_compose::cost;
 
-/// An order, with what the rules cost in it.
+/// An order and its place among all of them, with what the rules cost in it.
 #[derive(Clone, Copy)]
 struct Costed {
     order: Order,
+    place: u32,
     cost: u128,
 }
+
+/// The place of the usual order.
+const USUAL_PLACE: u32 = 2642;
 
 /// The order in which the rules cost least, and what they cost in it; of several such orders the one whose
 /// digits come first.
 ///
-/// All 120 orders are tried. Their diagrams lie in one store, where those of orders that end alike share
-/// their nodes, and what a node costs is worked out once. What is promised of the cost is what
-/// [`cost_in`](crate::cost_in) promises.
+/// All 120 orders are tried over one diagram. Each node is taken apart by a field once, and what a node costs in
+/// an order of its fields is worked out once; an order is left as soon as it costs more than the best so far.
+/// What is promised of the cost is what [`cost_in`](crate::cost_in) promises.
 pub fn best_order(alloc: Global, rules: &[Rule]) -> Result<(Order, u128), Memory>
     ensures { (names : List (List ℕ)) → AreNamesOf rules.now names →
         IfOk result (λ best. IsBestOrder (named_rules names rules.now) best.0 best.1) }
 {
     let mut store = Store::new(alloc);
-    let mut costs = Costs::new(alloc);
-    let order = Order::stated();
-    let cost = cost_among(alloc, &mut store, &mut costs, rules, &order)?;
-    let mut best = Costed { order, cost };
-    // The stated order is at place 194, and no order is before it.
-    for place in 195..3125 {
-        best = better(alloc, &mut store, &mut costs, rules, best, place)?;
+    let order = Order::usual();
+    let root = build(alloc, &mut store, order.fields(), rules)?;
+    let cost = cost(alloc, &store, root)?;
+    let mut best = Costed {
+        order,
+        place: USUAL_PLACE,
+        cost,
+    };
+    let mut fronts = Fronts::new(alloc);
+    let mut worths = Worths::new(alloc);
+    for place in 0..3125 {
+        best = better(
+            alloc,
+            &mut store,
+            &mut fronts,
+            &mut worths,
+            root,
+            best,
+            place,
+        )?;
     }
     Ok((best.order, best.cost))
 }
 
-/// The order at the place, if there is one and it costs less than the best one of those before it.
+/// The order at the place, if there is one and it is better than the best one of those before it.
 fn better(
     alloc: Global,
     store: &mut Store,
-    costs: &mut Costs,
-    rules: &[Rule],
+    fronts: &mut Fronts,
+    worths: &mut Worths,
+    root: NodeId,
     best: Costed,
     place: u32,
 ) -> Result<Costed, Memory>
     requires place { place < 3125 }
-    requires costs { AreCostsOf store.old costs.old }
-    ensures best { (names : List (List ℕ)) → AreNamesOf rules.now names → IsBestBelow (named_rules names rules.now) place best.order best.cost →
-        IfOk result (λ best. IsBestBelow (named_rules names rules.now) (place + 1) best.order best.cost) }
-    ensures costs { AreCostsOf store.new costs.new }
+    requires root { level_of store.old root.0 ≡ usual }
+    requires fronts { AreFronts store.old fronts.old }
+    requires worths { AreWorths store.old worths.old }
+    ensures best { (rules : List (Named (List ℕ))) → DecidesAs store.old usual root.0 rules → IsBestSoFar rules place best.order best.place best.cost →
+        IfOk result (λ best. IsBestSoFar rules (place + 1) best.order best.place best.cost) }
+    ensures fronts { AreFronts store.new fronts.new }
+    ensures worths { AreWorths store.new worths.new }
+    ensures grows { Grows store.old store.new }
 {
     let Some(order) = Order::at(place) else {
         return Ok(best);
     };
-    let cost = cost_among(alloc, store, costs, rules, &order)?;
-    Ok(cheaper(best, Costed { order, cost }))
+    let level = Order::usual();
+    let found = worth(
+        alloc,
+        store,
+        fronts,
+        worths,
+        level.fields(),
+        root,
+        place,
+        best.cost,
+    )?;
+    Ok(chosen(best, order, place, found))
 }
 
-/// The later one where it costs less, and else the earlier one.
-fn cheaper(earlier: Costed, later: Costed) -> Costed
-    ensures less { later.cost < earlier.cost → result ≡ later }
-    ensures more { earlier.cost ≤ later.cost → result ≡ earlier }
+/// The order where it costs less than the best one, or as much and comes before it, and else the best one.
+fn chosen(best: Costed, order: Order, place: u32, found: Worth) -> Costed
+    ensures { IsTried best order place found result }
 {
-    if later.cost < earlier.cost {
-        later
-    } else {
-        earlier
+    let Worth::Is(cost) = found else {
+        return best;
+    };
+    if best.cost < cost || (best.cost == cost && best.place <= place) {
+        return best;
     }
+    Costed { order, place, cost }
 }

@@ -14,7 +14,13 @@
 
 mod best;
 mod costing;
+mod front;
+mod fronts;
+mod labels;
 mod order;
+mod row;
+mod search;
+mod worth;
 
 pub use best::best_order;
 pub use costing::cost_in;

@@ -30,6 +30,7 @@ impl Order {
     ghost use Rattle.node_store.specs.Levels.{IsLevel};
     ghost use Rattle.table_compose.specs.Composed.{AreDistinct};
     ghost use Rattle.field_order.specs.Order.{IsOrder, place_of};
+    ghost use Rattle.field_order.specs.Search.{usual};
 
     /// The order of these fields; none where they aren't the numbers 0 to 4, each once.
     #[tactic(auto, using(crate::proofs::Orders::passed, crate::proofs::Orders::failed))]
@@ -50,6 +51,16 @@ impl Order {
     {
         Order {
             fields: [0, 1, 2, 3, 4],
+        }
+    }
+
+    /// The order in which most lists cost little: 4, 1, 0, 3, 2.
+    pub(crate) fn usual() -> Order
+        ensures fields { result ≡ usual }
+        ensures order { IsOrder result }
+    {
+        Order {
+            fields: [4, 1, 0, 3, 2],
         }
     }
 

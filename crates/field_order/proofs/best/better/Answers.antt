@@ -1,25 +1,19 @@
-use Rattle.std.proofs.Common.{◌+◌, sym, subst, inl, inr}
-use Rattle.std.proofs.lemmas.Bool.{cases_lt}
-use Rattle.field_boxes.specs.NamedRules.{named_rules}
-use Rattle.field_order.specs.declared.best.Costed.{Costed}
-use Rattle.field_order.specs.Best.{IsBestBelow}
-use Rattle.field_order.proofs.Trials.{left, passed, taken}
+use Rattle.std.proofs.Common.{sym, subst, ap, ◌∙◌}
+use Rattle.field_order.proofs.Roots as roots
+use Rattle.field_order.proofs.Trials.{chosen, passed}
 use Rattle.field_order.proofs.best.better.Goals as goal
 
+pub worth-requires-clause-fields : goal.worth-requires-clause-fields
+worth-requires-clause-fields c =
+    roots.fields c.args.store.now c.args.root.0 c.args.place c.in-Some.order c.fields.result.now (c.fields.ensures.fields ∙ c.usual-level.ensures.fields) c.requires.root c.in-Some.ensures.place.0 c.in-Some.ensures.place.1
+
 pub returns-clause-best : goal.returns-clause-best
-returns-clause-best c = λ names are b.
-    let rules = named_rules names c.args.rules.now in
-    let place = c.args.place in
-    let best = c.args.best in
-    let order = c.in-Some.order in
-    let cost = c.in_ok-cost.cost in
-    let costs = c.in_ok-cost.ensures.cost names are in
-    let stands = c.at.ensures.found in
-    elim (cases_lt cost best.cost) [
-      | inl less ↦
-          subst (λ (r : Costed). IsBestBelow rules (place + 1) r.order r.cost) (sym (c.cheaper.ensures.less less))
-          (taken rules place best.order best.cost b c.at.result order c.in-Some.is stands c.in-Some.ensures.place.0 c.in-Some.ensures.place.1 cost costs less)
-      | inr more ↦
-          subst (λ (r : Costed). IsBestBelow rules (place + 1) r.order r.cost) (sym (c.cheaper.ensures.more more))
-          (left rules place best.order best.cost b c.at.result order c.in-Some.is stands c.in-Some.ensures.place.0 c.in-Some.ensures.place.1 cost costs more)
-    ]
+returns-clause-best c = λ rules d b.
+    let n = c.worth.new.store in
+    let made = c.in_ok-found.ensures in
+    let level = c.fields.ensures.fields ∙ c.usual-level.ensures.fields in
+    let later = roots.later c.args.store.now n c.args.root.0 rules made.grows c.requires.root d in
+    let at = roots.level_later c.args.store.now n c.args.root.0 made.grows c.requires.root in
+    chosen rules c.args.place c.args.best c.chosen.result c.at.result c.in-Some.order c.in_ok-found.found b c.in-Some.is c.at.ensures.found c.in-Some.ensures.place.0 c.in-Some.ensures.place.1
+    (roots.holds n c.args.root.0 c.args.place c.in-Some.order c.fields.result.now rules level at c.in-Some.ensures.place.0 c.in-Some.ensures.place.1 later c.in_ok-found.found made.worth)
+    made.settles c.chosen.ensures

@@ -1,0 +1,200 @@
+-- What a node costs in an order, from what its parts by the order's first field cost in the rest of the order.
+use Rattle.std.proofs.Common.{◌≡◌, ◌∷◌, ℕ, List, [], ◌+◌, ◌-◌, ◌/◌, ◌%◌, ◌<◌, ◌≤◌, ◌^◌, length, get_or, ap, arith, refl, sym, ◌∙◌, subst}
+use Rattle.std.specs.Prelude.{zero, suc, slice_get, Some, sum, Option, None}
+use Rattle.std.specs.List.{All, AllZip}
+use Rattle.std.proofs.lemmas.Nat.{pow_pos}
+use Rattle.std.proofs.lemmas.List.{length-append}
+use Rattle.std.proofs.lemmas.Option.{none-some, same_Some, slice_get-get_or}
+use Rattle.std.proofs.lemmas.List.Elements.{All-head, All-tail}
+use Rattle.field_boxes.specs.Fields.{width}
+use Rattle.node_store.specs.declared.edge.NodeId.{NodeId}
+use Rattle.node_store.specs.declared.edge.Edge.{Edge}
+use Rattle.node_store.specs.Levels.{HasField, IsLevel, bits_of, next as next_level, top_of}
+use Rattle.node_store.specs.Edges.{AreFull}
+use Rattle.node_store.specs.Diagram.{Node, level_of, edges_of}
+use Rattle.node_store.specs.Store.{IsStore, IsInner, Grows}
+use Rattle.node_store.proofs.Canonical.{in_use, is_level}
+use Rattle.node_store.proofs.Growth as growth
+use Rattle.prefix_min.specs.declared.piece.Piece.{Piece}
+use Rattle.prefix_min.specs.declared.row.PrefixRow.{PrefixRow}
+use Rattle.prefix_min.specs.Pieces.{Follow, reach, label_at, weight_from}
+use Rattle.table_compose.specs.Composed.{AreDistinct}
+use Rattle.table_compose.specs.Labels.{children_of, ArePieces}
+use Rattle.table_compose.proofs.Children.{taken}
+use Rattle.table_compose.proofs.Later.{inner_of}
+use Rattle.table_compose.proofs.NodeCost.{AreMinimal, leaf-cost}
+use Rattle.field_order.specs.Fronts.{Has, without, IsFront}
+use Rattle.field_order.specs.declared.worth.Worth.{Worth}
+use Rattle.field_order.specs.Worth.{IsRearranged, IsCostBy, IsAtLeast, IsExact, IsWorth, IsKept, AreFields, AreWeights, answer_by, digits}
+use Rattle.field_order.proofs.Without as left
+use Rattle.field_order.proofs.Stays as stays
+use Rattle.field_order.proofs.Parts.{lower}
+use Rattle.field_order.proofs.Rows.{edges_kept}
+use Rattle.field_order.proofs.NodeParts as parts
+
+-- what holds of each item holds of the one at a place
+all_at : {X : Type 0} (P : X → Type 0) (xs : List X) (k : ℕ) (x : X) → All P xs → slice_get xs k ≡ Some x → P x
+all_at P [] k x all h = absurd (none-some x h)
+all_at P (y ∷ xs) zero x all h = subst P (same_Some y x h) (All-head P y xs all)
+all_at P (y ∷ xs) (suc k) x all h = all_at P xs k x (All-tail P y xs all) h
+
+-- the first field of the order, and the order of the others
+pub record IsStep (level : List ℕ) (order f next : ℕ) : Type 0 where
+  pub has : Has f level
+  pub order_is : digits (length level) order ≡ f ∷ digits (length (without f level)) next
+  pub rest : IsRearranged (digits (length (without f level)) next) (without f level)
+
+digits_of : (level : List ℕ) (n : ℕ) → HasField level → digits (length level) n ≡ n / 5 ^ (length level - 1) ∷ digits (length level - 1) (n % 5 ^ (length level - 1))
+digits_of [] n h = absurd h
+digits_of (f ∷ level) n h =
+    subst (λ k. digits (suc (length level)) n ≡ n / 5 ^ k ∷ digits k (n % 5 ^ k)) (let e : length level ≡ length (f ∷ level) - 1 = omega arith in e) refl
+
+pub step : (nodes : List Node) (level : List ℕ) (order id unit f next : ℕ) → IsLevel level → HasField level → AreFields nodes level (digits (length level) order) id →
+    unit ≡ 5 ^ (length level - 1) → f ≡ order / unit → next ≡ order % unit → IsStep level order f next
+step nodes level order id unit f next is has fields unit_is f_is next_is =
+    let k = length level - 1 in
+    let order_is = digits_of level order has in
+    let first : order / 5 ^ k ≡ f = ap (λ u. order / u) (sym unit_is) ∙ sym f_is in
+    let then : order % 5 ^ k ≡ next = ap (λ u. order % u) (sym unit_is) ∙ sym next_is in
+    let all : digits (length level) order ≡ f ∷ digits k next = order_is ∙ ap (λ g. g ∷ digits k (order % 5 ^ k)) first ∙ ap (λ n. f ∷ digits k n) then in
+    let both : IsRearranged (f ∷ digits k next) level = subst (λ o. IsRearranged o level) all fields.rearranged in
+    let count = (left.parted f level both.0 fields.apart is).count in
+    let long : k ≡ length (without f level) = omega (arith, count) in record {
+      has = both.0;
+      order_is = all ∙ ap (λ n. f ∷ digits n next) long;
+      rest = subst (λ n. IsRearranged (digits n next) (without f level)) long both.1;
+    }
+
+-- the field is one
+pub small : (level : List ℕ) (order f next : ℕ) → IsLevel level → AreDistinct level → IsStep level order f next → f < 5
+small level order f next is apart s = (left.parted f level s.has apart is).small
+
+module _ (n0 n1 : List Node) (level : List ℕ) (id f F order next : ℕ) (s1 : IsStore n1) (is : IsLevel level) (fields : AreFields n0 level (digits (length level) order) id) (st : IsStep level order f next)
+    (front : IsFront n1 id f F) (g01 : Grows n0 n1) where
+  abbrev rest : List ℕ
+  rest = without f level
+
+  abbrev p : List ℕ
+  p = digits (length (without f level)) next
+
+  at1 : level_of n1 id ≡ level
+  at1 = growth.level_kept n0 n1 id g01 (in_use n0 id level is fields.at) ∙ fields.at
+
+  F_level : level_of n1 F ≡ f ∷ rest
+  F_level = front.level ∙ ap (λ l. f ∷ without f l) at1
+
+  F_field : HasField (f ∷ rest)
+  F_field = subst (λ l. HasField (f ∷ without f l)) at1 front.field
+
+  pub front_field : HasField (level_of n1 F)
+  front_field = subst HasField (sym F_level) F_field
+
+  inner : IsInner n1 F (f ∷ rest) (edges_of n1 F)
+  inner = subst (λ l. IsInner n1 F l (edges_of n1 F)) F_level (inner_of n1 F s1 front_field)
+
+  child_level : (k : ℕ) (c : NodeId) → slice_get (children_of (edges_of n1 F)) k ≡ Some c → level_of n1 c.0 ≡ rest
+  child_level k c at =
+      taken (λ a. level_of n1 a.0 ≡ rest) (edges_of n1 F)
+      (λ i e there. (all_at (λ (x : Edge). (x.to.0 < F) × (level_of n1 x.to.0 ≡ rest)) (edges_of n1 F) i e inner.children there).1) k c at
+
+  -- the children are to be read in the rest of the order
+  pub children : All (λ (c : NodeId). AreFields n1 rest p c.0) (children_of (edges_of n1 F))
+  children k d less = record {
+    at = child_level k (get_or (children_of (edges_of n1 F)) k d) (slice_get-get_or (children_of (edges_of n1 F)) k d less);
+    apart = left.distinct f level fields.apart;
+    rearranged = st.rest;
+  }
+
+  module _ (n2 : List Node) (s2 : IsStore n2) (g12 : Grows n1 n2) (pieces : List Piece) (are : ArePieces (children_of (edges_of n1 F)) (edges_of n1 F) pieces) where
+    at2 : level_of n2 id ≡ level
+    at2 = growth.level_kept n1 n2 id g12 (in_use n1 id level is at1) ∙ at1
+
+    front2 : IsFront n2 id f F
+    front2 = stays.front n1 n2 g12 id f F front
+
+    same : edges_of n2 F ≡ edges_of n1 F
+    same = edges_kept n1 n2 F g12 (in_use n1 F (f ∷ rest) (is_level (f ∷ rest) F_field) F_level)
+
+    has2 : Has f (level_of n2 id)
+    has2 = subst (Has f) (sym at2) st.has
+
+    apart2 : AreDistinct (level_of n2 id)
+    apart2 = subst AreDistinct (sym at2) fields.apart
+
+    rest2 : IsRearranged p (without f (level_of n2 id))
+    rest2 = subst (λ l. IsRearranged p (without f l)) (sym at2) st.rest
+
+    are2 : ArePieces (children_of (edges_of n2 F)) (edges_of n2 F) pieces
+    are2 = subst (λ es. ArePieces (children_of es) es pieces) (sym same) are
+
+    pub bound : (lows : List ℕ) → AllZip (λ (c : NodeId) n. IsAtLeast p (answer_by n2 (level_of n2 c.0) c.0) n) (children_of (edges_of n1 F)) lows →
+        IsAtLeast (digits (length level) order) (answer_by n2 (level_of n2 id) id) (sum lows)
+    bound lows z =
+        subst (λ o. IsAtLeast o (answer_by n2 (level_of n2 id) id) (sum lows)) (sym st.order_is)
+        (parts.bound n2 s2 id f F front2 has2 apart2 p rest2 pieces are2 lows
+        (subst (λ es. AllZip (λ (c : NodeId) n. IsAtLeast p (answer_by n2 (level_of n2 c.0) c.0) n) (children_of es) lows) (sym same) z))
+
+    pub wholes : reach 0 pieces ≡ 2 ^ width f
+    wholes = parts.wholes n2 s2 id f F front2 has2 apart2 p rest2 pieces are2
+
+    module _ (weights : List ℕ) (z : AllZip (λ (c : NodeId) n. IsExact n2 p c.0 n) (children_of (edges_of n1 F)) weights) where
+      z2 : AllZip (λ (c : NodeId) n. IsExact n2 p c.0 n) (children_of (edges_of n2 F)) weights
+      z2 = subst (λ es. AllZip (λ (c : NodeId) n. IsExact n2 p c.0 n) (children_of es) weights) (sym same) z
+
+      pub follows : Follow (length weights) 0 pieces
+      follows =
+          subst (λ n. Follow n 0 pieces) (sym (parts.counts n2 s2 id f F front2 has2 apart2 p rest2 pieces are2 weights z2))
+          (parts.follows n2 s2 id f F front2 has2 apart2 p rest2 pieces are2)
+
+      pub lights : weight_from weights 0 pieces ≤ 2 ^ 104
+      lights = parts.lights n2 s2 id f F front2 has2 apart2 p rest2 pieces are2 weights z2
+
+      pub exact : (rows : List PrefixRow) (n : ℕ) → AreMinimal (width f) (label_at pieces) weights rows n → IsExact n2 (digits (length level) order) id n
+      exact rows n minimal =
+          subst (λ o. IsExact n2 o id n) (sym st.order_is) (parts.exact n2 s2 id f F front2 has2 apart2 p rest2 pieces are2 weights z2 rows n minimal)
+
+    -- the same over what slices bring
+    module _ (slice : List ℕ) (ids : List NodeId) (same_level : slice ≡ rest) (same_ids : ids ≡ children_of (edges_of n1 F)) where
+      zip_back : (P : List ℕ → NodeId → ℕ → Type 0) (ns : List ℕ) → AllZip (P (digits (length slice) next)) ids ns → AllZip (P p) (children_of (edges_of n1 F)) ns
+      zip_back P ns z =
+          subst (λ cs. AllZip (P p) cs ns) same_ids (subst (λ l. AllZip (P (digits (length l) next)) ids ns) same_level z)
+
+      pub beyond : (cap : ℕ) → AreWeights n2 (digits (length slice) next) ids cap None → IsAtLeast (digits (length level) order) (answer_by n2 (level_of n2 id) id) (cap + 1)
+      beyond cap w =
+          let z = zip_back (λ o c n. IsAtLeast o (answer_by n2 (level_of n2 c.0) c.0) n) w.0 w.1 in
+          lower (digits (length level) order) (answer_by n2 (level_of n2 id) id) (sum w.0) (cap + 1) (omega (arith, w.2)) (bound w.0 z)
+
+      module _ (weights : List ℕ) (z : AllZip (λ (c : NodeId) n. IsExact n2 (digits (length slice) next) c.0 n) ids weights) where
+        back : AllZip (λ (c : NodeId) n. IsExact n2 p c.0 n) (children_of (edges_of n1 F)) weights
+        back = zip_back (λ o c n. IsExact n2 o c.0 n) weights z
+
+        pub follows_by : Follow (length weights) 0 pieces
+        follows_by = follows weights back
+
+        pub lights_by : weight_from weights 0 pieces ≤ 2 ^ 104
+        lights_by = lights weights back
+
+        pub exact_by : (rows : List PrefixRow) (n : ℕ) → AreMinimal (width f) (label_at pieces) weights rows n → IsExact n2 (digits (length level) order) id n
+        exact_by rows n minimal = exact weights back rows n minimal
+
+-- a leaf costs one entry
+pub leaf : (nodes : List Node) (level : List ℕ) (order id : ℕ) → level_of nodes id ≡ level → level ≡ [] → IsExact nodes (digits (length level) order) id 1
+leaf nodes level order id at none = record {
+  least = subst (λ l. IsCostBy (digits (length l) order) (answer_by nodes (level_of nodes id) id) 1) (sym none) (λ name R apart decide. leaf-cost R);
+  few = pow_pos (bits_of (level_of nodes id));
+}
+
+-- what is kept of a node is what was found of it
+pub to_keep : (n0 n1 : List Node) (level : List ℕ) (order : ℕ) (id : NodeId) (worth : Worth) → IsLevel level → level_of n0 id.0 ≡ level → Grows n0 n1 → IsWorth n1 (digits (length level) order) id.0 worth →
+    IsKept n1 (record { id = id; order = order }) worth
+to_keep n0 n1 level order id worth is at g w =
+    let used = in_use n0 id.0 level is at in
+    let now = growth.level_kept n0 n1 id.0 g used ∙ at in
+    let long = ap (λ (nodes : List Node). length nodes) g.gained.1 ∙ length-append n0 g.gained.0 in record {
+      number = omega (arith, used, long);
+      worth_is = subst (λ l. IsWorth n1 (digits (length l) order) id.0 worth) (sym now) w;
+    }
+
+pub kept_is : (nodes : List Node) (level : List ℕ) (order : ℕ) (id : NodeId) (worth : Worth) → level_of nodes id.0 ≡ level → IsKept nodes (record { id = id; order = order }) worth →
+    IsWorth nodes (digits (length level) order) id.0 worth
+kept_is nodes level order id worth at k = subst (λ l. IsWorth nodes (digits (length l) order) id.0 worth) at k.worth_is

@@ -1,0 +1,48 @@
+-- Nodes with another field of their level in front.
+use Rattle.std.specs.Prelude.{◌≡◌, ◌⊎◌, ℕ, ◌<◌, ◌≤◌, ◌^◌, Bool, ◌&&◌, nat_eq, List, [], ◌∷◌, Some, map, if◌then◌else◌}
+use Rattle.std.specs.HashMap.{get}
+use Rattle.field_boxes.specs.Fields.{width}
+use Rattle.node_store.specs.declared.edge.NodeId.{NodeId}
+use Rattle.node_store.specs.declared.edge.Edge.{Edge}
+use Rattle.node_store.specs.Levels.{HasField, IsLevel}
+use Rattle.node_store.specs.Edges.{child_of}
+use Rattle.node_store.specs.Diagram.{Node, level_of, edges_of, answer}
+use Rattle.field_order.specs.declared.fronts.Asked.{Asked}
+use Rattle.field_order.specs.declared.fronts.Fronts.{Fronts}
+
+-- the level without the field
+abbrev pub without : ℕ → List ℕ → List ℕ
+without f [] = []
+without f (g ∷ level) = if nat_eq g f then without f level else g ∷ without f level
+
+-- the field is one of the level's
+abbrev pub Has : ℕ → List ℕ → Type 0
+Has f [] = ⊥
+Has f (g ∷ level) = (g ≡ f) ⊎ Has f level
+
+-- each field has one of its values
+abbrev pub Fits : (ℕ → ℕ) → Type 0
+Fits h = (f : ℕ) → h f < 2 ^ width f
+
+-- the node answers as the other one does, and reads this field of it first
+pub record IsFront (nodes : List Node) (id f front : ℕ) : Type 0 where
+  pub within : IsLevel (level_of nodes id)
+  pub field : HasField (f ∷ without f (level_of nodes id))
+  pub level : level_of nodes front ≡ f ∷ without f (level_of nodes id)
+  pub answers : (h : ℕ → ℕ) → Fits h → answer nodes front (map h (f ∷ without f (level_of nodes id))) ≡ answer nodes id (map h (level_of nodes id))
+
+-- an edge to the front of where the other edge leads
+abbrev pub IsFrontEdge : List Node → ℕ → Edge → Edge → Type 0
+IsFrontEdge nodes f e d = (d.hi ≡ e.hi) × IsFront nodes e.to.0 f d.to.0
+
+-- an edge to where the values from lo to hi lead from the other edge's node
+abbrev pub IsCell : List Node → ℕ → ℕ → Edge → Edge → Type 0
+IsCell nodes lo hi e d = (d.hi ≡ e.hi) × ((v : ℕ) → lo ≤ v → v ≤ hi → child_of (edges_of nodes e.to.0) v ≡ d.to.0)
+
+-- the questions are the same
+abbrev pub same_asked : Asked → Asked → Bool
+same_asked p q = nat_eq p.id.0 q.id.0 && nat_eq p.field q.field
+
+-- each question is kept with its answer
+abbrev pub AreFronts : List Node → Fronts → Type 0
+AreFronts nodes fronts = (asked : Asked) (front : NodeId) → get same_asked fronts.made asked ≡ Some front → IsFront nodes asked.id.0 asked.field front.0
