@@ -21,7 +21,7 @@ use Rattle.prefix_min.specs.PrefixList.{IsRight, weight}
 use Rattle.table_compose.specs.Composed.{AreDistinct}
 use Rattle.table_compose.specs.LeastCost.{Choice}
 use Rattle.table_compose.specs.Labels.{children_of, ArePieces}
-use Rattle.table_compose.proofs.Plans.{IsTaken, row_of, rows_of, front-rows, weight-rows}
+use Rattle.table_compose.proofs.Choices.{IsTaken, row_of, rows_of, front-rows, weight-rows}
 use Rattle.table_compose.proofs.Cheapest.{IsCheapestList}
 use Rattle.table_compose.proofs.Children.{once}
 use Rattle.table_compose.proofs.FewHeaders.{narrow}

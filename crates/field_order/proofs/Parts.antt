@@ -15,7 +15,7 @@ use Rattle.prefix_min.specs.declared.row.PrefixRow.{PrefixRow}
 use Rattle.table_compose.specs.Composed.{Missing, AreDistinct}
 use Rattle.table_compose.specs.LeastCost.{AreAlike, Choice, first_choice, IsPlan, IsLeastCost, plan_cost}
 use Rattle.table_compose.proofs.OneCost.{cost-unique, alike-cost, alike-sym}
-use Rattle.table_compose.proofs.Plans.{LabelsResidues, IsTaken, All-found}
+use Rattle.table_compose.proofs.Choices.{LabelsResidues, IsTaken, All-found}
 use Rattle.table_compose.proofs.Cheapest.{IsCheapestList, WeighsResidues, cheapest-list}
 use Rattle.field_order.specs.Fronts.{Fits}
 use Rattle.field_order.specs.Worth.{AreApart, DecideBy, IsCostBy, IsAtLeast}
