@@ -8,4 +8,4 @@ pub returns : goal.returns
 returns g c =
     let states = c.in-Ok.states.items in
     let written = subst (λ (of_these : List RuleState). AppendsFront (g.K.Sink.written c.args.out.now) (g.K.Sink.written c.write_states.new.out) (states_text of_these)) c.deref.ensures.value c.in-Err-write_states.ensures.err in
-    (c.in-Err-write_states.ensures.failed, (states_text states, ((states, c.in-Ok.ensures, refl), written)))
+    (c.in-Err-write_states.ensures.failed, (states_text states, (states, c.in-Ok.ensures, refl), written))
