@@ -42,50 +42,63 @@ fn rules_have_their_states(rt: HostRuntime) -> Result<(), Fail> {
 /// What has no decision of its own.
 const UNNAMED: &[u8] = b"@10.0.0.0/8 0.0.0.0/0 0 : 65535 80 : 80 0x06/0xFF\n";
 
-#[test]
-fn boxes_are_where_the_list_decides_so(rt: HostRuntime) -> Result<(), Fail> {
-    let rows: [(&[u8], [&str; 6], &[u8]); 8] = [
-        (
-            NET,
-            ["*", "*", "*", "*", "*", "accept"],
-            b"0-4294967295 167772160-184549375 0-65535 0-65535 6-6\nboxes 1\n",
-        ),
-        (
-            NET,
-            ["*", "167772160-167772161", "*", "*", "0-7", "deny"],
-            b"0-4294967295 167772160-167772161 0-65535 0-65535 0-5\n0-4294967295 167772160-167772161 0-65535 0-65535 7-7\nboxes 2\n",
-        ),
-        (NET, ["*", "*", "*", "*", "*", "log"], b"boxes 0\n"),
-        (NET, ["*", "*", "*", "*", "*", "miss"], b"boxes 0\n"),
-        (
-            ANY_TCP,
-            ["0-0", "0-0", "0-0", "0-0", "*", "miss"],
-            b"0-0 0-0 0-0 0-0 0-5\n0-0 0-0 0-0 0-0 7-255\nboxes 2\n",
-        ),
-        (
-            UNNAMED,
-            ["*", "*", "*", "*", "*", "#1"],
-            b"167772160-184549375 0-4294967295 0-65535 80-80 6-6\nboxes 1\n",
-        ),
-        (
-            b"",
-            ["*", "*", "*", "*", "*", "miss"],
-            b"0-4294967295 0-4294967295 0-65535 0-65535 0-255\nboxes 1\n",
-        ),
-        (b"", ["*", "*", "*", "*", "*", "accept"], b"boxes 0\n"),
-    ];
-    for (list, [source, destination, from, to, protocol, decision], boxes) in rows {
-        let words = [
+/// Lists, what is asked of them, and the boxes.
+const ASKED: [(&[u8], &[&str], &[u8]); 8] = [
+    (
+        NET,
+        &["query", "in", "*", "*", "*", "*", "*", "accept"],
+        b"0-4294967295 167772160-184549375 0-65535 0-65535 6-6\nboxes 1\n",
+    ),
+    (
+        NET,
+        &[
             "query",
             "in",
-            source,
-            destination,
-            from,
-            to,
-            protocol,
-            decision,
-        ];
-        check(&rt, &words, calm(list), 0, boxes, b"")?;
+            "*",
+            "167772160-167772161",
+            "*",
+            "*",
+            "0-7",
+            "deny",
+        ],
+        b"0-4294967295 167772160-167772161 0-65535 0-65535 0-5\n0-4294967295 167772160-167772161 0-65535 0-65535 7-7\nboxes 2\n",
+    ),
+    (
+        NET,
+        &["query", "in", "*", "*", "*", "*", "*", "log"],
+        b"boxes 0\n",
+    ),
+    (
+        NET,
+        &["query", "in", "*", "*", "*", "*", "*", "miss"],
+        b"boxes 0\n",
+    ),
+    (
+        ANY_TCP,
+        &["query", "in", "0-0", "0-0", "0-0", "0-0", "*", "miss"],
+        b"0-0 0-0 0-0 0-0 0-5\n0-0 0-0 0-0 0-0 7-255\nboxes 2\n",
+    ),
+    (
+        UNNAMED,
+        &["query", "in", "*", "*", "*", "*", "*", "#1"],
+        b"167772160-184549375 0-4294967295 0-65535 80-80 6-6\nboxes 1\n",
+    ),
+    (
+        b"",
+        &["query", "in", "*", "*", "*", "*", "*", "miss"],
+        b"0-4294967295 0-4294967295 0-65535 0-65535 0-255\nboxes 1\n",
+    ),
+    (
+        b"",
+        &["query", "in", "*", "*", "*", "*", "*", "accept"],
+        b"boxes 0\n",
+    ),
+];
+
+#[test]
+fn boxes_are_where_the_list_decides_so(rt: HostRuntime) -> Result<(), Fail> {
+    for (list, words, boxes) in ASKED {
+        check(&rt, words, calm(list), 0, boxes, b"")?;
     }
     let turned = ["query", "in", "*", "*", "*", "*", "9-8", "deny"];
     check(&rt, &turned, calm(NET), 2, b"", USAGE)
