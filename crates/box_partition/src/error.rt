@@ -7,24 +7,29 @@ use crate::stop::Stop;
 use field_boxes::Header;
 use partition_check::NotPrefix;
 use razor_base::Memory;
+use thiserror::Error;
 
 /// Why no certificate was written, or only its front.
-#[derive(Clone, Copy, Debug, PartialEq, Eq)]
+#[derive(Clone, Copy, Debug, PartialEq, Eq, Error)]
 pub enum CertError {
     /// The least header on which list and table differ, and the number of each one's decision among its
     /// own names, 0 for none. Nothing was written.
+    #[error("list and table differ on the header {values:?}", values = .header.values)]
     Differs {
         header: Header,
         left: u32,
         right: u32,
     },
     /// The first entry, counted from 0, whose word isn't a prefix in each field. Nothing was written.
+    #[error("the word of entry {entry}, counted from 0, is not a prefix in each field")]
     NotPrefix {
         entry: u32,
     },
     /// A write failed; a front of the certificate was written.
+    #[error("a write failed")]
     Fault,
     /// Memory was refused; nothing was written, or a front of the certificate.
+    #[error("memory was refused")]
     Memory,
 }
 

@@ -1,3 +1,4 @@
+//! Random numbers for the tests.
 ghost use Rattle.std.specs.Prelude.{◌<◌};
 
 /// Random numbers of a linear congruential generator (Knuth, MMIX).

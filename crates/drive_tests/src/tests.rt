@@ -1,3 +1,5 @@
+//! The tests of memories, traces and scripts.
+
 mod action;
 mod bank;
 mod drawing;

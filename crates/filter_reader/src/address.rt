@@ -1,3 +1,4 @@
+//! The address columns of a rule line.
 ghost use Rattle.std.specs.Prelude.{◌≡◌, ◌≤◌, ◌<◌, ◌^◌, IfSome, IfOk, option_copied};
 ghost use Rattle.std.specs.Result.{result_map_both};
 ghost use Rattle.field_boxes.specs.Prefix.{FitsWidth, prefix_interval};

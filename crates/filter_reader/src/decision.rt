@@ -1,3 +1,4 @@
+//! The last column of a rule line: its decision word.
 ghost use Rattle.std.specs.Prelude.{◌≡◌, IsTrue, IfOk, IfSome, Ok, Err, MatchResult, option_copied};
 ghost use Rattle.field_boxes.specs.Names.{is_decision_word};
 ghost use Rattle.filter_reader.specs.Columns.{decision_column, decision_of, end_of_line};

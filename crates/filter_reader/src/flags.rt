@@ -1,3 +1,4 @@
+//! The column of flags, which a rule line may have.
 ghost use Rattle.std.specs.Prelude.{◌≡◌, ◌==◌};
 ghost use Rattle.std.specs.List.{list_any};
 ghost use Rattle.filter_reader.specs.Columns.{flag_of, flags_column};

@@ -1,3 +1,4 @@
+//! Hexadecimal numbers as a filter list writes them.
 ghost use Rattle.std.specs.Prelude.{◌≡◌, ◌≤◌, IfSome};
 ghost use Rattle.filter_reader.specs.Masks.{hex_number, value_and_mask};
 

@@ -25,9 +25,10 @@ mod take;
 mod token;
 mod write;
 
+pub use line::{LineRule, rule_of_line};
 pub use lines::{is_skipped, next_line, next_whole_line, without_return};
 pub use list::{ListError, RuleList};
-pub use number::{number_up_to, number_within};
+pub use number::{number_up_to, number_within, short_number};
 pub use reading::read_list;
 pub use reason::Reason;
 pub use token::is_blank;

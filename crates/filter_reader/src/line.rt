@@ -1,3 +1,4 @@
+//! The rule of a line.
 ghost use Rattle.std.specs.Prelude.{◌≡◌, ◌≢◌, IfOk, OnOk};
 ghost use Rattle.filter_reader.specs.LineRules.{IsLineRule, spelled_line};
 ghost use Rattle.filter_reader.specs.RuleLine.{rule_line, rule_of_tokens};
@@ -16,14 +17,19 @@ use field_boxes::{Ports, Span};
 const MOST_RULES: usize = 65_536;
 
 /// What a rule line spells.
+///
+/// The addresses of a span are those that agree in some number of their first bits, and its protocols are
+/// one or all.
 #[derive(Clone, Copy)]
 pub struct LineRule<'a> {
     pub source: Span,
     pub destination: Span,
+    /// The ports of the source and those of the destination.
     pub ports: [Ports; 2],
     pub protocol: Span,
     /// The decision word, where the line has one.
     pub word: Option<&'a str>,
+    /// Whether the line has flags whose mask isn't 0.
     pub flagged: bool,
 }
 
@@ -57,7 +63,11 @@ fn rule_of_columns(line: &[u8]) -> Result<LineRule<'_>, Reason>
     })
 }
 
-/// The rule that a line spells that isn't skipped, with so many rules before it.
+/// The rule that a line spells that isn't skipped, with so many rules before it, at most 65,536; else the
+/// first reason why the line is bad.
+///
+/// The line is without the end of its line, and behind 65,536 rules it is one too many, whatever it spells.
+/// It takes time linear in the bytes, and no memory.
 #[tactic(auto, unfolding(crate::specs::RuleLine::rule_line))]
 pub fn rule_of_line(line: &[u8], before: usize) -> Result<LineRule<'_>, Reason>
     ensures read { spelled_line result ≡ rule_line before line.now }

@@ -1,9 +1,11 @@
+//! A filter list as it was read, and why one was refused.
 ghost use Rattle.std.specs.Prelude.{◌≤◌, vec_len, All};
 ghost use Rattle.field_boxes.specs.NamedRules.{IsNumberedBy};
 ghost use Rattle.filter_reader.specs.FilterRules.{IsFilterRule};
 
 use crate::reason::Reason;
 use field_boxes::{Decisions, Rule};
+use thiserror::Error;
 
 /// The rules of a filter list, the names of their decisions, and how many rules are flagged.
 ///
@@ -20,10 +22,12 @@ pub struct RuleList {
 }
 
 /// Why the text of a list was refused.
-#[derive(Clone, Copy, Debug, PartialEq, Eq)]
+#[derive(Clone, Copy, Debug, PartialEq, Eq, Error)]
 pub enum ListError {
     /// The first bad line, counted from 1, and its first reason.
+    #[error("line {line}: {reason}")]
     BadLine { line: u64, reason: Reason },
     /// Memory was refused.
+    #[error("memory was refused")]
     Memory,
 }

@@ -1,3 +1,4 @@
+//! Numbers as texts write them.
 ghost use Rattle.std.specs.Prelude.{◌≡◌, ◌≤◌, ◌^◌, min, Option, Some, None, IfSome, if◌then◌else◌};
 ghost use Rattle.std.specs.Char.{digit_value};
 ghost use Rattle.filter_reader.specs.Numbers.{is_number, number_of, number_within, short_number};

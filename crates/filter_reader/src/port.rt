@@ -1,3 +1,4 @@
+//! The port columns of a rule line.
 ghost use Rattle.std.specs.Prelude.{◌≡◌, IfOk};
 ghost use Rattle.field_boxes.specs.Ports.{ArePorts};
 ghost use Rattle.filter_reader.specs.Columns.{port_column};

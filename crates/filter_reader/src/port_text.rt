@@ -1,3 +1,4 @@
+//! The text of a rule's ports.
 ghost use Rattle.std.specs.Prelude.{◌++◌, ◌∷◌};
 ghost use Rattle.std.specs.List.{flat_map};
 ghost use Rattle.razor_base.specs.Output.{Puts};

@@ -1,3 +1,4 @@
+//! The protocol column of a rule line.
 ghost use Rattle.std.specs.Prelude.{◌≡◌, ◌≤◌, IfOk};
 ghost use Rattle.std.specs.Result.{result_map_both};
 ghost use Rattle.field_boxes.specs.Spans.{interval_of};

@@ -1,3 +1,4 @@
+//! The text of a rule's protocols.
 ghost use Rattle.std.specs.Prelude.{◌≡◌, ◌<◌, ◌≤◌, ◌∷◌, true};
 ghost use Rattle.std.specs.Fmt.{digit_glyph};
 ghost use Rattle.razor_base.specs.Output.{Puts};

@@ -1,3 +1,4 @@
+//! One range of a port column.
 ghost use Rattle.std.specs.Prelude.{◌≡◌, ◌<◌, length, min, option_map, Option, Some, None, IfSome, if◌then◌else◌};
 ghost use Rattle.std.specs.Option.{option_copied};
 ghost use Rattle.filter_reader.specs.Numbers.{is_number, number_of};

@@ -1,3 +1,4 @@
+//! The ranges of a port column, as far as they are kept.
 ghost use Rattle.std.specs.Prelude.{◌≡◌, ℕ, ◌<◌, ◌++◌, ◌∷◌, List, [], length, Some, None, MatchOption, IfOk, IfSome};
 ghost use Rattle.field_boxes.specs.Classifier.{Interval};
 ghost use Rattle.field_boxes.specs.Ports.{ArePorts};

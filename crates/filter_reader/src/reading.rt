@@ -1,3 +1,4 @@
+//! Reading a filter list whole.
 ghost use Rattle.std.specs.Prelude.{◌≡◌, IfOk, MatchResult, Ok};
 ghost use Rattle.filter_reader.specs.FilterList.{list_of};
 ghost use Rattle.filter_reader.specs.FirstSeen.{first_seen};

@@ -1,3 +1,4 @@
+//! The text of one rule.
 ghost use Rattle.std.specs.Prelude.{◌++◌, ◌∷◌, ◌≤◌, [], length};
 ghost use Rattle.razor_base.specs.Output.{Puts};
 ghost use Rattle.field_boxes.specs.NamedRules.{named_rule};

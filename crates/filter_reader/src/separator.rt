@@ -1,3 +1,4 @@
+//! Cutting a text at a separator.
 ghost use Rattle.std.specs.Prelude.{◌≡◌, ◌==◌, position};
 ghost use Rattle.std.specs.Option.{option_map, option_copied};
 ghost use Rattle.filter_reader.specs.Optional.{parts_at, split_once};

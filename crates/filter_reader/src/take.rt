@@ -1,3 +1,4 @@
+//! Taking the next line of a list.
 ghost use Rattle.std.specs.Prelude.{◌≡◌, ◌≤◌, ◌<◌, ◌+◌, ℕ, length, vec_len, All, IfOk, IfSome, IsTrue, MatchResult, Ok, OnOk, OnErr, Some, option_copied, unwrap_or};
 ghost use Rattle.field_boxes.specs.Names.{is_decision_word, name_at, with_name};
 ghost use Rattle.filter_reader.specs.FilterList.{own_name};
@@ -13,9 +14,9 @@ use field_boxes::{Decisions, Rule};
 use razor_base::Memory;
 use std::alloc::Global;
 
-/// Why a line was refused.
-#[derive(Clone, Copy, Debug, PartialEq, Eq)]
-pub enum LineError {
+/// Why a line was not taken, before its number is known.
+#[derive(Clone, Copy)]
+pub(crate) enum LineError {
     Bad(Reason),
     Memory,
 }
@@ -81,7 +82,7 @@ fn add_rule(
 }
 
 /// Takes the next line: its rule goes behind the others, and a skipped line adds none.
-pub fn take_line(
+pub(crate) fn take_line(
     alloc: Global,
     line: &[u8],
     rules: &mut Vec<Rule>,

@@ -1,3 +1,4 @@
+//! Writing a filter list.
 ghost use Rattle.std.specs.Prelude.{◌≡◌, Ok, All};
 ghost use Rattle.razor_base.specs.Output.{Puts, Writes};
 ghost use Rattle.field_boxes.specs.NamedRules.{IsNumberedBy, named_rules};

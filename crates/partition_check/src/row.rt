@@ -1,6 +1,7 @@
 //! Rows of a certificate, and why one is wrong.
 
 use field_boxes::Span;
+use thiserror::Error;
 
 /// A row of a certificate: a box, and the rule and the entry that it claims for every header of the box.
 ///
@@ -15,35 +16,44 @@ pub struct Row {
 }
 
 /// Why a certificate is wrong. The reasons are tried in this order.
-#[derive(Clone, Copy, Debug, PartialEq, Eq)]
+#[derive(Clone, Copy, Debug, PartialEq, Eq, Error)]
 pub enum Why {
     /// A line of another form, a span past its field, or a number that no rule or entry has.
+    #[error("form")]
     Form,
     /// The box isn't the next box.
+    #[error("not the next box")]
     NotNext,
     /// The named rule isn't the first that every header of the box matches; or none is named, and some
     /// header matches one.
+    #[error("rule claim")]
     RuleClaim,
     /// The same of the entries.
+    #[error("entry claim")]
     EntryClaim,
     /// The names of the two decisions differ: the number of the list's and of the table's, each among its
     /// own names, and 0 for none.
+    #[error("decisions differ, number {left} of the list and number {right} of the table")]
     Decisions { left: u32, right: u32 },
     /// The certificate ends before its boxes reach the end of every field.
+    #[error("ends early")]
     EndsEarly,
     /// It states another number of rows than it has.
+    #[error("count differs, stated {stated} found {found}")]
     Count { stated: u64, found: u64 },
 }
 
 /// The place and the reason of what is wrong: one more than the rows that were accepted, and why.
-#[derive(Clone, Copy, Debug, PartialEq, Eq)]
+#[derive(Clone, Copy, Debug, PartialEq, Eq, Error)]
+#[error("wrong row {row}: {why}")]
 pub struct Wrong {
     pub row: u64,
     pub why: Why,
 }
 
 /// An entry, counted from 0, whose word isn't a prefix in each field.
-#[derive(Clone, Copy, Debug, PartialEq, Eq)]
+#[derive(Clone, Copy, Debug, PartialEq, Eq, Error)]
+#[error("the word of entry {entry}, counted from 0, is not a prefix in each field")]
 pub struct NotPrefix {
     pub entry: u32,
 }

@@ -10,6 +10,7 @@ use crate::checker::Checker;
 use crate::reader::Reader;
 use crate::row::Wrong;
 use razor_base::{Desk, Failed};
+use thiserror::Error;
 
 /// As many bytes as a certificate may have.
 const LIMIT: u64 = 268_435_456;
@@ -18,13 +19,16 @@ const LIMIT: u64 = 268_435_456;
 const KEPT: usize = 129;
 
 /// Why a certificate was not found valid.
-#[derive(Clone, Copy, Debug, PartialEq, Eq)]
+#[derive(Clone, Copy, Debug, PartialEq, Eq, Error)]
 pub enum Stop {
     /// It is wrong.
+    #[error(transparent)]
     Wrong(Wrong),
     /// A read failed.
+    #[error("a read failed")]
     ReadFault,
     /// It has more than 268,435,456 bytes.
+    #[error("the certificate is longer than the limit")]
     TooLong,
 }
 

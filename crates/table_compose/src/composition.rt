@@ -16,13 +16,16 @@ use node_store::{NodeId, Store};
 use razor_base::Memory;
 use std::alloc::Global;
 use ternary_words::Entry;
+use thiserror::Error;
 
 /// Why no table was composed.
-#[derive(Clone, Copy, Debug, PartialEq, Eq)]
+#[derive(Clone, Copy, Debug, PartialEq, Eq, Error)]
 pub enum ComposeError {
     /// The diagram costs more entries than the limit.
+    #[error("{needed} entries needed, limit {limit}")]
     TooMany { needed: u128, limit: u32 },
     /// Memory was refused.
+    #[error("memory was refused")]
     Memory,
 }
 

@@ -1,3 +1,4 @@
+//! The rows of a node's prefix list.
 use field_boxes::Prefix;
 use node_store::NodeId;
 

@@ -1,3 +1,4 @@
+//! The answer to one header.
 ghost use Rattle.std.specs.Prelude.{◌≡◌};
 ghost use Rattle.field_boxes.specs.Names.{text_of};
 ghost use Rattle.razor_base.specs.Output.{Puts};

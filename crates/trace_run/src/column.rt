@@ -1,3 +1,4 @@
+//! The columns of a trace's line.
 ghost use Rattle.std.specs.Prelude.{◌≡◌, ◌∷◌, ◌≤◌, ◌<◌, [], length, take, drop, option_map, position, not, IfOk, IfSome, IsTrue, MatchOption};
 ghost use Rattle.filter_reader.specs.Lines.{is_blank};
 ghost use Rattle.filter_reader.specs.Tokens.{begins_token};

@@ -1,3 +1,4 @@
+//! One line of a trace as a header.
 ghost use Rattle.std.specs.Prelude.{◌≡◌, Result};
 ghost use Rattle.filter_reader.specs.Lines.{without_return};
 ghost use Rattle.trace_run.specs.Columns.{columns, header_of_columns};

@@ -1,3 +1,4 @@
+//! Numbers as a trace writes them.
 ghost use Rattle.std.specs.Prelude.{◌≡◌, ◌≤◌, IfOk};
 ghost use Rattle.trace_run.specs.Columns.{value_within};
 

@@ -1,3 +1,4 @@
+//! Answering the lines of a piece.
 ghost use Rattle.std.specs.Prelude.{◌≡◌, ◌+◌, ◌<◌, ◌≤◌, ◌^◌, length, IfNone, IfOk};
 ghost use Rattle.filter_reader.specs.FilterList.{text_lines};
 ghost use Rattle.filter_reader.specs.Lines.{without_return};
