@@ -1,6 +1,6 @@
 -- A node over edges to what comes of the parts of two nodes is what comes of the two nodes.
-use Rattle.std.proofs.Common.{◌≡◌, ◌∷◌, ℕ, List, ◌≤◌, ◌<◌, ◌∙◌, arith, sym, ap, subst}
-use Rattle.std.specs.Prelude.{suc, map, slice_index_or}
+use Rattle.std.proofs.Common.{◌≡◌, ◌∷◌, ℕ, List, ◌≤◌, ◌∙◌, sym, ap, subst}
+use Rattle.std.specs.Prelude.{map, slice_index_or}
 use Rattle.std.specs.List.{AllZip}
 use Rattle.field_boxes.specs.Fields.{AreValues}
 use Rattle.node_store.specs.Levels.{HasField, IsLevel, next, top_of}

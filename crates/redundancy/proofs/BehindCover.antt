@@ -1,5 +1,5 @@
 -- Contexts behind a cover.
-use Rattle.std.proofs.Common.{◌≡◌, ◌∷◌, ◌++◌, ℕ, List, [], ◌<◌, ◌≤◌, ◌+◌, length, refl, arith}
+use Rattle.std.proofs.Common.{◌≡◌, ◌∷◌, ◌++◌, ℕ, List, [], ◌<◌, ◌+◌, length, refl, arith}
 use Rattle.node_store.specs.declared.edge.NodeId.{NodeId}
 use Rattle.node_store.specs.Levels.{IsLevel}
 use Rattle.node_store.specs.Diagram.{Node, level_of}

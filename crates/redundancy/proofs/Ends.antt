@@ -1,5 +1,5 @@
 -- What was kept of a block by its kind.
-use Rattle.std.proofs.Common.{◌≡◌, ◌++◌, ℕ, List, ◌<◌, ◌≤◌, length, ap, arith, sym, ◌∙◌, subst}
+use Rattle.std.proofs.Common.{◌≡◌, ◌++◌, ℕ, List, ◌<◌, length, ap, arith, sym, ◌∙◌, subst}
 use Rattle.node_store.specs.declared.edge.NodeId.{NodeId}
 use Rattle.node_store.specs.Levels.{IsLevel}
 use Rattle.node_store.specs.Diagram.{Node, level_of}

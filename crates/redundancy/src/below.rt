@@ -1,5 +1,5 @@
 //! Contexts below a span of values: the pairs of nodes to which they lead.
-ghost use Rattle.std.specs.Prelude.{◌≡◌, ◌≤◌, ◌<◌, ◌++◌, length, map, IfOk, OnOk};
+ghost use Rattle.std.specs.Prelude.{◌≡◌, ◌≤◌, ◌++◌, length, map, IfOk, OnOk};
 ghost use Rattle.node_store.specs.Levels.{HasField, top_of};
 ghost use Rattle.field_boxes.specs.Spans.{interval_of};
 ghost use Rattle.node_store.specs.Split.{to_left};

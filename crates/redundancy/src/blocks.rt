@@ -11,7 +11,7 @@ pub struct Blocks<'a> {
 }
 
 impl<'a> Blocks<'a> {
-    ghost use Rattle.std.specs.Prelude.{◌≡◌, ◌<◌, ℕ, List, Some, length, slice_get};
+    ghost use Rattle.std.specs.Prelude.{◌≡◌, ◌<◌, List, Some, length, slice_get};
     ghost use Rattle.node_store.specs.Diagram.{Node};
     ghost use Rattle.redundancy.specs.Blocks.{IsBlocks, cover_at};
 

@@ -9,7 +9,7 @@ use razor_base::Memory;
 use std::alloc::Global;
 
 impl<'a> Blocks<'a> {
-    ghost use Rattle.std.specs.Prelude.{◌≡◌, ◌<◌, ◌≤◌, ◌++◌, ◌∷◌, [], ℕ, true, length, map, IfOk};
+    ghost use Rattle.std.specs.Prelude.{◌≡◌, ◌<◌, ◌++◌, ◌∷◌, [], true, length, map, IfOk};
     ghost use Rattle.std.specs.List.{flat_map};
     ghost use Rattle.node_store.specs.Levels.{HasField, IsLevel};
     ghost use Rattle.node_store.specs.Diagram.{level_of};

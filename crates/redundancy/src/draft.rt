@@ -1,5 +1,5 @@
 //! What was kept of the first runs of a layer, and where the contexts lead on with them in front.
-ghost use Rattle.std.specs.Prelude.{◌≡◌, ◌<◌, ◌++◌, ◌∷◌, [], ℕ, true, false, length, map, All, IfOk, OnOk};
+ghost use Rattle.std.specs.Prelude.{◌≡◌, ◌<◌, ℕ, length, map, All, IfOk, OnOk};
 ghost use Rattle.std.specs.List.{list_any};
 ghost use Rattle.redundancy.specs.Drafts.{placed_by, IsChange, IsTakenIn, HaveRoom};
 

@@ -3,7 +3,6 @@ ghost use Rattle.std.specs.Prelude.{◌≡◌, ◌≤◌, ◌<◌, ℕ, length, 
 ghost use Rattle.node_store.specs.Levels.{HasField, next, top_of};
 ghost use Rattle.node_store.specs.Diagram.{level_of};
 ghost use Rattle.node_store.specs.Store.{Grows};
-ghost use Rattle.field_sets.specs.Placed.{PlacedAt, RiseFrom};
 ghost use Rattle.field_sift.specs.Sifted.{ArePairs, LeadsAs, node_at};
 ghost use Rattle.redundancy.specs.Drafts.{leads_of, placed_for, AreChanges};
 

@@ -1,5 +1,5 @@
 //! The entries that stay of the table that a diagram composes.
-ghost use Rattle.std.specs.Prelude.{◌≡◌, ◌∷◌, [], Bool, true, length, slice_index_or, take, drop, OnOk, false};
+ghost use Rattle.std.specs.Prelude.{◌≡◌, ◌∷◌, [], slice_index_or, take, drop, OnOk, false};
 ghost use Rattle.field_boxes.specs.Fields.{stated};
 ghost use Rattle.node_store.specs.Levels.{IsLevel};
 ghost use Rattle.node_store.specs.Diagram.{level_of, answer};

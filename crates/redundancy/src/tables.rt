@@ -20,10 +20,9 @@ pub(crate) struct Gathered {
 }
 
 impl<'a> Blocks<'a> {
-    ghost use Rattle.std.specs.Prelude.{◌≡◌, ◌<◌, ◌≤◌, ◌+◌, ◌∷◌, [], ℕ, true, All, length, map, IfOk, IfSome, OnOk};
+    ghost use Rattle.std.specs.Prelude.{◌≡◌, ◌<◌, [], true, length, map, IfOk, IfSome, OnOk};
     ghost use Rattle.node_store.specs.Levels.{HasField, IsLevel};
     ghost use Rattle.field_sift.specs.Built.{row_at};
-    ghost use Rattle.field_sift.specs.Rows.{Row};
     ghost use Rattle.field_sift.specs.Sifted.{is_in};
     ghost use Rattle.node_store.specs.Diagram.{level_of};
     ghost use Rattle.redundancy.specs.Blocks.{IsBlocks, cover_at, rows_of};

@@ -1,5 +1,5 @@
 -- What the composed entries of a diagram are to the rules that it was made of.
-use Rattle.std.proofs.Common.{◌≡◌, ◌∷◌, ℕ, List, [], length, arith, subst}
+use Rattle.std.proofs.Common.{◌≡◌, ℕ, List, length, arith, subst}
 use Rattle.std.specs.Prelude.{IfErr, IfOk, MatchResult, Result, Ok, Err, Some, vec_len}
 use Rattle.std.specs.Global.{Vec}
 use Rattle.std.specs.List.{All}
@@ -12,23 +12,13 @@ use Rattle.ternary_words.specs.Prefixes.{IsPrefixInEach}
 use Rattle.ternary_words.specs.Views.{word_of}
 use Rattle.node_store.specs.Diagram.{Node, answer}
 use Rattle.table_compose.specs.Diagrams.{IsCostOf}
-use Rattle.table_compose.specs.Composed as tables
 use Rattle.table_compose.specs.Composed.{AreComposed, IsPrefixWord, IsRefusal, decided}
 use Rattle.table_compose.specs.declared.composition.ComposeError.{ComposeError}
 use Rattle.field_sift.specs.Built.{ArePrefixes}
-use Rattle.field_sift.specs.Orders.{AreDistinct, IsMissing, picked}
+use Rattle.field_sift.specs.Orders.{picked}
 use Rattle.rule_compilation.specs.Compiled.{IsRefusedIn}
 use Rattle.rule_compilation.specs.Entries.{AreEntriesOf}
 use Rattle.rule_compilation.proofs.Composed.{IsBuiltOf, by_header, cost_of_rules, diagram_of, refused}
-
--- that no field stands twice, said of a table's fields
-missing : (f : ℕ) (level : List ℕ) → IsMissing f level → tables.Missing f level
-missing f [] h = tt
-missing f (g ∷ level) h = (h.0, missing f level h.1)
-
-pub distinct : (level : List ℕ) → AreDistinct level → tables.AreDistinct level
-distinct [] h = tt
-distinct (f ∷ level) h = (missing f level h.0, distinct level h.1)
 
 are_prefixes : (entries : List Entry) → All (λ (e : Entry). IsPrefixWord e.word) entries → ArePrefixes entries
 are_prefixes entries all =

@@ -1,7 +1,8 @@
 use Rattle.std.proofs.lemmas.List.Elements.{recursion_from_All}
 use Rattle.field_boxes.specs.NamedRules.{IsNumberedBy}
+use Rattle.redundancy.proofs.Fields.{distinct}
 use Rattle.rule_compilation.proofs.Composed.{IsBuiltOf}
-use Rattle.rule_compilation.proofs.Whole.{distinct, whole}
+use Rattle.rule_compilation.proofs.Whole.{whole}
 use Rattle.rule_compilation.proofs.compiling.compose_in.Goals as goal
 
 pub build-requires : goal.build-requires

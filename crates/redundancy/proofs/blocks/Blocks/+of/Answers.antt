@@ -1,4 +1,4 @@
-use Rattle.std.proofs.Common.{[], ◌++◌, ◌+◌, List, ap, refl, sym, ◌∙◌, subst, arith, append_assoc, length, map}
+use Rattle.std.proofs.Common.{[], ◌++◌, List, ap, refl, sym, ◌∙◌, subst, append_assoc, length, map}
 use Rattle.field_boxes.specs.Spans.{interval_of}
 use Rattle.field_sift.specs.Built.{row_at}
 use Rattle.field_sift.specs.Rows.{Row, in_front}

@@ -1,4 +1,4 @@
-use Rattle.std.proofs.Common.{◌≡◌, ◌∷◌, ◌++◌, ◌<◌, ◌≤◌, [], ap, arith, refl, sym, ◌∙◌, subst, take, length}
+use Rattle.std.proofs.Common.{◌≡◌, ◌∷◌, ◌++◌, [], ap, arith, refl, sym, ◌∙◌, subst, take, length}
 use Rattle.std.specs.HashMap.{get}
 use Rattle.std.specs.Prelude.{All, Some, map, IfSome}
 use Rattle.std.proofs.lemmas.Option.{slice_get-get_or}
