@@ -11,6 +11,7 @@ pub mod Shapes
 pub mod Written
 pub mod Ordered
 pub mod FieldRows
+pub mod FieldCost
 pub mod Growing
 pub mod Below
 pub mod Rootless

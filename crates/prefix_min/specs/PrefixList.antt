@@ -1,6 +1,6 @@
 -- First-match prefix lists of one field.
 -- The weighted one-field problem of the Razor papers (Meiners, Liu, Torng 2007 and 2010).
-use Rattle.std.specs.Prelude.{◌≡◌, ℕ, ◌^◌, ◌<◌, List, find, Option, Some, option_map, sum_by, slice_index}
+use Rattle.std.specs.Prelude.{◌≡◌, ℕ, ◌^◌, ◌<◌, ◌≤◌, List, find, length, Option, Some, option_map, sum_by, slice_index}
 use Rattle.std.specs.List.{All}
 use Rattle.field_boxes.specs.Prefix.{FitsWidth, prefix_holds}
 use Rattle.prefix_min.specs.declared.row.PrefixRow.{PrefixRow}
@@ -17,3 +17,11 @@ pub record IsRight (width : ℕ) (f : ℕ → ℕ) (rows : List PrefixRow) : Typ
 -- the weights of the rows' labels, added up
 abbrev pub weight : List ℕ → List PrefixRow → ℕ
 weight weights rows = sum_by (λ r. slice_index weights r.label) rows
+
+-- a right list weighs so much, and none weighs less
+pub record IsLeastWeight (weights : List ℕ) (width : ℕ) (f : ℕ → ℕ) (least_weight : ℕ) : Type 0 where
+  pub rows : List PrefixRow
+  pub right : IsRight width f rows
+  pub labels : All (λ r. r.label < length weights) rows
+  pub weighs : weight weights rows ≡ least_weight
+  pub least : (others : List PrefixRow) → IsRight width f others → least_weight ≤ weight weights others

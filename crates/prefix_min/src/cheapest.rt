@@ -1,3 +1,4 @@
+//! The cheapest prefix list, with its rows.
 ghost use Rattle.std.specs.Prelude.{◌≡◌, ◌≤◌, ◌<◌, ◌^◌, ℕ, List, IfOk, length, slice_index};
 ghost use Rattle.std.specs.List.{All};
 ghost use Rattle.prefix_min.specs.Pieces.{Follow, label_at, reach, weight_from};

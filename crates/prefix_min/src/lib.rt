@@ -12,6 +12,7 @@
 #![tactic(auto)]
 
 mod cheapest;
+mod costing;
 pub mod laws;
 mod order;
 mod parts;
@@ -22,5 +23,6 @@ mod savings;
 mod stack;
 
 pub use cheapest::{Cheapest, minimise};
+pub use costing::Costing;
 pub use piece::Piece;
 pub use row::PrefixRow;

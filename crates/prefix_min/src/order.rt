@@ -1,3 +1,4 @@
+//! The order of a list's rows.
 ghost use Rattle.std.specs.Prelude.{◌≡◌, ◌≤◌, ◌<◌, ◌+◌, ◌-◌, ℕ, IsPermutation, OnOk, length, slice_index_or};
 ghost use Rattle.std.specs.List.Sorted.{IsNonDecreasingBy};
 ghost use Rattle.prefix_min.specs.Order.{TiesRise};

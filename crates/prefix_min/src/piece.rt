@@ -1,3 +1,5 @@
+//! The pieces of a field's values.
+
 /// A run of neighbouring values with one label: from the end of the piece before, or 0, up to `hi`.
 #[derive(Clone, Copy, Debug, PartialEq, Eq)]
 pub struct Piece {

@@ -2,6 +2,7 @@
 ghost use Rattle.std.specs.Prelude.{◌≡◌, ◌++◌, ◌∷◌, [], ◌+◌, ◌<◌, ◌^◌, ℕ, OnOk, length, ◌≤◌, ◌-◌, reverse, take, drop};
 ghost use Rattle.prefix_min.specs.Plan.{Forest, IsLaid, among, more_choices, more_labels, own_choice, rows_of, silent};
 
+use crate::parts::Part;
 use crate::row::PrefixRow;
 use crate::savings::{Gain, LabelCost, put_further};
 use bumpalo::Bump;
@@ -39,15 +40,14 @@ pub fn put(
     choices: &mut Vec<Choice, &Bump>,
     also: usize,
     label: u32,
-    value: u32,
-    bits: u8,
+    part: Part,
     below: usize,
 ) -> Result<(), Memory>
-    ensures { OnOk result (choices.new.items ≡ choices.old.items ++ own_choice value bits label below also also ∷ []) }
+    ensures { OnOk result (choices.new.items ≡ choices.old.items ++ own_choice part.low part.bits label below also also ∷ []) }
 {
     choices.push(Choice {
-        value,
-        bits,
+        value: part.low,
+        bits: part.bits,
         label,
         below,
         also,
@@ -62,11 +62,10 @@ pub fn choose(
     also: &mut Vec<u32, &Bump>,
     sums: &[LabelCost],
     gain: Gain,
-    value: u32,
-    bits: u8,
+    part: Part,
     below: usize,
 ) -> Result<(), Memory>
-    ensures { OnOk result ((also.new.items ≡ also.old.items ++ more_labels gain sums.now) × (choices.new.items ≡ choices.old.items ++ more_choices gain value bits below (length also.old.items) (length also.new.items))) }
+    ensures { OnOk result ((also.new.items ≡ also.old.items ++ more_labels gain sums.now) × (choices.new.items ≡ choices.old.items ++ more_choices gain part.low part.bits below (length also.old.items) (length also.new.items))) }
 {
     if gain.gain == 0 {
         return Ok(());
@@ -74,8 +73,8 @@ pub fn choose(
     let start = also.len();
     put_further(also, sums, gain)?;
     choices.push(Choice {
-        value,
-        bits,
+        value: part.low,
+        bits: part.bits,
         label: gain.best,
         below,
         also: start,

@@ -1,3 +1,4 @@
+//! The rows of a prefix list.
 use field_boxes::Prefix;
 
 /// A row of a prefix list: the values of the prefix that no earlier row holds have the label.

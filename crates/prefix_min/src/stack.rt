@@ -14,6 +14,7 @@ use crate::plan::{Choice, choose, put};
 use crate::savings::{LabelCost, join, lower};
 use bumpalo::Bump;
 use razor_base::Memory;
+use std::alloc::Global;
 
 /// What the parts that are done save, part by part, and cost together.
 #[derive(Drop)]
@@ -28,6 +29,39 @@ pub struct Stack<'a> {
     pub choices: Vec<Choice, &'a Bump>,
     /// The further labels of the choices.
     pub also: Vec<u32, &'a Bump>,
+}
+
+impl<'a> Stack<'a> {
+    /// No part is done, and nothing is allocated.
+    pub fn new(alloc: Global, arena: &'a Bump) -> Stack<'a>
+        ensures next { result.next ≡ 0 }
+        ensures cost { result.cost ≡ 0 }
+        ensures savings { result.savings.items ≡ [] }
+        ensures choices { result.choices.items ≡ [] }
+    {
+        Stack {
+            savings: Vec::new(alloc),
+            sums: Vec::new(alloc),
+            next: 0,
+            cost: 0,
+            choices: Vec::new(arena),
+            also: Vec::new(arena),
+        }
+    }
+
+    /// Forgets the parts that are done, and keeps their room.
+    pub fn clear(&mut self)
+        ensures next { self.new.next ≡ 0 }
+        ensures cost { self.new.cost ≡ 0 }
+        ensures savings { self.new.savings.items ≡ [] }
+        ensures choices { self.new.choices.items ≡ [] }
+    {
+        self.savings.clear();
+        self.next = 0;
+        self.cost = 0;
+        self.choices.clear();
+        self.also.clear();
+    }
 }
 
 /// What the parts are made of.
@@ -88,14 +122,7 @@ impl Field<'_> {
             let wide = self.stretch(stack, start, piece.label, part, bits);
             if part.bits < wide.bits {
                 let also = stack.also.len();
-                put(
-                    &mut stack.choices,
-                    also,
-                    piece.label,
-                    wide.low,
-                    wide.bits,
-                    below,
-                )?;
+                put(&mut stack.choices, also, piece.label, wide, below)?;
                 stack.next = self.behind(stack.next, end(wide));
                 part = wide;
                 continue;
@@ -116,8 +143,7 @@ impl Field<'_> {
                 &mut stack.also,
                 &stack.sums,
                 gain,
-                about.low,
-                about.bits,
+                about,
                 below,
             )?;
             part = about;
@@ -159,7 +185,7 @@ impl Field<'_> {
         };
         let below = stack.choices.len();
         let also = stack.also.len();
-        put(&mut stack.choices, also, label, part.low, part.bits, below)?;
+        put(&mut stack.choices, also, label, part, below)?;
         lower(&mut stack.savings, &[one], 0)
     }
 
