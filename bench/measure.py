@@ -55,7 +55,7 @@ def best(command, given=None, status=0, kept=True):
 
 
 class Builds:
-    """Times of one diagram: what it takes beside reading the list, and what every command takes that reads one."""
+    """Times of one diagram of a list, and what every command takes that reads the list."""
 
     # So often a run does its work, so that the start of the process counts little.
     TIMES = 10
@@ -64,9 +64,9 @@ class Builds:
         self.bench = bench
         self.start, _, _ = best([razor, "audit", "/dev/null"])
 
-    def timed(self, path):
-        """The milliseconds of a diagram alone, and those of a process that reads the list and does nothing."""
-        read, both = (best([self.bench, step, self.TIMES], path)[0] / self.TIMES for step in ("read", "diagram"))
+    def timed(self, path, step="diagram"):
+        """The milliseconds of a step of `razor_bench` alone, and those of a process that reads the list and does nothing."""
+        read, both = (best([self.bench, each, self.TIMES], path)[0] / self.TIMES for each in ("read", step))
         return both - read, self.start + read
 
 

@@ -7,7 +7,7 @@ pub mod Without
 pub mod Values
 pub mod Parts
 pub mod NodeParts
-pub mod Searched
+pub mod Passed
 pub mod Kept
 pub mod Stays
 pub mod Zipped

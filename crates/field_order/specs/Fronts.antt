@@ -1,5 +1,5 @@
 -- Nodes with another field of their level in front.
-use Rattle.std.specs.Prelude.{◌≡◌, ◌⊎◌, ℕ, ◌<◌, ◌≤◌, ◌^◌, Bool, ◌&&◌, nat_eq, List, [], ◌∷◌, Some, map, if◌then◌else◌}
+use Rattle.std.specs.Prelude.{◌≡◌, ◌⊎◌, ℕ, ◌<◌, ◌≤◌, ◌^◌, Bool, ◌&&◌, nat_eq, List, [], ◌∷◌, length, slice_index, slice_index_or, Some, map, if◌then◌else◌}
 use Rattle.std.specs.HashMap.{get}
 use Rattle.field_boxes.specs.Fields.{width}
 use Rattle.node_store.specs.declared.edge.NodeId.{NodeId}
@@ -38,6 +38,22 @@ IsFrontEdge nodes f e d = (d.hi ≡ e.hi) × IsFront nodes e.to.0 f d.to.0
 -- an edge to where the values from lo to hi lead from the other edge's node
 abbrev pub IsCell : List Node → ℕ → ℕ → Edge → Edge → Type 0
 IsCell nodes lo hi e d = (d.hi ≡ e.hi) × ((v : ℕ) → lo ≤ v → v ≤ hi → child_of (edges_of nodes e.to.0) v ≡ d.to.0)
+
+-- all edges before the place end below the value
+abbrev pub ArePassed : List Edge → ℕ → ℕ → Type 0
+ArePassed edges place v = (k : ℕ) (d : Edge) → k < place → (slice_index_or edges k d).hi < v
+
+-- the edge at the place is that of the values from this one up to its end
+pub record IsEdgeAt (greatest : ℕ) (edges : List Edge) (v place : ℕ) : Type 0 where
+  pub inside : place < length edges
+  pub low : (d : Edge) → v ≤ (slice_index_or edges place d).hi
+  pub high : (d : Edge) → (slice_index_or edges place d).hi ≤ greatest
+  pub leads : (d : Edge) (u : ℕ) → v ≤ u → u ≤ (slice_index_or edges place d).hi → child_of edges u ≡ (slice_index_or edges place d).to.0
+
+-- for each edge a place among the edges of the node to which it leads, none of them behind the value's edge
+pub record ArePlaces (nodes : List Node) (edges : List Edge) (places : List ℕ) (v : ℕ) : Type 0 where
+  pub count : length places ≡ length edges
+  pub passed : (k : ℕ) (d : Edge) → k < length edges → ArePassed (edges_of nodes (slice_index_or edges k d).to.0) (slice_index places k) v
 
 -- the questions are the same
 abbrev pub same_asked : Asked → Asked → Bool

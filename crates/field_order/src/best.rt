@@ -14,9 +14,11 @@ use crate::fronts::Fronts;
 use crate::order::Order;
 use crate::search::worth;
 use crate::worth::{Worth, Worths};
+use bumpalo::Bump;
 use fdd_build::build;
 use field_boxes::Rule;
 use node_store::{NodeId, Store};
+use prefix_min::Costing;
 use razor_base::Memory;
 use std::alloc::Global;
 use table_compose::cost;
@@ -53,12 +55,15 @@ pub fn best_order(alloc: Global, rules: &[Rule]) -> Result<(Order, u128), Memory
     };
     let mut fronts = Fronts::new(alloc);
     let mut worths = Worths::new(alloc);
+    let arena = Bump::new(alloc);
+    let mut costing = Costing::new(alloc, &arena);
     for place in 0..3125 {
         best = better(
             alloc,
             &mut store,
             &mut fronts,
             &mut worths,
+            &mut costing,
             root,
             best,
             place,
@@ -73,6 +78,7 @@ fn better(
     store: &mut Store,
     fronts: &mut Fronts,
     worths: &mut Worths,
+    costing: &mut Costing,
     root: NodeId,
     best: Costed,
     place: u32,
@@ -96,6 +102,7 @@ fn better(
         store,
         fronts,
         worths,
+        costing,
         level.fields(),
         root,
         place,

@@ -10,7 +10,7 @@ ghost use Rattle.table_compose.specs.Composed.{AreDistinct};
 ghost use Rattle.field_order.specs.Fronts.{Has, without, IsFront, IsFrontEdge, AreFronts};
 
 use crate::fronts::{Asked, Fronts};
-use crate::row::{Edges, Row};
+use crate::row::{Edges, fill_row};
 use field_boxes::greatest;
 use node_store::{Edge, NodeId, Store};
 use razor_base::Memory;
@@ -168,13 +168,15 @@ fn rows(
 {
     store.same_answers();
     let top = u64::from(greatest(usize::from(field)));
+    let mut places = vec![in alloc; 0; edges.len()]?;
+    let mut cells = SmallVec::with_capacity(alloc, edges.len())?;
     let mut rows = SmallVec::new(alloc);
     let mut filled = 0u64;
     while filled <= top {
-        let row = Row::at(alloc, store, field, edges, filled as u32)?;
-        let to = store.make(level, row.edges.as_slice())?;
-        rows.push(Edge { hi: row.hi, to })?;
-        filled = u64::from(row.hi) + 1;
+        let hi = fill_row(store, field, edges, &mut places, &mut cells, filled as u32)?;
+        let to = store.make(level, cells.as_slice())?;
+        rows.push(Edge { hi, to })?;
+        filled = u64::from(hi) + 1;
     }
     Ok(rows)
 }

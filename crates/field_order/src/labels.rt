@@ -22,8 +22,8 @@ impl Labels {
         ensures children { IfOk result (λ l. l.children.keys ≡ children_of edges.now) }
         ensures pieces { IfOk result (λ l. ArePieces (children_of edges.now) edges.now l.pieces.items) }
     {
-        let mut children = IndexSet::new(alloc);
-        let mut pieces = Vec::new(alloc);
+        let mut children = IndexSet::with_capacity(alloc, edges.len())?;
+        let mut pieces = Vec::with_capacity(alloc, edges.len())?;
         for edge in edges {
             let (place, _) = children.insert_full(edge.to)?;
             pieces.push(Piece {

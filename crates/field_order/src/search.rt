@@ -12,7 +12,7 @@ use crate::labels::Labels;
 use crate::worth::{Valued, Worth, Worths};
 use field_boxes::width;
 use node_store::{NodeId, Store};
-use prefix_min::minimise;
+use prefix_min::Costing;
 use razor_base::Memory;
 use std::alloc::Global;
 
@@ -23,6 +23,7 @@ pub(crate) fn worth(
     store: &mut Store,
     fronts: &mut Fronts,
     worths: &mut Worths,
+    costing: &mut Costing,
     level: &[u8],
     id: NodeId,
     order: u32,
@@ -45,7 +46,7 @@ pub(crate) fn worth(
     if let Some(known) = worths.get(key, cap) {
         return Ok(known);
     }
-    let found = worked_out(alloc, store, fronts, worths, level, id, order, cap)?;
+    let found = worked_out(alloc, store, fronts, worths, costing, level, id, order, cap)?;
     worths.keep(key, found)?;
     Ok(found)
 }
@@ -57,6 +58,7 @@ fn worked_out(
     store: &mut Store,
     fronts: &mut Fronts,
     worths: &mut Worths,
+    costing: &mut Costing,
     level: &[u8],
     id: NodeId,
     order: u32,
@@ -84,6 +86,7 @@ fn worked_out(
         store,
         fronts,
         worths,
+        costing,
         rest.as_slice(),
         labels.children.as_slice(),
         order % unit,
@@ -95,8 +98,8 @@ fn worked_out(
         Some(weights) => {
             let bits = width(usize::from(field));
             let pieces = labels.pieces.as_slice();
-            let cheapest = minimise(alloc, pieces, weights.as_slice(), bits)?;
-            Ok(Worth::Is(cheapest.cost))
+            let least = costing.minimum(pieces, weights.as_slice(), bits)?;
+            Ok(Worth::Is(least))
         }
     }
 }
@@ -110,6 +113,7 @@ fn weights(
     store: &mut Store,
     fronts: &mut Fronts,
     worths: &mut Worths,
+    costing: &mut Costing,
     level: &[u8],
     nodes: &[NodeId],
     order: u32,
@@ -132,7 +136,9 @@ fn weights(
             return Ok(None);
         }
         let left = cap - others;
-        let found = worth(alloc, store, fronts, worths, level, *node, order, left)?;
+        let found = worth(
+            alloc, store, fronts, worths, costing, level, *node, order, left,
+        )?;
         match found {
             Worth::Above(_least) => return Ok(None),
             Worth::Is(cost) => {

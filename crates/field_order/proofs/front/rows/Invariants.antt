@@ -5,6 +5,7 @@ use Rattle.node_store.specs.Edges.{child_of}
 use Rattle.node_store.specs.Diagram.{edges_of, answer}
 use Rattle.node_store.specs.Store.{Grows, LeadTo}
 use Rattle.fdd_build.specs.Sets.{FillBelow}
+use Rattle.field_order.specs.Fronts.{ArePlaces}
 use Rattle.field_order.proofs.front.rows.Given as goal
 
 abbrev pub invariant-loop-filled : goal.invariant-loop-filled
@@ -13,6 +14,7 @@ invariant-loop-filled l = record {
   room : l.filled ≤ suc (greatest_of l.field);
   full : FillBelow l.filled l.rows.items;
   nodes : LeadTo l.store l.level l.rows.items;
+  places : ArePlaces l.store l.edges l.places.items l.filled;
   answers : (v u : ℕ) (values : List ℕ) → v < l.filled → u ≤ top_of l.level →
       answer l.store (child_of l.rows.items v) (u ∷ values) ≡ answer l.fn.store (child_of (edges_of l.fn.store (child_of l.edges u)) v) values;
 }

@@ -160,8 +160,8 @@ worked_out-returns-in-None-clause-worth t c =
     beyond c.args.store.now n1 level c.args.id.0 f F c.args.order next c.same_answers.ensures.store c.requires.level c.requires.fields st c.in_ok-front.ensures.front c.in_ok-front.ensures.grows n2 c.same_answers-2.ensures.store c.in_ok-weights.ensures.grows c.in_ok-labels.labels.pieces.items are c.as_slice.result.now c.as_slice-2.result.now slice ids c.args.cap
     (subst (λ o. AreWeights n2 (digits (length c.as_slice.result.now) next) c.as_slice-2.result.now c.args.cap o) c.in-None.is c.in_ok-weights.ensures.weights)
 
-pub worked_out-minimise-requires-clause-follow : goal.worked_out-minimise-requires-clause-follow
-worked_out-minimise-requires-clause-follow t c =
+pub worked_out-minimum-requires-clause-follow : goal.worked_out-minimum-requires-clause-follow
+worked_out-minimum-requires-clause-follow t c =
     let f = c.args.order / c.unit-unit.result in
     let next = c.args.order % c.unit-unit.result in
     let level = c.args.level.now in
@@ -177,8 +177,8 @@ worked_out-minimise-requires-clause-follow t c =
     let ws = subst (λ xs. AllZip (λ (k : NodeId) m. IsExact n2 (digits (length c.as_slice.result.now) next) k.0 m) c.as_slice-2.result.now xs) (sym c.as_slice-in-Some.ensures.value) known in
     follows_by c.args.store.now n1 level c.args.id.0 f F c.args.order next c.same_answers.ensures.store c.requires.level c.requires.fields st c.in_ok-front.ensures.front c.in_ok-front.ensures.grows n2 c.same_answers-2.ensures.store c.in_ok-weights.ensures.grows c.as_slice-pieces.result.now now c.as_slice.result.now c.as_slice-2.result.now slice ids c.as_slice-in-Some.result.now ws
 
-pub worked_out-minimise-requires-clause-light : goal.worked_out-minimise-requires-clause-light
-worked_out-minimise-requires-clause-light t c =
+pub worked_out-minimum-requires-clause-light : goal.worked_out-minimum-requires-clause-light
+worked_out-minimum-requires-clause-light t c =
     let f = c.args.order / c.unit-unit.result in
     let next = c.args.order % c.unit-unit.result in
     let level = c.args.level.now in
@@ -194,8 +194,8 @@ worked_out-minimise-requires-clause-light t c =
     let ws = subst (λ xs. AllZip (λ (k : NodeId) m. IsExact n2 (digits (length c.as_slice.result.now) next) k.0 m) c.as_slice-2.result.now xs) (sym c.as_slice-in-Some.ensures.value) known in
     lights_by c.args.store.now n1 level c.args.id.0 f F c.args.order next c.same_answers.ensures.store c.requires.level c.requires.fields st c.in_ok-front.ensures.front c.in_ok-front.ensures.grows n2 c.same_answers-2.ensures.store c.in_ok-weights.ensures.grows c.as_slice-pieces.result.now now c.as_slice.result.now c.as_slice-2.result.now slice ids c.as_slice-in-Some.result.now ws
 
-pub worked_out-minimise-requires-clause-whole : goal.worked_out-minimise-requires-clause-whole
-worked_out-minimise-requires-clause-whole t c =
+pub worked_out-minimum-requires-clause-whole : goal.worked_out-minimum-requires-clause-whole
+worked_out-minimum-requires-clause-whole t c =
     let f = c.args.order / c.unit-unit.result in
     let next = c.args.order % c.unit-unit.result in
     let level = c.args.level.now in
@@ -226,13 +226,13 @@ worked_out-returns-clause-worth t c =
     let now = subst (λ ps. ArePieces (children_of (edges_of n1 F)) (edges_of n1 F) ps) (sym c.as_slice-pieces.ensures.value) are in
     let known = subst (λ o. AreWeights n2 (digits (length c.as_slice.result.now) next) c.as_slice-2.result.now c.args.cap o) c.in-Some.is c.in_ok-weights.ensures.weights in
     let ws = subst (λ xs. AllZip (λ (k : NodeId) m. IsExact n2 (digits (length c.as_slice.result.now) next) k.0 m) c.as_slice-2.result.now xs) (sym c.as_slice-in-Some.ensures.value) known in
-    let e = c.in_ok-cheapest-in-Some.ensures in
-    exact_by c.args.store.now n1 level c.args.id.0 f F c.args.order next c.same_answers.ensures.store c.requires.level c.requires.fields st c.in_ok-front.ensures.front c.in_ok-front.ensures.grows n2 c.same_answers-2.ensures.store c.in_ok-weights.ensures.grows c.as_slice-pieces.result.now now c.as_slice.result.now c.as_slice-2.result.now slice ids c.as_slice-in-Some.result.now ws c.in_ok-cheapest-in-Some.cheapest.rows.items c.in_ok-cheapest-in-Some.cheapest.cost
-    (minimal c.width-bits.result (width f) (c.width-bits.ensures ∙ ap width c.from.ensures) c.as_slice-pieces.result.now c.as_slice-in-Some.result.now c.in_ok-cheapest-in-Some.cheapest.rows.items c.in_ok-cheapest-in-Some.cheapest.cost
+    let e = c.in_ok-least-in-Some.ensures in
+    exact_by c.args.store.now n1 level c.args.id.0 f F c.args.order next c.same_answers.ensures.store c.requires.level c.requires.fields st c.in_ok-front.ensures.front c.in_ok-front.ensures.grows n2 c.same_answers-2.ensures.store c.in_ok-weights.ensures.grows c.as_slice-pieces.result.now now c.as_slice.result.now c.as_slice-2.result.now slice ids c.as_slice-in-Some.result.now ws e.rows c.in_ok-least-in-Some.least
+    (minimal c.width-bits.result (width f) (c.width-bits.ensures ∙ ap width c.from.ensures) c.as_slice-pieces.result.now c.as_slice-in-Some.result.now e.rows c.in_ok-least-in-Some.least
     e.right e.labels e.weighs e.least)
 
-pub worked_out-minimise-requires-clause-wide : goal.worked_out-minimise-requires-clause-wide
-worked_out-minimise-requires-clause-wide t c = subst (λ w. w ≤ 32) (sym (c.width-bits.ensures ∙ ap width c.from.ensures)) (narrow (c.args.order / c.unit-unit.result))
+pub worked_out-minimum-requires-clause-wide : goal.worked_out-minimum-requires-clause-wide
+worked_out-minimum-requires-clause-wide t c = subst (λ w. w ≤ 32) (sym (c.width-bits.ensures ∙ ap width c.from.ensures)) (narrow (c.args.order / c.unit-unit.result))
 
 pub worth-returns-then-is_empty-clause-worth : goal.worth-returns-then-is_empty-clause-worth
 worth-returns-then-is_empty-clause-worth t c = leaf c.args.store.now c.args.level.now c.args.order c.args.id.0 c.requires.fields.at (no_fields c.args.level.now (sym c.if-is_empty.ensures))
@@ -260,8 +260,8 @@ worked_out-returns-in_err-front-clause-worths t c = stays.worths c.args.store.no
 pub worked_out-returns-in_err-labels-clause-worths : goal.worked_out-returns-in_err-labels-clause-worths
 worked_out-returns-in_err-labels-clause-worths t c = stays.worths c.args.store.now c.front.new.store c.in_ok-front.ensures.grows c.args.worths.now c.requires.worths
 
-pub worked_out-returns-in_err-cheapest-in-Some-clause-grows : goal.worked_out-returns-in_err-cheapest-in-Some-clause-grows
-worked_out-returns-in_err-cheapest-in-Some-clause-grows t c = growth.twice c.args.store.now c.front.new.store c.weights.new.store c.in_ok-front.ensures.grows c.in_ok-weights.ensures.grows
+pub worked_out-returns-in_err-least-in-Some-clause-grows : goal.worked_out-returns-in_err-least-in-Some-clause-grows
+worked_out-returns-in_err-least-in-Some-clause-grows t c = growth.twice c.args.store.now c.front.new.store c.weights.new.store c.in_ok-front.ensures.grows c.in_ok-weights.ensures.grows
 
 pub worked_out-returns-clause-grows : goal.worked_out-returns-clause-grows
 worked_out-returns-clause-grows t c = growth.twice c.args.store.now c.front.new.store c.weights.new.store c.in_ok-front.ensures.grows c.in_ok-weights.ensures.grows
