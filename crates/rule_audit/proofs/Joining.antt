@@ -1,47 +1,36 @@
--- The label of a list, by the labels of its two parts.
-use Rattle.std.proofs.Common.{◌≡◌, ◌∷◌, ◌++◌, ℕ, ◌<◌, ◌+◌, suc, List, [], Bool, true, false, cond, ap, refl, sym, ◌∙◌, subst, length, append_assoc, arith}
-use Rattle.std.specs.Prelude.{nat_eq, option_map, Option, Some, None, unwrap_or, slice_get}
+-- The numbers of a list, by those of its two parts.
+use Rattle.std.proofs.Common.{◌≡◌, ◌∷◌, ◌++◌, ℕ, ◌≤◌, ◌<◌, ◌+◌, suc, List, [], Bool, true, false, cond, ap, refl, sym, ◌∙◌, subst, length, append_assoc, arith}
+use Rattle.std.specs.Prelude.{nat_eq, option_map, Option, Some, unwrap_or, slice_get}
 use Rattle.std.proofs.lemmas.Bool.{ne_eqb, eqb-true}
 use Rattle.std.proofs.lemmas.List.{length-append}
 use Rattle.field_boxes.specs.declared.rule.Rule as code
+use Rattle.field_boxes.specs.Fields.{stated}
 use Rattle.fdd_build.specs.Rules.{decided}
 use Rattle.fdd_build.proofs.Decided.{decided_head}
 use Rattle.rule_audit.specs.declared.label.Label.{Label}
 use Rattle.rule_audit.specs.declared.label.Next.{Next}
 use Rattle.rule_audit.specs.declared.label.Next.TheVariants.{Nothing, Alike, Otherwise}
-use Rattle.rule_audit.specs.Labels.{label_at, labelled, next_of, number_of}
-use Rattle.rule_audit.specs.Joined.{AllDecide, StandAt, decision_of, joined, label_joined, next_joined}
-use Rattle.rule_audit.proofs.Numbers.{label_back, number_back, parts_of}
+use Rattle.rule_audit.specs.Labels.{is_open, label_at, labelled, next_of, number_of, own_number}
+use Rattle.rule_audit.specs.Joined.{AllBelow, AllDecide, StandAt, decision_of, joined, with_below, with_next}
+use Rattle.rule_audit.proofs.Numbers.{label_back, no_label}
 use Rattle.rule_audit.proofs.Told.{meets}
 
 slice_get-front : (front : List code.Rule) (rule : code.Rule) (rules : List code.Rule) → slice_get (front ++ rule ∷ rules) (length front) ≡ Some rule
 slice_get-front [] rule rules = refl
 slice_get-front (r ∷ front) rule rules = slice_get-front front rule rules
 
--- no label above, or none below
-pub none_above : (all : List code.Rule) (lower : ℕ) → joined all 0 lower ≡ lower
+-- over 0 or under it a number is as it was
+pub none_above : (first : ℕ) (all : List code.Rule) (lower : ℕ) → joined first all 0 lower ≡ lower
 unfolding joined
-none_above all lower = refl
+none_above first all lower = refl
 
-keeps_next : (all : List code.Rule) (label : Label) (next : Next) → next_joined all label next None ≡ next
-keeps_next all label Nothing = refl
-keeps_next all label Alike = refl
-keeps_next all label Otherwise = refl
+still : (n : ℕ) (t : Bool) → nat_eq n 0 ≡ t → cond t 0 n ≡ n
+still n true e = sym (eqb-true n 0 e)
+still n false e = refl
 
--- 0 alone has no label
-no_label : (n : ℕ) (t : Bool) (l : Label) → nat_eq n 0 ≡ t → cond t None (Some l) ≡ None → n ≡ 0
-no_label n true l e h = eqb-true n 0 e
-no_label n false l e h = let f : Some l ≡ None = h in cc
-
-none_below_by : (all : List code.Rule) (upper : ℕ) (m : Option Label) → label_at upper ≡ m → label_joined all m 0 ≡ upper
-none_below_by all upper None e = sym (no_label upper (nat_eq upper 0) (parts_of upper) refl e)
-none_below_by all upper (Some label) e =
-    ap (λ (x : Next). number_of (record { place = label.place; next = x })) (keeps_next all label label.next)
-    ∙ number_back upper label e
-
-pub none_below : (all : List code.Rule) (upper : ℕ) → joined all upper 0 ≡ upper
+pub none_below : (first : ℕ) (all : List code.Rule) (upper : ℕ) → joined first all upper 0 ≡ upper
 unfolding joined
-none_below all upper = none_below_by all upper (label_at upper) refl
+none_below first all upper = still upper (nat_eq upper 0) refl
 
 pub decide_front : (xs ys : List code.Rule) → AllDecide (xs ++ ys) → AllDecide xs
 decide_front [] ys h = tt
@@ -50,6 +39,14 @@ decide_front (rule ∷ xs) ys h = (h.0, decide_front xs ys h.1)
 pub decide_back : (xs ys : List code.Rule) → AllDecide (xs ++ ys) → AllDecide ys
 decide_back [] ys h = h
 decide_back (rule ∷ xs) ys h = decide_back xs ys h.1
+
+pub below_front : (first : ℕ) (xs ys : List code.Rule) → AllBelow first (xs ++ ys) → AllBelow first xs
+below_front first [] ys h = tt
+below_front first (rule ∷ xs) ys h = (h.0, below_front first xs ys h.1)
+
+pub below_back : (first : ℕ) (xs ys : List code.Rule) → AllBelow first (xs ++ ys) → AllBelow first ys
+below_back first [] ys h = h
+below_back first (rule ∷ xs) ys h = below_back first xs ys h.1
 
 pub stand_front : (all : List code.Rule) (from : ℕ) (xs ys : List code.Rule) → StandAt all from (xs ++ ys) → StandAt all from xs
 stand_front all from [] ys h = tt
@@ -72,86 +69,135 @@ stand_in front (rule ∷ rules) =
 pub stand_itself : (rules : List code.Rule) → StandAt rules 0 rules
 stand_itself rules = stand_in [] rules
 
-abbrev decision_at : List code.Rule → ℕ → ℕ
-decision_at all n = decision_of all (label_at n)
-
--- the decision of a rule that stands at the place
-at_place : (all : List code.Rule) (place : ℕ) (next : Next) (rule : code.Rule) → slice_get all place ≡ Some rule →
-    decision_of all (Some (record { place = place; next = next })) ≡ rule.decision
-at_place all place next rule h = ap (λ o. unwrap_or (option_map (λ (r : code.Rule). r.decision) o) 0) h
-
-abbrev own_label : ℕ → Next → ℕ
-own_label place next = number_of (record { place = place; next = next })
-
-at_own : (all : List code.Rule) (place : ℕ) (next : Next) (rule : code.Rule) → slice_get all place ≡ Some rule → decision_at all (own_label place next) ≡ rule.decision
-at_own all place next rule h = ap (decision_of all) (label_back (record { place = place; next = next })) ∙ at_place all place next rule h
-
-module _ (all : List code.Rule) (fields header : List ℕ) where
+module _ (header : List ℕ) where
   abbrev number : List code.Rule → ℕ
-  number rules = decided fields rules header
+  number rules = decided stated rules header
 
-  abbrev label_head : Bool → ℕ → code.Rule → List code.Rule → ℕ
-  label_head m from rule rules = cond m (own_label from (next_of rule.decision (number rules))) (labelled fields (suc from) rules header)
-
-  tells_by : (from : ℕ) (rule : code.Rule) (rules : List code.Rule) (m : Bool) → meets fields header rule ≡ m → slice_get all from ≡ Some rule →
-      decision_at all (labelled fields (suc from) rules header) ≡ number rules → decision_at all (label_head m from rule rules) ≡ number (rule ∷ rules)
-  tells_by from rule rules true e at rest = at_own all from (next_of rule.decision (number rules)) rule at ∙ sym (decided_head fields header rule rules true e)
-  tells_by from rule rules false e at rest = rest ∙ sym (decided_head fields header rule rules false e)
-
-  -- a list's label tells what the list decides
-  tells_number : (from : ℕ) (rules : List code.Rule) → StandAt all from rules → decision_at all (labelled fields from rules header) ≡ number rules
-  tells_number from [] at = refl
-  tells_number from (rule ∷ rules) at = tells_by from rule rules (meets fields header rule) refl at.0 (tells_number (suc from) rules at.1)
-
-  number_by : (rule : code.Rule) (xs ys : List code.Rule) (m : Bool) → meets fields header rule ≡ m → 0 < rule.decision →
+  number_by : (rule : code.Rule) (xs ys : List code.Rule) (m : Bool) → meets stated header rule ≡ m → 0 < rule.decision →
       number (xs ++ ys) ≡ cond (nat_eq (number xs) 0) (number ys) (number xs) →
       number (rule ∷ xs ++ ys) ≡ cond (nat_eq (number (rule ∷ xs)) 0) (number ys) (number (rule ∷ xs))
   number_by rule xs ys true e some rest =
-      let head = decided_head fields header rule xs true e in
-      decided_head fields header rule (xs ++ ys) true e
+      let head = decided_head stated header rule xs true e in
+      decided_head stated header rule (xs ++ ys) true e
       ∙ sym (ap (λ n. cond (nat_eq n 0) (number ys) n) head ∙ ap (λ t. cond t (number ys) rule.decision) (ne_eqb rule.decision 0 (λ z. omega (arith, some, z))))
   number_by rule xs ys false e some rest =
-      let head = decided_head fields header rule xs false e in
-      decided_head fields header rule (xs ++ ys) false e ∙ rest ∙ sym (ap (λ n. cond (nat_eq n 0) (number ys) n) head)
+      let head = decided_head stated header rule xs false e in
+      decided_head stated header rule (xs ++ ys) false e ∙ rest ∙ sym (ap (λ n. cond (nat_eq n 0) (number ys) n) head)
 
   -- what two parts decide: as the first, and where that decides nothing, as the second
-  number_parts : (xs ys : List code.Rule) → AllDecide xs → number (xs ++ ys) ≡ cond (nat_eq (number xs) 0) (number ys) (number xs)
+  pub number_parts : (xs ys : List code.Rule) → AllDecide xs → number (xs ++ ys) ≡ cond (nat_eq (number xs) 0) (number ys) (number xs)
   number_parts [] ys some = refl
-  number_parts (rule ∷ xs) ys some = number_by rule xs ys (meets fields header rule) refl some.0 (number_parts xs ys some.1)
+  number_parts (rule ∷ xs) ys some = number_by rule xs ys (meets stated header rule) refl some.0 (number_parts xs ys some.1)
 
-  -- what comes next, by what the first part decides behind the rule
-  next_by : (place d e f : ℕ) (lower : ℕ) (s t : Bool) → nat_eq e 0 ≡ s → decision_of all (Some (record { place = place; next = Nothing })) ≡ d → decision_at all lower ≡ f →
-      next_joined all (record { place = place; next = cond s Nothing (cond t Alike Otherwise) }) (cond s Nothing (cond t Alike Otherwise)) (label_at lower)
-      ≡ cond s (next_of d f) (cond t Alike Otherwise)
-  next_by place d e f lower true t z at below = ap (λ n. next_of n (decision_at all lower)) at ∙ ap (next_of d) below
-  next_by place d e f lower false true z at below = refl
-  next_by place d e f lower false false z at below = refl
+-- how a decision is beside another one, by the two tests
+next_read : (d x : ℕ) (s t : Bool) → nat_eq x 0 ≡ s → nat_eq d x ≡ t → next_of d x ≡ cond s Nothing (cond t Alike Otherwise)
+next_read d x s t z w = ap (λ u. cond u Nothing (cond (nat_eq d x) Alike Otherwise)) z ∙ ap (λ u. cond s Nothing (cond u Alike Otherwise)) w
 
-  -- how the next decision is, where it is that of the first part or else of the second
-  next_is : (d e f g : ℕ) (s : Bool) → nat_eq e 0 ≡ s → g ≡ cond s f e → next_of d g ≡ cond s (next_of d f) (cond (nat_eq d e) Alike Otherwise)
-  next_is d e f g true z h = ap (next_of d) h
-  next_is d e f g false z h = ap (next_of d) h ∙ ap (λ t. cond t Nothing (cond (nat_eq d e) Alike Otherwise)) z
+module _ (first : ℕ) (all : List code.Rule) where
+  abbrev open_number : ℕ → Next → ℕ
+  open_number place next = number_of first (record { place = place; next = next })
 
-  parts_by : (from : ℕ) (rule : code.Rule) (xs ys : List code.Rule) (lower : ℕ) (m : Bool) → meets fields header rule ≡ m → slice_get all from ≡ Some rule → AllDecide xs →
-      decision_at all lower ≡ number ys →
-      labelled fields (suc from) (xs ++ ys) header ≡ joined all (labelled fields (suc from) xs header) lower →
-      label_head m from rule (xs ++ ys) ≡ joined all (label_head m from rule xs) lower
+  abbrev decision_at : ℕ → ℕ
+  decision_at n = decision_of all n (label_at first n)
+
+  -- x comes next in the part of the rule, f in the part behind it, and so g in both
+  next_by : (place x f g own : ℕ) (rule : code.Rule) (s t : Bool) → nat_eq x 0 ≡ s → nat_eq rule.decision x ≡ t → own ≡ open_number place (cond s Nothing (cond t Alike Otherwise)) →
+      g ≡ cond s f x → with_next first own place (Some rule) (cond s Nothing (cond t Alike Otherwise)) f ≡ open_number place (next_of rule.decision g)
+  next_by place x f g own rule true t z w is e = ap (λ n. open_number place (next_of rule.decision n)) (sym e)
+  next_by place x f g own rule false true z w is e = is ∙ ap (open_number place) (sym (ap (next_of rule.decision) e ∙ next_read rule.decision x false true z w))
+  next_by place x f g own rule false false z w is e = is ∙ ap (open_number place) (sym (ap (next_of rule.decision) e ∙ next_read rule.decision x false false z w))
+
+  open_by : (from x f g : ℕ) (rule : code.Rule) → slice_get all from ≡ Some rule → g ≡ cond (nat_eq x 0) f x →
+      with_below first all (open_number from (next_of rule.decision x)) (label_at first (open_number from (next_of rule.decision x))) f ≡ open_number from (next_of rule.decision g)
+  open_by from x f g rule at e =
+      let own = open_number from (next_of rule.decision x) in
+      ap (λ (l : Option Label). with_below first all own l f) (label_back first (record { place = from; next = next_of rule.decision x }))
+      ∙ ap (λ (r : Option code.Rule). with_next first own from r (next_of rule.decision x) f) at
+      ∙ next_by from x f g own rule (nat_eq x 0) (nat_eq rule.decision x) refl refl refl e
+
+  abbrev below_own : Bool → ℕ → code.Rule → ℕ → ℕ → ℕ
+  below_own o from rule x below = with_below first all (own_number first o from rule x) (label_at first (own_number first o from rule x)) below
+
+  own_by : (o : Bool) (from x f g lower : ℕ) (rule : code.Rule) (z : Bool) → nat_eq lower 0 ≡ z → slice_get all from ≡ Some rule → rule.decision < first →
+      decision_at lower ≡ f → g ≡ cond (nat_eq x 0) f x →
+      own_number first o from rule g ≡ cond z (own_number first o from rule x) (below_own o from rule x (decision_at lower))
+  own_by o from x f g lower rule true z at low below e =
+      let none : lower ≡ 0 = eqb-true lower 0 z in
+      let nothing : f ≡ 0 = sym below ∙ ap decision_at none ∙ ap (decision_of all 0) (no_label first 0 (omega (arith, low))) in
+      ap (own_number first o from rule) (e ∙ ap (λ n. cond (nat_eq x 0) n x) nothing ∙ still x (nat_eq x 0) refl)
+  own_by true from x f g lower rule false z at low below e =
+      sym (ap (below_own true from rule x) below ∙ open_by from x f g rule at e)
+  own_by false from x f g lower rule false z at low below e =
+      sym (ap (λ (l : Option Label). with_below first all rule.decision l (decision_at lower)) (no_label first rule.decision low))
+
+  -- the number of a rule isn't 0
+  not_zero : (o : Bool) (from x : ℕ) (rule : code.Rule) → 0 < rule.decision → rule.decision < first → nat_eq (own_number first o from rule x) 0 ≡ false
+  not_zero true from x rule some low = ne_eqb (open_number from (next_of rule.decision x)) 0 (λ e. omega (arith, low, e))
+  not_zero false from x rule some low = ne_eqb rule.decision 0 (λ e. omega (arith, some, e))
+
+  own_joined : (o : Bool) (from x f g lower : ℕ) (rule : code.Rule) → slice_get all from ≡ Some rule → 0 < rule.decision → rule.decision < first →
+      decision_at lower ≡ f → g ≡ cond (nat_eq x 0) f x → own_number first o from rule g ≡ joined first all (own_number first o from rule x) lower
   unfolding joined
-  parts_by from rule xs ys lower true e at some below rest =
-      let d = rule.decision in
-      let x = number xs in
-      let f = number ys in
-      sym (ap (λ o. label_joined all o lower) (label_back (record { place = from; next = next_of d x }))
-      ∙ ap (λ (n : Next). own_label from n) (next_by from d x f lower (nat_eq x 0) (nat_eq d x) refl (at_place all from Nothing rule at) below
-      ∙ sym (next_is d x f (number (xs ++ ys)) (nat_eq x 0) refl (number_parts xs ys some))))
-  parts_by from rule xs ys lower false e at some below rest = rest
+  own_joined o from x f g lower rule at some low below e =
+      own_by o from x f g lower rule (nat_eq lower 0) refl at low below e
+      ∙ sym (ap (λ t. cond t lower (cond (nat_eq lower 0) (own_number first o from rule x) (below_own o from rule x (decision_at lower)))) (not_zero o from x rule some low))
 
-  pub parts : (from place : ℕ) (xs ys : List code.Rule) → place ≡ from + length xs → StandAt all from (xs ++ ys) → AllDecide (xs ++ ys) →
-      labelled fields from (xs ++ ys) header ≡ joined all (labelled fields from xs header) (labelled fields place ys header)
-  parts from place [] ys is at some =
-      let same : from ≡ place = omega (arith, is) in
-      ap (λ n. labelled fields n ys header) same ∙ sym (none_above all (labelled fields place ys header))
-  parts from place (rule ∷ xs) ys is at some =
-      parts_by from rule xs ys (labelled fields place ys header) (meets fields header rule) refl at.0 (decide_front xs ys some.1)
-      (tells_number place ys (stand_back all (suc from) place xs ys (omega (arith, is)) at.1))
-      (parts (suc from) place xs ys (omega (arith, is)) at.1 some.1)
+  module _ (left_open : List Bool) (header : List ℕ) where
+    abbrev here : ℕ → code.Rule → List code.Rule → ℕ
+    here from rule rules = own_number first (is_open left_open from) from rule (number header rules)
+
+    abbrev label_head : Bool → ℕ → code.Rule → List code.Rule → ℕ
+    label_head m from rule rules = cond m (here from rule rules) (labelled first left_open (suc from) rules header)
+
+    own_tells : (o : Bool) (from x : ℕ) (rule : code.Rule) → slice_get all from ≡ Some rule → rule.decision < first → decision_at (own_number first o from rule x) ≡ rule.decision
+    own_tells true from x rule at low =
+        let own = open_number from (next_of rule.decision x) in
+        ap (λ (l : Option Label). decision_of all own l) (label_back first (record { place = from; next = next_of rule.decision x }))
+        ∙ ap (λ o. unwrap_or (option_map (λ (r : code.Rule). r.decision) o) 0) at
+    own_tells false from x rule at low = ap (λ (l : Option Label). decision_of all rule.decision l) (no_label first rule.decision low)
+
+    tells_by : (from : ℕ) (rule : code.Rule) (rules : List code.Rule) (m : Bool) → meets stated header rule ≡ m → slice_get all from ≡ Some rule → rule.decision < first →
+        decision_at (labelled first left_open (suc from) rules header) ≡ number header rules → decision_at (label_head m from rule rules) ≡ number header (rule ∷ rules)
+    tells_by from rule rules true e at low rest = own_tells (is_open left_open from) from (number header rules) rule at low ∙ sym (decided_head stated header rule rules true e)
+    tells_by from rule rules false e at low rest = rest ∙ sym (decided_head stated header rule rules false e)
+
+    -- a list's number tells what the list decides
+    tells_number : (from : ℕ) (rules : List code.Rule) → 0 < first → StandAt all from rules → AllBelow first rules → decision_at (labelled first left_open from rules header) ≡ number header rules
+    tells_number from [] some at low = ap (λ (l : Option Label). decision_of all 0 l) (no_label first 0 some)
+    tells_number from (rule ∷ rules) some at low =
+        tells_by from rule rules (meets stated header rule) refl at.0 low.0 (tells_number (suc from) rules some at.1 low.1)
+
+    parts_by : (from : ℕ) (rule : code.Rule) (xs ys : List code.Rule) (lower : ℕ) (m : Bool) → meets stated header rule ≡ m → slice_get all from ≡ Some rule → 0 < rule.decision → rule.decision < first →
+        AllDecide xs → decision_at lower ≡ number header ys →
+        labelled first left_open (suc from) (xs ++ ys) header ≡ joined first all (labelled first left_open (suc from) xs header) lower →
+        label_head m from rule (xs ++ ys) ≡ joined first all (label_head m from rule xs) lower
+    parts_by from rule xs ys lower true e at some low decide below rest =
+        own_joined (is_open left_open from) from (number header xs) (number header ys) (number header (xs ++ ys)) lower rule at some low below (number_parts header xs ys decide)
+    parts_by from rule xs ys lower false e at some low decide below rest = rest
+
+    -- the number of two parts is that of the upper one joined with that of the lower one
+    pub parts : (from place : ℕ) (xs ys : List code.Rule) → place ≡ from + length xs → StandAt all from (xs ++ ys) → AllDecide (xs ++ ys) → AllBelow first (xs ++ ys) →
+        labelled first left_open from (xs ++ ys) header ≡ joined first all (labelled first left_open from xs header) (labelled first left_open place ys header)
+    parts from place [] ys is at some low =
+        let same : from ≡ place = omega (arith, is) in
+        ap (λ n. labelled first left_open n ys header) same ∙ sym (none_above first all (labelled first left_open place ys header))
+    parts from place (rule ∷ xs) ys is at some low =
+        parts_by from rule xs ys (labelled first left_open place ys header) (meets stated header rule) refl at.0 some.0 low.0 (decide_front xs ys some.1)
+        (tells_number place ys (omega (arith, low.0)) (stand_back all (suc from) place xs ys (omega (arith, is)) at.1) (below_back first xs ys low.1))
+        (parts (suc from) place xs ys (omega (arith, is)) at.1 some.1 low.1)
+
+module _ (first : ℕ) (left_open : List Bool) (header : List ℕ) where
+  closed_by : (from : ℕ) (rule : code.Rule) (rules : List code.Rule) (m : Bool) → meets stated header rule ≡ m → is_open left_open from ≡ false →
+      labelled first left_open (suc from) rules header ≡ decided stated rules header →
+      cond m (own_number first (is_open left_open from) from rule (decided stated rules header)) (labelled first left_open (suc from) rules header) ≡ decided stated (rule ∷ rules) header
+  closed_by from rule rules true e none rest =
+      ap (λ o. own_number first o from rule (decided stated rules header)) none ∙ sym (decided_head stated header rule rules true e)
+  closed_by from rule rules false e none rest = rest ∙ sym (decided_head stated header rule rules false e)
+
+  -- where no rule is open, the number is what is decided
+  pub closed : (from : ℕ) (rules : List code.Rule) → ((k : ℕ) → from ≤ k → k < from + length rules → is_open left_open k ≡ false) →
+      labelled first left_open from rules header ≡ decided stated rules header
+  closed from [] h = refl
+  closed from (rule ∷ rules) h =
+      closed_by from rule rules (meets stated header rule) refl (h from (omega arith) (omega arith))
+      (closed (suc from) rules (λ k low high. h k (omega (arith, low)) (omega (arith, high))))

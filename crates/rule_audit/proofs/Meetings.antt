@@ -24,20 +24,20 @@ marked_by (b ∷ seen) zero (suc other) h = inr h
 marked_by (b ∷ seen) (suc id) zero h = inr h
 marked_by (b ∷ seen) (suc id) (suc other) h = elim (marked_by seen id other h) [ inl e ↦ inl (ap suc e) | inr m ↦ inr m ]
 
-module _ (nodes : List Node) (root : ℕ) where
+module _ (first : ℕ) (nodes : List Node) (root : ℕ) where
   abbrev Known : (List ℕ → Type 0) → List ℕ → Type 0
   Known Old h = Old h ⊎ IsKnown Old (answer nodes root) h
 
-  known_label : (k : ℕ) (Old : List ℕ → Type 0) (h : List ℕ) → Known Old h → Old h ⊎ IsKnown Old (shown_by nodes root k) h
+  known_label : (k : ℕ) (Old : List ℕ → Type 0) (h : List ℕ) → Known Old h → Old h ⊎ IsKnown Old (shown_by first nodes root k) h
   known_label k Old h (inl old) = inl old
-  known_label k Old h (inr r) = inr (record { earlier = r.earlier; old = r.old; same = ap (λ n. next_shown k (label_at n)) r.same; before = r.before })
+  known_label k Old h (inr r) = inr (record { earlier = r.earlier; old = r.old; same = ap (λ n. next_shown k (label_at first n)) r.same; before = r.before })
 
   -- more headers are met, which show nothing new
   met_wider : (Old New : List ℕ → Type 0) (seen : List Bool) (states : List RuleState) → ((h : List ℕ) → Old h → New h) → ((h : List ℕ) → New h → Known Old h) →
-      AreMet nodes root Old seen states → AreMet nodes root New seen states
+      AreMet first nodes root Old seen states → AreMet first nodes root New seen states
   met_wider Old New seen states grows known m = record {
     each = λ k d less.
-        widened (shown_by nodes root k) Old New grows (λ h new. known_label k Old h (known h new)) (slice_index_or states k d) (m.each k d less);
+        widened (shown_by first nodes root k) Old New grows (λ h new. known_label k Old h (known h new)) (slice_index_or states k d) (m.each k d less);
     again = λ id values marked ok. let r = m.again id values marked ok in (r.0, grows r.0 r.1, r.2);
   }
 
@@ -50,7 +50,7 @@ module _ (nodes : List Node) (root : ℕ) where
       ∙ ap (λ n. answer nodes n rest) child
 
   -- before the values of a field nothing more is met
-  pub met_first : (front : List ℕ) (seen : List Bool) (states : List RuleState) → AreMet nodes root (Before front) seen states → AreMet nodes root (Before (front ++ 0 ∷ [])) seen states
+  pub met_first : (front : List ℕ) (seen : List Bool) (states : List RuleState) → AreMet first nodes root (Before front) seen states → AreMet first nodes root (Before (front ++ 0 ∷ [])) seen states
   met_first front seen states m =
       met_wider (Before front) (Before (front ++ 0 ∷ [])) seen states (λ h old. (old.0, before_more h front (0 ∷ []) old.1)) (λ h new. inl (new.0, before_zero front h new.1)) m
 
@@ -91,7 +91,7 @@ module _ (nodes : List Node) (root : ℕ) where
       | inr w ↦ edge_inside h new.0 w (lesser w.value w.low)
     ]
 
-    pub met_edge : (seen : List Bool) (states : List RuleState) → AreMet nodes root (UpTo (front ++ lo ∷ [])) seen states → AreMet nodes root (Before (front ++ suc hi ∷ [])) seen states
+    pub met_edge : (seen : List Bool) (states : List RuleState) → AreMet first nodes root (UpTo (front ++ lo ∷ [])) seen states → AreMet first nodes root (Before (front ++ suc hi ∷ [])) seen states
     met_edge seen states m = met_wider (UpTo (front ++ lo ∷ [])) (Before (front ++ suc hi ∷ [])) seen states edge_grows edge_known m
 
   -- past the greatest value of a field all that begins so is met
@@ -121,10 +121,10 @@ module _ (nodes : List Node) (root : ℕ) where
       ],
     )
 
-    pub met_last : (seen : List Bool) (states : List RuleState) → AreMet nodes root (Before (front ++ suc (greatest_of depth) ∷ [])) seen states → AreMet nodes root (UpTo front) seen states
+    pub met_last : (seen : List Bool) (states : List RuleState) → AreMet first nodes root (Before (front ++ suc (greatest_of depth) ∷ [])) seen states → AreMet first nodes root (UpTo front) seen states
     met_last seen states m = met_wider (Before (front ++ suc (greatest_of depth) ∷ [])) (UpTo front) seen states last_grows last_known m
 
-  pub met_all : (seen : List Bool) (states : List RuleState) → AreMet nodes root (UpTo []) seen states → AreMet nodes root IsHeader seen states
+  pub met_all : (seen : List Bool) (states : List RuleState) → AreMet first nodes root (UpTo []) seen states → AreMet first nodes root IsHeader seen states
   met_all seen states m = met_wider (UpTo []) IsHeader seen states (λ h old. old.0) (λ h ok. inl (ok, inr (h, refl))) m
 
   module _ (front : List ℕ) (depth id : ℕ) (long : length front ≡ depth) (level : level_of nodes id ≡ drop depth stated) (leads : LeadsTo nodes root front id) where
@@ -132,7 +132,7 @@ module _ (nodes : List Node) (root : ℕ) where
     rest_of h rest ok is = subst (λ n. AreValues (drop n stated) rest) long (rest_values stated front rest (subst IsHeader is ok))
 
     -- a node that was seen answers nothing new
-    pub met_again : (seen : List Bool) (states : List RuleState) → IsMarked seen id → AreMet nodes root (Before front) seen states → AreMet nodes root (UpTo front) seen states
+    pub met_again : (seen : List Bool) (states : List RuleState) → IsMarked seen id → AreMet first nodes root (Before front) seen states → AreMet first nodes root (UpTo front) seen states
     met_again seen states marked m =
         met_wider (Before front) (UpTo front) seen states (λ h old. (old.0, inl old.1))
         (λ h new. elim new.1 [
@@ -149,8 +149,8 @@ module _ (nodes : List Node) (root : ℕ) where
         m
 
     -- once all that begins so is met, the node is seen
-    pub met_marked : (values : List ℕ) (seen : List Bool) (states : List RuleState) → IsHeader values → front ≡ take depth values → AreMet nodes root (UpTo front) seen states →
-        AreMet nodes root (UpTo front) (set seen id true) states
+    pub met_marked : (values : List ℕ) (seen : List Bool) (states : List RuleState) → IsHeader values → front ≡ take depth values → AreMet first nodes root (UpTo front) seen states →
+        AreMet first nodes root (UpTo front) (set seen id true) states
     met_marked values seen states header is m = record {
       each = m.each;
       again = λ other rest marked ok. elim (marked_by seen id other marked) [
@@ -176,22 +176,22 @@ module _ (nodes : List Node) (root : ℕ) where
       answers_label = ap (answer nodes root) (sym (append-nil front ∙ is)) ∙ leads []
 
       pub met_leaf : (number : ℕ) (seen : List Bool) (old new : List RuleState) → number ≡ answer nodes id [] → length new ≡ length old →
-          ((k : ℕ) (d : RuleState) → k < length old → slice_index_or new k d ≡ state_after (next_shown k (label_at number)) header (slice_index_or old k d)) →
-          AreMet nodes root (Before front) seen old → AreMet nodes root (UpTo front) seen new
+          ((k : ℕ) (d : RuleState) → k < length old → slice_index_or new k d ≡ state_after (next_shown k (label_at first number)) header (slice_index_or old k d)) →
+          AreMet first nodes root (Before front) seen old → AreMet first nodes root (UpTo front) seen new
       met_leaf number seen old new told count each m = record {
         each = λ k d less.
             let inside : k < length old = omega (arith, less, count) in
-            subst (IsStateSoFar (UpTo front) (shown_by nodes root k)) (sym (each k d inside))
-            (one_more (shown_by nodes root k) (Before front) (UpTo front) (λ h old. (old.0, inl old.1)) header (ok, inr ([], sym (append-nil front ∙ is)))
-            alone (λ h old. subst (ComesBefore h) is old.1) (next_shown k (label_at number)) (ap (λ n. next_shown k (label_at n)) (answers_label ∙ sym told))
+            subst (IsStateSoFar (UpTo front) (shown_by first nodes root k)) (sym (each k d inside))
+            (one_more (shown_by first nodes root k) (Before front) (UpTo front) (λ h old. (old.0, inl old.1)) header (ok, inr ([], sym (append-nil front ∙ is)))
+            alone (λ h old. subst (ComesBefore h) is old.1) (next_shown k (label_at first number)) (ap (λ n. next_shown k (label_at first n)) (answers_label ∙ sym told))
             (slice_index_or old k d) (m.each k d inside));
         again = λ other rest marked good. let r = m.again other rest marked good in (r.0, (r.1.0, inl r.1.1), r.2);
       }
 
 -- at first nothing is met
-pub met_none : (nodes : List Node) (root : ℕ) (seen : List Bool) (states : List RuleState) → ((id : ℕ) → IsMarked seen id → ⊥) →
-    ((k : ℕ) (d : RuleState) → k < length states → slice_index_or states k d ≡ Never) → AreMet nodes root (Before []) seen states
-met_none nodes root seen states unseen never = record {
-  each = λ k d less. subst (IsStateSoFar (Before []) (shown_by nodes root k)) (sym (never k d less)) (λ h met. absurd (none_before h met.1));
+pub met_none : (first : ℕ) (nodes : List Node) (root : ℕ) (seen : List Bool) (states : List RuleState) → ((id : ℕ) → IsMarked seen id → ⊥) →
+    ((k : ℕ) (d : RuleState) → k < length states → slice_index_or states k d ≡ Never) → AreMet first nodes root (Before []) seen states
+met_none first nodes root seen states unseen never = record {
+  each = λ k d less. subst (IsStateSoFar (Before []) (shown_by first nodes root k)) (sym (never k d less)) (λ h met. absurd (none_before h met.1));
   again = λ id values marked ok. absurd (unseen id marked);
 }

@@ -1,5 +1,5 @@
 -- The states of rules with names, by what labels tell.
-use Rattle.std.proofs.Common.{◌≡◌, ◌∷◌, ℕ, ◌<◌, ◌+◌, zero, suc, List, [], Bool, true, false, ap, refl, sym, ◌∙◌, subst, length, arith, inl, inr}
+use Rattle.std.proofs.Common.{◌≡◌, ◌∷◌, ℕ, ◌<◌, zero, suc, List, [], Bool, true, false, ap, refl, sym, ◌∙◌, subst, length, arith, inl, inr}
 use Rattle.std.specs.Prelude.{◌⊎◌, cond, nat_eq, Option, Some, None, All, slice_index_or}
 use Rattle.std.specs.List.{remove, AllByRecursion}
 use Rattle.std.proofs.lemmas.Bool.{eq-eqb, ne_eqb}
@@ -17,9 +17,9 @@ use Rattle.rule_audit.specs.declared.label.Next.{Next}
 use Rattle.rule_audit.specs.declared.label.Next.TheVariants.{Nothing, Alike, Otherwise}
 use Rattle.rule_audit.specs.declared.state.RuleState.{RuleState}
 use Rattle.rule_audit.specs.declared.state.RuleState.TheVariants.{Live, Droppable, Never}
-use Rattle.rule_audit.specs.Joined.{AllDecide}
-use Rattle.rule_audit.specs.Labels.{label_at, labelled, next_of}
-use Rattle.rule_audit.specs.Meeting.{IsNeeded, IsStateSoFar, next_shown}
+use Rattle.rule_audit.specs.Joined.{AllBelow, AllDecide}
+use Rattle.rule_audit.specs.Labels.{next_of}
+use Rattle.rule_audit.specs.Meeting.{IsNeeded, IsStateSoFar, next_behind}
 use Rattle.rule_audit.specs.State.{AreStates, IsChanged, IsFirst, IsState}
 use Rattle.rule_audit.proofs.Alone.{matches_by_sets}
 use Rattle.rule_audit.proofs.Firsts.{PassesFirst, passes-position, position-passes}
@@ -29,6 +29,11 @@ use Rattle.rule_audit.proofs.Told.{Tells, meets, tells}
 pub all_decide : (names : List (List ℕ)) (rules : List code.Rule) → AllByRecursion (IsNumberedBy names) rules → AllDecide rules
 all_decide names [] h = tt
 all_decide names (rule ∷ rules) h = (h.0.0, all_decide names rules h.1)
+
+-- and none more than the number of names
+pub all_below : (names : List (List ℕ)) (first : ℕ) (rules : List code.Rule) → length names < first → AllByRecursion (IsNumberedBy names) rules → AllBelow first rules
+all_below names first [] few h = tt
+all_below names first (rule ∷ rules) few h = (omega (arith, few, h.0.1), all_below names first rules few h.1)
 
 numbered_remove : (names : List (List ℕ)) (rules : List code.Rule) (k : ℕ) → AllByRecursion (IsNumberedBy names) rules → AllByRecursion (IsNumberedBy names) (remove rules k)
 numbered_remove names [] zero h = h
@@ -122,12 +127,10 @@ module _ (names : List (List ℕ)) (rules : List code.Rule) (numbered : AllByRec
 
 module _ (names : List (List ℕ)) (rules : List code.Rule) (numbered : AllByRecursion (IsNumberedBy names) rules) (distinct : AreDistinct names) (k : ℕ) where
   abbrev shown : List ℕ → Option Next
-  shown header = next_shown k (label_at (labelled stated 0 rules header))
+  shown header = next_behind rules k header
 
   told : (header : List ℕ) → Tells stated header rules k (shown header)
-  told header =
-      let same : 0 + k ≡ k = omega arith in
-      subst (λ n. Tells stated header rules k (next_shown n (label_at (labelled stated 0 rules header)))) same (tells stated header 0 k rules)
+  told header = tells header k rules
 
   is_state : (state : RuleState) → IsStateSoFar IsHeader shown state → IsState (named_rules names rules) k state
   is_state (Live header) s = record {
@@ -149,7 +152,7 @@ module _ (names : List (List ℕ)) (rules : List code.Rule) (numbered : AllByRec
   is_state Never s = λ h ok first. none_by names rules numbered distinct k h (shown h) (told h) (s h ok) first
 
 pub are_states : (names : List (List ℕ)) (rules : List code.Rule) (states : List RuleState) → All (IsNumberedBy names) rules → AreDistinct names → length states ≡ length rules →
-    ((k : ℕ) (d : RuleState) → k < length rules → IsStateSoFar IsHeader (λ h. next_shown k (label_at (labelled stated 0 rules h))) (slice_index_or states k d)) →
+    ((k : ℕ) (d : RuleState) → k < length rules → IsStateSoFar IsHeader (next_behind rules k) (slice_index_or states k d)) →
     AreStates (named_rules names rules) states
 are_states names rules states numbered distinct count each = record {
   count = count ∙ sym (length-map rules (named_rule names));

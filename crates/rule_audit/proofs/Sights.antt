@@ -1,32 +1,31 @@
--- What comes of a pair of which one node answers 0 everywhere.
+-- What comes of a pair of which one node answers 0 everywhere, where 0 leaves the other answer as it is.
 use Rattle.std.proofs.Common.{◌≡◌, ◌∙◌, ℕ, List, ap, refl, subst, sym}
-use Rattle.field_boxes.specs.declared.rule.Rule.{Rule}
 use Rattle.field_boxes.specs.Fields.{AreValues}
+use Rattle.node_store.specs.declared.edge.NodeId.{NodeId}
 use Rattle.node_store.specs.Levels.{IsLevel}
-use Rattle.node_store.specs.Diagram.{Node, answer}
-use Rattle.rule_audit.specs.declared.pair.Pair.{Pair}
-use Rattle.rule_audit.specs.Joined.{joined}
-use Rattle.rule_audit.specs.Laid.{AreAt, IsLaid}
-use Rattle.rule_audit.specs.Nothing.{AnswersNothing}
-use Rattle.rule_audit.proofs.Joining.{none_above, none_below}
+use Rattle.node_store.specs.Diagram.{Node, answer, level_of}
+use Rattle.fdd_apply.specs.declared.pair.Pair.{Pair}
+use Rattle.fdd_apply.specs.Applied.{AreAt, IsApplied}
+use Rattle.fdd_build.specs.Nothing.{IsZero}
 
-module _ (rules : List Rule) (nodes : List Node) (level : List ℕ) (nothing : ℕ) (pair : Pair) (zero : AnswersNothing nodes level nothing) (is : IsLevel level) (at : AreAt nodes level pair) where
-  pub sight_upper : pair.upper.0 ≡ nothing → IsLaid rules nodes pair pair.lower
-  sight_upper e = record {
-    within = subst IsLevel (sym at.upper) is;
-    beside = at.lower ∙ sym at.upper;
-    level = at.lower ∙ sym at.upper;
+module _ (f : ℕ → ℕ → ℕ) (nodes : List Node) (level : List ℕ) (nothing : NodeId) (pair : Pair) (zero : IsZero nodes nothing) (is : IsLevel level) (at : AreAt nodes level pair) where
+  none : (id : ℕ) (values : List ℕ) → id ≡ nothing.0 → AreValues (level_of nodes id) values → answer nodes id values ≡ 0
+  none id values e h = ap (λ i. answer nodes i values) e ∙ zero.zero values (subst (λ i. AreValues (level_of nodes i) values) e h)
+
+  pub sight_left : ((n : ℕ) → f 0 n ≡ n) → pair.left.0 ≡ nothing.0 → IsApplied f nodes pair pair.right
+  sight_left law e = record {
+    within = subst IsLevel (sym at.left) is;
+    beside = at.right ∙ sym at.left;
+    level = at.right ∙ sym at.left;
     answers = λ values h.
-        let none : answer nodes pair.upper.0 values ≡ 0 = ap (λ i. answer nodes i values) e ∙ zero.zero values (subst (λ l. AreValues l values) at.upper h) in
-        sym (ap (λ n. joined rules n (answer nodes pair.lower.0 values)) none ∙ none_above rules (answer nodes pair.lower.0 values));
+        sym (ap (λ n. f n (answer nodes pair.right.0 values)) (none pair.left.0 values e h) ∙ law (answer nodes pair.right.0 values));
   }
 
-  pub sight_lower : pair.lower.0 ≡ nothing → IsLaid rules nodes pair pair.upper
-  sight_lower e = record {
-    within = subst IsLevel (sym at.upper) is;
-    beside = at.lower ∙ sym at.upper;
+  pub sight_right : ((n : ℕ) → f n 0 ≡ n) → pair.right.0 ≡ nothing.0 → IsApplied f nodes pair pair.left
+  sight_right law e = record {
+    within = subst IsLevel (sym at.left) is;
+    beside = at.right ∙ sym at.left;
     level = refl;
     answers = λ values h.
-        let none : answer nodes pair.lower.0 values ≡ 0 = ap (λ i. answer nodes i values) e ∙ zero.zero values (subst (λ l. AreValues l values) at.upper h) in
-        sym (ap (λ n. joined rules (answer nodes pair.upper.0 values) n) none ∙ none_below rules (answer nodes pair.upper.0 values));
+        sym (ap (λ n. f (answer nodes pair.left.0 values) n) (none pair.right.0 values e (subst (λ k. AreValues k values) (at.left ∙ sym at.right) h)) ∙ law (answer nodes pair.left.0 values));
   }

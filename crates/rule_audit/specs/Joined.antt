@@ -1,29 +1,33 @@
--- The labels of two parts of a list, of which one follows the other.
-use Rattle.std.specs.Prelude.{◌≡◌, ℕ, ◌<◌, suc, List, [], ◌∷◌, Option, Some, None, option_map, unwrap_or, slice_get}
+-- The numbers in the leaves of two parts of a list, of which one follows the other.
+use Rattle.std.specs.Prelude.{◌≡◌, ℕ, ◌<◌, suc, nat_eq, List, [], ◌∷◌, Option, Some, None, option_map, unwrap_or, slice_get, if◌then◌else◌}
 use Rattle.field_boxes.specs.declared.rule.Rule as code
 use Rattle.rule_audit.specs.declared.label.Label.{Label}
 use Rattle.rule_audit.specs.declared.label.Next.{Next}
 use Rattle.rule_audit.specs.declared.label.Next.TheVariants.{Nothing, Alike, Otherwise}
-use Rattle.rule_audit.specs.Labels.{label_at, number_of, next_of}
+use Rattle.rule_audit.specs.Labels.{label_at, next_of, number_of}
 
--- the decision of the rule of a label, 0 for none
-abbrev pub decision_of : List code.Rule → Option Label → ℕ
-decision_of rules None = 0
-decision_of rules (Some label) = unwrap_or (option_map (λ (r : code.Rule). r.decision) (slice_get rules label.place)) 0
+-- what a number with this label, or none, decides
+abbrev pub decision_of : List code.Rule → ℕ → Option Label → ℕ
+decision_of rules n None = n
+decision_of rules n (Some label) = unwrap_or (option_map (λ (r : code.Rule). r.decision) (slice_get rules label.place)) 0
 
--- where nothing is known to come next, the lower label's rule does
-abbrev pub next_joined : List code.Rule → Label → Next → Option Label → Next
-next_joined rules label Nothing lower = next_of (decision_of rules (Some label)) (decision_of rules lower)
-next_joined rules label Alike lower = Alike
-next_joined rules label Otherwise lower = Otherwise
+-- the label's number once this decision comes behind it: where nothing was known to come next, it does
+abbrev pub with_next : ℕ → ℕ → ℕ → Option code.Rule → Next → ℕ → ℕ
+with_next first upper place None next below = upper
+with_next first upper place (Some rule) Nothing below = number_of first (record { place = place; next = next_of rule.decision below })
+with_next first upper place (Some rule) Alike below = upper
+with_next first upper place (Some rule) Otherwise below = upper
 
--- the upper label, with what comes next, and the lower one where there is none
-abbrev pub label_joined : List code.Rule → Option Label → ℕ → ℕ
-label_joined rules None lower = lower
-label_joined rules (Some label) lower = number_of (record { place = label.place; next = next_joined rules label label.next (label_at lower) })
+-- the upper number, with what comes next if it is a label
+abbrev pub with_below : ℕ → List code.Rule → ℕ → Option Label → ℕ → ℕ
+with_below first rules upper None below = upper
+with_below first rules upper (Some label) below = with_next first upper label.place (slice_get rules label.place) label.next below
 
-unfoldable pub joined : List code.Rule → ℕ → ℕ → ℕ
-joined rules upper lower = label_joined rules (label_at upper) lower
+-- where one of the numbers is 0 the other one, else the upper one with what comes next
+unfoldable pub joined : ℕ → List code.Rule → ℕ → ℕ → ℕ
+joined first rules upper lower =
+    if nat_eq upper 0 then lower
+    else (if nat_eq lower 0 then upper else with_below first rules upper (label_at first upper) (decision_of rules lower (label_at first lower)))
 
 -- the rules stand in the list from this place on
 abbrev pub StandAt : List code.Rule → ℕ → List code.Rule → Type 0
@@ -34,3 +38,8 @@ StandAt all from (rule ∷ rules) = (slice_get all from ≡ Some rule) × StandA
 abbrev pub AllDecide : List code.Rule → Type 0
 AllDecide [] = Unit {0}
 AllDecide (rule ∷ rules) = (0 < rule.decision) × AllDecide rules
+
+-- each decision is below the first label
+abbrev pub AllBelow : ℕ → List code.Rule → Type 0
+AllBelow first [] = Unit {0}
+AllBelow first (rule ∷ rules) = (rule.decision < first) × AllBelow first rules

@@ -1,7 +1,8 @@
--- Labels of headers: the place of the first rule that matches, and how the next one that matches decides.
-use Rattle.std.specs.Prelude.{ℕ, suc, ◌+◌, ◌-◌, ◌*◌, ◌/◌, ◌%◌, nat_eq, List, [], ◌∷◌, Option, Some, None, if◌then◌else◌}
+-- Labels of headers: the place of the first rule that matches, if it is open, and how the next one that matches decides.
+use Rattle.std.specs.Prelude.{ℕ, suc, ◌+◌, ◌-◌, ◌*◌, ◌/◌, ◌%◌, nat_eq, nat_lt, Bool, false, List, [], ◌∷◌, Option, Some, None, slice_index_or, if◌then◌else◌}
 use Rattle.field_boxes.specs.declared.rule.Rule as code
 use Rattle.field_boxes.specs.Classifier.{matches}
+use Rattle.field_boxes.specs.Fields.{stated}
 use Rattle.field_boxes.specs.Rules.{rule_of}
 use Rattle.fdd_build.specs.Rules.{decided}
 use Rattle.rule_audit.specs.declared.label.Label.{Label}
@@ -21,17 +22,25 @@ code_of Otherwise = 2
 abbrev pub next_at : ℕ → Next
 next_at code = if nat_eq code 0 then Nothing else (if nat_eq code 1 then Alike else Otherwise)
 
--- the number of a label: three numbers for each rule, from 1 on
-abbrev pub number_of : Label → ℕ
-number_of label = 1 + 3 * label.place + code_of label.next
+-- the number of a label: three numbers for each rule, from the first one on
+abbrev pub number_of : ℕ → Label → ℕ
+number_of first label = first + 3 * label.place + code_of label.next
 
--- the label with a number: none for 0, which is that no rule matches
-abbrev pub label_at : ℕ → Option Label
-label_at n = if nat_eq n 0 then None else Some (record { place = (n - 1) / 3; next = next_at ((n - 1) % 3) })
+-- the label with a number: none below the first one, where decisions are, and 0 where no rule matches
+abbrev pub label_at : ℕ → ℕ → Option Label
+label_at first n = if nat_lt n first then None else Some (record { place = (n - first) / 3; next = next_at ((n - first) % 3) })
 
--- the number of the label of these values, where the places of the rules begin here
-abbrev pub labelled : List ℕ → ℕ → List code.Rule → List ℕ → ℕ
-labelled fields from [] values = 0
-labelled fields from (rule ∷ rules) values =
-    if matches fields values (rule_of rule) then number_of (record { place = from; next = next_of rule.decision (decided fields rules values) })
-    else labelled fields (suc from) rules values
+-- whether the rule at the place is open
+abbrev pub is_open : List Bool → ℕ → Bool
+is_open left_open place = slice_index_or left_open place false
+
+-- the number of the label of a rule at a place, or what it decides where it isn't open
+abbrev pub own_number : ℕ → Bool → ℕ → code.Rule → ℕ → ℕ
+own_number first opens place rule next = if opens then number_of first (record { place = place; next = next_of rule.decision next }) else rule.decision
+
+-- the number in the leaf of these values, where the places of the rules begin here
+abbrev pub labelled : ℕ → List Bool → ℕ → List code.Rule → List ℕ → ℕ
+labelled first left_open from [] values = 0
+labelled first left_open from (rule ∷ rules) values =
+    if matches stated values (rule_of rule) then own_number first (is_open left_open from) from rule (decided stated rules values)
+    else labelled first left_open (suc from) rules values

@@ -1,7 +1,10 @@
 pub mod State
 pub mod Labels
 pub mod Joined
-pub mod Nothing
-pub mod Laid
-pub mod Memo
+pub mod Parts
 pub mod Meeting
+pub mod Marks
+pub mod Around
+pub mod Steps
+pub mod Found
+pub mod Scouted

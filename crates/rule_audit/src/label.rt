@@ -1,9 +1,4 @@
-//! Labels of headers: the first rule that matches, and how the next one that matches decides.
-//!
-//! A label stands in a leaf as a number: 0 where no rule matches, and three numbers for each rule.
-ghost use Rattle.std.specs.Prelude.{◌≡◌};
-ghost use Rattle.rule_audit.specs.Labels.{label_at};
-ghost use Rattle.rule_audit.specs.Joined.{decision_of, joined, next_joined};
+//! Labels of headers: an open rule that is the first that matches, and how the next one that matches decides.
 
 use field_boxes::Rule;
 
@@ -59,6 +54,9 @@ impl Next {
 }
 
 /// The place of the first rule that matches, and how the next one decides.
+///
+/// A label stands in a leaf as a number: three numbers for each rule, from the first one on. Those below are
+/// decisions, and 0 where no rule matches.
 #[derive(Clone, Copy, Debug, PartialEq, Eq)]
 pub(crate) struct Label {
     pub place: u32,
@@ -66,70 +64,47 @@ pub(crate) struct Label {
 }
 
 impl Label {
-    ghost use Rattle.std.specs.Prelude.{◌≡◌, ◌≤◌};
+    ghost use Rattle.std.specs.Prelude.{◌≡◌, ◌≤◌, ◌+◌, ◌*◌};
     ghost use Rattle.rule_audit.specs.Labels.{label_at, number_of};
+    ghost use Rattle.rule_audit.specs.Joined.{with_next};
 
-    /// The label with the number: none for 0.
-    pub fn at(number: u32) -> Option<Label>
-        ensures { result ≡ label_at number }
+    /// The label with the number: none below the first one.
+    pub fn at(first: u32, number: u32) -> Option<Label>
+        ensures { result ≡ label_at first number }
     {
-        if number == 0 {
+        if number < first {
             return None;
         }
+        let above = number - first;
         Some(Label {
-            place: (number - 1) / 3,
-            next: Next::at((number - 1) % 3),
+            place: above / 3,
+            next: Next::at(above % 3),
         })
     }
 
-    /// The number of the label.
-    pub fn number(self) -> u32
-        requires { self.place ≤ 1431655764 }
-        ensures { result ≡ number_of self }
+    /// The number of the label, with the first one.
+    pub fn number(self, first: u32) -> u32
+        requires { first + 3 * self.place ≤ 4294967293 }
+        ensures { result ≡ number_of first self }
     {
-        1 + 3 * self.place + self.next.code()
+        first + 3 * self.place + self.next.code()
     }
-}
 
-/// The decision of the label's rule, 0 where there is none.
-fn decision(rules: &[Rule], label: Option<Label>) -> u32
-    ensures { result ≡ decision_of rules.now label }
-{
-    let Some(label) = label else {
-        return 0;
-    };
-    match rules.get(label.place as usize) {
-        Some(rule) => rule.decision,
-        None => 0,
+    /// The number once a decision comes behind the label's rule: where nothing was known to come next, it does.
+    pub fn with_next(self, first: u32, number: u32, rule: &Rule, below: u32) -> u32
+        requires { first + 3 * self.place ≤ 4294967293 }
+        ensures { result ≡ with_next first number self.place (Some rule.now) self.next below }
+    {
+        match self.next {
+            Next::Nothing => {
+                let label = Label {
+                    place: self.place,
+                    next: Next::of(rule.decision, below),
+                };
+                label.number(first)
+            }
+            Next::Alike => number,
+            Next::Otherwise => number,
+        }
     }
-}
-
-/// How the next rule decides behind the label's, where the lower part follows: as the label says, and where
-/// it says that there is none, by the lower label.
-fn next_joined(rules: &[Rule], label: Label, lower: u32) -> Next
-    ensures { result ≡ next_joined rules.now label label.next (label_at lower) }
-{
-    match label.next {
-        Next::Nothing => Next::of(
-            decision(rules, Some(label)),
-            decision(rules, Label::at(lower)),
-        ),
-        Next::Alike => Next::Alike,
-        Next::Otherwise => Next::Otherwise,
-    }
-}
-
-/// The label of two parts of a list of which the lower follows the upper.
-#[tactic(auto, unfolding(crate::specs::Joined::joined))]
-pub(crate) fn joined(rules: &[Rule], upper: u32, lower: u32) -> u32
-    ensures { result ≡ joined rules.now upper lower }
-{
-    let Some(first) = Label::at(upper) else {
-        return lower;
-    };
-    let label = Label {
-        place: first.place,
-        next: next_joined(rules, first, lower),
-    };
-    label.number()
 }

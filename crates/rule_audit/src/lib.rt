@@ -14,23 +14,34 @@
 //! }
 //! ```
 //!
-//! One diagram is built, by halves as for the list itself, whose leaves say which rule is the first that
-//! matches and how the next one that matches decides: a label. Then one walk in rising order goes through
-//! each node once, at the least header that leads to it, and meets each label at its least header.
+//! The diagrams of the list and of its halves are built first. A short search over them finds the states of
+//! most rules, and gives up on some. For these open rules one more diagram is made, by the same halves, whose
+//! leaves say which open rule is the first that matches and how the next one that matches decides: a label.
+//! Elsewhere its leaves say what is decided, so a part of the list without open rules is shown by the diagram
+//! that stands. Then one walk in rising order goes through each node once, at the least header that leads to
+//! it, and meets each label at its least header.
 //!
 //! `specs/State.antt` says what the states are.
 #![tactic(auto)]
 
+mod around;
 mod auditing;
+mod edges;
 mod halving;
 mod headers;
 mod label;
+mod labels;
+mod leaves;
+mod marks;
 mod meeting;
-mod memo;
 mod nothing;
-mod pair;
+mod over;
+mod part;
+mod scout;
+mod seeking;
 mod state;
-mod walk;
+mod stepping;
+mod telling;
 
 pub use auditing::audit;
 pub use state::RuleState;

@@ -9,11 +9,12 @@ use crate::state::{RuleState, meet};
 use field_boxes::Header;
 use node_store::{Edge, NodeId, Store};
 
-/// A walk over the diagram under a node.
+/// A walk over the diagram under a node, with the number of the first label.
 #[derive(Clone, Copy)]
 pub(crate) struct Meeting<'a> {
     pub store: &'a Store,
     pub root: NodeId,
+    pub first: u32,
 }
 
 impl<'a> Meeting<'a> {
@@ -30,7 +31,7 @@ impl<'a> Meeting<'a> {
         requires room { length seen.old ≡ length self.now.store.now }
         requires unseen { (id : ℕ) → IsMarked seen.old id → ⊥ }
         requires states { (k : ℕ) (d : RuleState) → k < length states.old → slice_index_or states.old k d ≡ Never }
-        ensures met { AreMet self.now.store.now self.now.root.0 IsHeader seen.new states.new }
+        ensures met { AreMet self.now.first self.now.store.now self.now.root.0 IsHeader seen.new states.new }
         ensures count { length states.new ≡ length states.old }
     {
         self.edges(self.root, 0, Header { values: [0; 5] }, seen, states);
@@ -50,8 +51,8 @@ impl<'a> Meeting<'a> {
         requires level { level_of self.now.store.now id.0 ≡ drop depth stated }
         requires leads { LeadsTo self.now.store.now self.now.root.0 (take depth header.values) id.0 }
         requires room { length seen.old ≡ length self.now.store.now }
-        requires met { AreMet self.now.store.now self.now.root.0 (Before (take depth header.values)) seen.old states.old }
-        ensures met { AreMet self.now.store.now self.now.root.0 (UpTo (take depth header.values)) seen.new states.new }
+        requires met { AreMet self.now.first self.now.store.now self.now.root.0 (Before (take depth header.values)) seen.old states.old }
+        ensures met { AreMet self.now.first self.now.store.now self.now.root.0 (UpTo (take depth header.values)) seen.new states.new }
     {
         self.store.same_answers();
         if seen[id.0] {
@@ -75,12 +76,12 @@ impl<'a> Meeting<'a> {
         requires level { level_of self.now.store.now id.0 ≡ drop depth stated }
         requires leads { LeadsTo self.now.store.now self.now.root.0 (take depth header.values) id.0 }
         requires room { length seen.old ≡ length self.now.store.now }
-        requires met { AreMet self.now.store.now self.now.root.0 (Before (take depth header.values)) seen.old states.old }
-        ensures met { AreMet self.now.store.now self.now.root.0 (UpTo (take depth header.values)) seen.new states.new }
+        requires met { AreMet self.now.first self.now.store.now self.now.root.0 (Before (take depth header.values)) seen.old states.old }
+        ensures met { AreMet self.now.first self.now.store.now self.now.root.0 (UpTo (take depth header.values)) seen.new states.new }
     {
         if depth == 5 {
             let number = self.store.decision(id).unwrap_or(0);
-            meet(states, Label::at(number), header);
+            meet(states, Label::at(self.first, number), header);
         } else {
             self.edges(id, depth, header, seen, states);
         }
@@ -100,8 +101,8 @@ impl<'a> Meeting<'a> {
         requires level { level_of self.now.store.now id.0 ≡ drop depth stated }
         requires leads { LeadsTo self.now.store.now self.now.root.0 (take depth header.values) id.0 }
         requires room { length seen.old ≡ length self.now.store.now }
-        requires met { AreMet self.now.store.now self.now.root.0 (Before (take depth header.values)) seen.old states.old }
-        ensures met { AreMet self.now.store.now self.now.root.0 (Before (take depth header.values ++ suc (greatest_of depth) ∷ [])) seen.new states.new }
+        requires met { AreMet self.now.first self.now.store.now self.now.root.0 (Before (take depth header.values)) seen.old states.old }
+        ensures met { AreMet self.now.first self.now.store.now self.now.root.0 (Before (take depth header.values ++ suc (greatest_of depth) ∷ [])) seen.new states.new }
     {
         self.store.same_answers();
         let edges = self.store.edges(id);
@@ -129,8 +130,8 @@ impl<'a> Meeting<'a> {
         requires level { level_of self.now.store.now edge.to.0 ≡ drop (suc depth) stated }
         requires leads { (v : ℕ) → lo ≤ v → v ≤ edge.hi → LeadsTo self.now.store.now self.now.root.0 (take depth header.values ++ v ∷ []) edge.to.0 }
         requires room { length seen.old ≡ length self.now.store.now }
-        requires met { AreMet self.now.store.now self.now.root.0 (Before (take depth header.values ++ lo ∷ [])) seen.old states.old }
-        ensures met { AreMet self.now.store.now self.now.root.0 (Before (take depth header.values ++ suc edge.hi ∷ [])) seen.new states.new }
+        requires met { AreMet self.now.first self.now.store.now self.now.root.0 (Before (take depth header.values ++ lo ∷ [])) seen.old states.old }
+        ensures met { AreMet self.now.first self.now.store.now self.now.root.0 (Before (take depth header.values ++ suc edge.hi ∷ [])) seen.new states.new }
     {
         let header = with_value(header, depth, lo);
         self.node(edge.to, depth + 1, header, seen, states);

@@ -1,5 +1,5 @@
-use Rattle.std.proofs.Common.{length}
+use Rattle.rule_audit.proofs.Parts.{part_size}
 use Rattle.rule_audit.proofs.halving.+halved.Given as goal
 
 abbrev pub decreases-halved : goal.decreases-halved
-decreases-halved l = length l.rules.now
+decreases-halved l = part_size l.part.now

@@ -50,7 +50,7 @@ edge-node-requires t c =
           c.requires.level ∙ ap (λ n. drop n stated) one,
           (
             subst (λ front. LeadsTo nodes root front c.args.edge.to.0) is (c.requires.leads c.args.lo (omega arith) c.requires.rises),
-            (c.requires.room, subst (λ front. AreMet nodes root (Before front) c.args.seen.now c.args.states.now) is c.requires.met),
+            (c.requires.room, subst (λ front. AreMet c.args.self.now.first nodes root (Before front) c.args.seen.now c.args.states.now) is c.requires.met),
           ),
         ),
       ),
@@ -62,8 +62,8 @@ edge-returns t c =
     let root = c.args.self.now.root.0 in
     let five : length c.args.header.values ≡ 5 = search rules in
     let is = with_one c.args.header.values c.with_value-header.result.values c.args.depth c.args.lo five c.requires.depth c.with_value-header.ensures in record {
-      met = meetings.met_edge nodes root (take c.args.depth c.args.header.values) c.args.lo c.args.edge.hi c.args.edge.to.0 c.requires.rises c.requires.leads c.node.new.seen c.node.new.states
-          (subst (λ front. AreMet nodes root (UpTo front) c.node.new.seen c.node.new.states) is c.node.ensures.met);
+      met = meetings.met_edge c.args.self.now.first nodes root (take c.args.depth c.args.header.values) c.args.lo c.args.edge.hi c.args.edge.to.0 c.requires.rises c.requires.leads c.node.new.seen c.node.new.states
+          (subst (λ front. AreMet c.args.self.now.first nodes root (UpTo front) c.node.new.seen c.node.new.states) is c.node.ensures.met);
     }
 
 pub edges-edges-edges-requires : goal.edges-edges-edges-requires
@@ -76,7 +76,7 @@ edges-loop-edge-init t c =
           (subst (λ g. AreFull g c.edges-edges.result.now) (ap top_of c.requires.level ∙ top_is c.args.depth c.requires.depth) inner.full);
       leads = λ v h. refl;
       count = c.requires.room;
-      met = meetings.met_first c.args.self.now.store.now c.args.self.now.root.0 (take c.args.depth c.args.header.values) c.args.seen.now c.args.states.now c.requires.met;
+      met = meetings.met_first c.args.self.now.first c.args.self.now.store.now c.args.self.now.root.0 (take c.args.depth c.args.header.values) c.args.seen.now c.args.states.now c.requires.met;
     }
 
 pub edges-offset_bounds-edges-edge-index : goal.edges-offset_bounds-edges-edge-index
@@ -109,7 +109,7 @@ edges-edge-requires t c =
             (
               (inner.children l.edge-index no_edge c.loop-edge-test.true).1 ∙ ap next c.requires.level ∙ next_is c.args.depth c.requires.depth,
               (
-                (λ v low high. meetings.leads_on nodes root front c.args.id.0 edge.to.0 v edges c.requires.leads c.edges-edges.ensures.edges (l.invariant.leads v low ∙ r.leads v high)),
+                (λ v low high. meetings.leads_on c.args.self.now.first nodes root front c.args.id.0 edge.to.0 v edges c.requires.leads c.edges-edges.ensures.edges (l.invariant.leads v low ∙ r.leads v high)),
                 (l.invariant.count, l.invariant.met),
               ),
             ),
@@ -140,7 +140,7 @@ edges-loop-edge-preserved t c =
       leads = λ v h.
           l.invariant.leads v (omega (arith, r.low, low, h)) ∙ r.later v (omega (arith, low, h)) ∙ ap (λ n. child_of (drop n edges) v) one;
       count = omega arith;
-      met = subst (λ n. AreMet nodes root (Before (front ++ n ∷ [])) c.edge.new.seen c.edge.new.states) low c.edge.ensures.met;
+      met = subst (λ n. AreMet c.args.self.now.first nodes root (Before (front ++ n ∷ [])) c.edge.new.seen c.edge.new.states) low c.edge.ensures.met;
     }
 
 pub edges-returns : goal.edges-returns
@@ -150,7 +150,7 @@ edges-returns t c =
     let root = c.args.self.now.root.0 in
     let front = take c.args.depth c.args.header.values in
     let last = none_left (greatest_of c.args.depth) l.lo c.edges-edges.result.now l.edge-index c.loop-edge-test.false l.invariant.rise in record {
-      met = subst (λ n. AreMet nodes root (Before (front ++ n ∷ [])) l.seen l.states) last l.invariant.met;
+      met = subst (λ n. AreMet c.args.self.now.first nodes root (Before (front ++ n ∷ [])) l.seen l.states) last l.invariant.met;
     }
 
 pub node-bounds-seen-id : goal.node-bounds-seen-id
@@ -160,7 +160,7 @@ pub node-returns-then-seen-id : goal.node-returns-then-seen-id
 node-returns-then-seen-id t c =
     let five : length c.args.header.values ≡ 5 = search rules in
     let inside : c.args.id.0 < length c.args.seen.now = omega (arith, used c.args.self.now.store.now c.args.id.0 c.args.depth c.requires.level, c.requires.room) in record {
-      met = meetings.met_again c.args.self.now.store.now c.args.self.now.root.0 (take c.args.depth c.args.header.values) c.args.depth c.args.id.0
+      met = meetings.met_again c.args.self.now.first c.args.self.now.store.now c.args.self.now.root.0 (take c.args.depth c.args.header.values) c.args.depth c.args.id.0
           (long c.args.header.values c.args.depth (omega (arith, five, c.requires.depth))) c.requires.level c.requires.leads c.args.seen.now c.args.states.now
           (slice_get-get_or c.args.seen.now c.args.id.0 false inside ∙ ap Some c.if-seen-id.true) c.requires.met;
     }
@@ -174,7 +174,7 @@ node-bounds-seen-id-2 t c = omega (arith, used c.args.self.now.store.now c.args.
 pub node-returns : goal.node-returns
 node-returns t c =
     let five : length c.args.header.values ≡ 5 = search rules in record {
-      met = meetings.met_marked c.args.self.now.store.now c.args.self.now.root.0 (take c.args.depth c.args.header.values) c.args.depth c.args.id.0
+      met = meetings.met_marked c.args.self.now.first c.args.self.now.store.now c.args.self.now.root.0 (take c.args.depth c.args.header.values) c.args.depth c.args.id.0
           (long c.args.header.values c.args.depth (omega (arith, five, c.requires.depth))) c.requires.level c.requires.leads c.args.header.values c.worked_out.new.seen c.worked_out.new.states
           (header_is c.args.header.values five c.args.header.in_fields) refl c.worked_out.ensures.met;
     }
@@ -190,7 +190,7 @@ pub worked_out-returns-then-depth-eq5 : goal.worked_out-returns-then-depth-eq5
 worked_out-returns-then-depth-eq5 t c =
     let five : length c.args.header.values ≡ 5 = search rules in
     let deep : c.args.depth ≡ 5 = omega (arith, c.if-depth-eq5.true) in record {
-      met = meetings.met_leaf c.args.self.now.store.now c.args.self.now.root.0 (take c.args.depth c.args.header.values) c.args.depth c.args.id.0
+      met = meetings.met_leaf c.args.self.now.first c.args.self.now.store.now c.args.self.now.root.0 (take c.args.depth c.args.header.values) c.args.depth c.args.id.0
           (long c.args.header.values c.args.depth (omega (arith, five, c.requires.depth))) c.requires.level c.requires.leads c.args.header deep
           (all_taken c.args.header.values c.args.depth (five ∙ sym deep)) (header_is c.args.header.values five c.args.header.in_fields)
           c.unwrap_or-number.result c.args.seen.now c.args.states.now c.meet.new.states
@@ -202,6 +202,6 @@ worked_out-returns-then-depth-eq5 t c =
 pub worked_out-returns-else-depth-eq5 : goal.worked_out-returns-else-depth-eq5
 worked_out-returns-else-depth-eq5 t c =
     let five : length c.args.header.values ≡ 5 = search rules in record {
-      met = meetings.met_last c.args.self.now.store.now c.args.self.now.root.0 (take c.args.depth c.args.header.values) c.args.depth (omega (arith, c.requires.depth, c.if-depth-eq5.false))
+      met = meetings.met_last c.args.self.now.first c.args.self.now.store.now c.args.self.now.root.0 (take c.args.depth c.args.header.values) c.args.depth (omega (arith, c.requires.depth, c.if-depth-eq5.false))
           (long c.args.header.values c.args.depth (omega (arith, five, c.requires.depth))) c.edges.new.seen c.edges.new.states c.edges.ensures.met;
     }

@@ -22,5 +22,5 @@ invariant-edges-loop-edge l = record {
   rise : RiseFrom (greatest_of l.fn.depth) l.lo (drop l.edge-index l.edges);
   leads : (v : ℕ) → l.lo ≤ v → child_of l.edges v ≡ child_of (drop l.edge-index l.edges) v;
   count : length l.seen ≡ length l.self.store.now;
-  met : AreMet l.self.store.now l.self.root.0 (Before (take l.fn.depth l.fn.header.values ++ l.lo ∷ [])) l.seen l.states;
+  met : AreMet l.self.first l.self.store.now l.self.root.0 (Before (take l.fn.depth l.fn.header.values ++ l.lo ∷ [])) l.seen l.states;
 }

@@ -1,0 +1,6 @@
+use Rattle.std.proofs.Common.{◌≡◌, map, take}
+use Rattle.std.specs.Prelude.{is_none}
+use Rattle.rule_audit.proofs.auditing.unknown.Given as goal
+
+abbrev pub invariant-loop-state : goal.invariant-loop-state
+invariant-loop-state l = l.marks.items ≡ map is_none (take l.state-index l.known)

@@ -1,0 +1,95 @@
+//! Where the values of a field lead from all diagrams around a rule.
+
+use crate::around::{Around, Nodes, Step};
+use crate::edges::edge_at;
+use crate::seeking::Seeking;
+use field_boxes::greatest;
+use node_store::{NodeId, Store};
+use razor_base::Memory;
+use smallvec::SmallVec;
+
+/// The children of some nodes at the values of their field up to `hi`, but for those that answer nothing.
+#[derive(Drop)]
+struct Row {
+    hi: u32,
+    children: Nodes,
+}
+
+impl Seeking {
+    ghost use Rattle.std.specs.Prelude.{◌≤◌, ◌<◌, true, length, drop, IfOk, OnOk};
+    ghost use Rattle.field_boxes.specs.Fields.{stated, greatest_of};
+    ghost use Rattle.rule_audit.specs.Around.{AreAround, StandAtLevel};
+    ghost use Rattle.rule_audit.specs.Marks.{AreMarks};
+    ghost use Rattle.rule_audit.specs.Steps.{GainsChild, IsRow, IsStep};
+
+    /// The diagrams at a value of the field, and at those after it that lead the same way.
+    pub fn step(
+        &self,
+        store: &Store,
+        depth: usize,
+        around: &Around,
+        value: u32,
+    ) -> Result<Step, Memory>
+        requires depth { depth < 5 }
+        requires value { value ≤ greatest_of depth }
+        requires around { AreAround store.now (drop depth stated) around.now }
+        requires nothing { AreMarks store.now true self.now.nothing.items }
+        ensures { IfOk result (λ step. IsStep store.now depth around.now value step) }
+    {
+        store.same_answers();
+        let edge = edge_at(store.edges(around.here), value);
+        if self.is_nothing(edge.to) {
+            let around = Around {
+                here: edge.to,
+                before: SmallVec::new(self.alloc),
+                behind: SmallVec::new(self.alloc),
+            };
+            return Ok(Step {
+                around,
+                hi: edge.hi,
+            });
+        }
+        let before = self.row(store, depth, around.before.as_slice(), value)?;
+        let behind = self.row(store, depth, around.behind.as_slice(), value)?;
+        let hi = edge.hi.min(before.hi).min(behind.hi);
+        let around = Around {
+            here: edge.to,
+            before: before.children,
+            behind: behind.children,
+        };
+        Ok(Step { around, hi })
+    }
+
+    /// The children of the nodes at a value of the field, and at those after it that lead the same way.
+    fn row(&self, store: &Store, depth: usize, ids: &[NodeId], value: u32) -> Result<Row, Memory>
+        requires depth { depth < 5 }
+        requires value { value ≤ greatest_of depth }
+        requires stand { StandAtLevel store.now (drop depth stated) ids.now }
+        requires nothing { AreMarks store.now true self.now.nothing.items }
+        ensures { IfOk result (λ row. IsRow store.now depth ids.now value row.hi row.children.items) }
+    {
+        store.same_answers();
+        let mut hi = greatest(depth);
+        let mut children = SmallVec::new(self.alloc);
+        for id in ids {
+            let edge = edge_at(store.edges(*id), value);
+            hi = hi.min(edge.hi);
+            self.add(store, &mut children, edge.to)?;
+        }
+        Ok(Row { hi, children })
+    }
+
+    /// Counts the node among the children, unless it answers nothing.
+    fn add(&self, store: &Store, children: &mut Nodes, id: NodeId) -> Result<(), Memory>
+        requires id { id.0 < length store.now }
+        requires nothing { AreMarks store.now true self.now.nothing.items }
+        ensures { OnOk result (GainsChild store.now children.old.items children.new.items id.0) }
+    {
+        let _store = store;
+        if self.is_nothing(id) {
+            return Ok(());
+        }
+        children.push(id)?;
+        Ok(())
+    }
+}
