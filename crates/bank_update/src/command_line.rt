@@ -1,3 +1,4 @@
+//! The commands of a script, each read from the columns of its line.
 ghost use Rattle.std.specs.Prelude.{◌≡◌, ◌≤◌, ℕ, Some, IfOk, IfSome, option_map, ok_or};
 ghost use Rattle.trace_run.specs.Columns.{columns};
 ghost use Rattle.bank_update.specs.Commands.{column_seen, event_of, event_seen};
@@ -10,9 +11,11 @@ use field_boxes::Header;
 use filter_reader::number_within;
 use trace_run::next_column;
 
-/// The value of the first column, and what stands behind it.
+/// The value of the first column, a number of one digit or more, and what stands behind it.
+///
+/// None where there is no column, where it is no number, and where the number is above the greatest.
 #[tactic(auto, unfolding(crate::specs::Script::value_column))]
-fn value_column(line: &[u8], greatest: u32) -> Option<(u32, &[u8])>
+pub fn value_column(line: &[u8], greatest: u32) -> Option<(u32, &[u8])>
     ensures read { column_seen result ≡ value_column greatest (columns line.now) }
     ensures within { IfSome result (λ column. column.0 ≤ greatest) }
 {

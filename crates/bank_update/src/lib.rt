@@ -15,7 +15,9 @@ mod script;
 mod stage;
 mod swapper;
 
+pub use command_line::value_column;
 pub use drive::{DriveError, drive_on};
+pub use line::{write_begun, write_line, write_name, write_stage, write_step};
 pub use read::{ScriptError, read_script};
 pub use reason::ScriptReason;
 pub use refusal::{BeginRefusal, Idle, StepRefusal};

@@ -1,3 +1,4 @@
+//! The lines that a run of a script prints, one for each command.
 ghost use Rattle.std.specs.Prelude.{◌≡◌, [], ◌++◌, codes, if◌then◌else◌};
 ghost use Rattle.razor_base.specs.Output.{Writes};
 ghost use Rattle.razor_base.specs.Parts.{parts_text};
@@ -7,8 +8,12 @@ use crate::refusal::{BeginRefusal, StepRefusal};
 use crate::stage::Stage;
 use razor_base::{Failed, Part, Pending, Sink, put_parts};
 
-/// Writes a line whole.
-fn write_line<K: Sink>(pending: &mut Pending, out: &mut K, parts: &[Part<'_>]) -> Result<(), Failed>
+/// Writes a line whole, where nothing waits.
+pub fn write_line<K: Sink>(
+    pending: &mut Pending,
+    out: &mut K,
+    parts: &[Part<'_>],
+) -> Result<(), Failed>
     requires { pending.old ≡ [] }
     ensures whole { Writes K.written K.faults out.old out.new (parts_text parts.now) result }
     ensures none { pending.new ≡ [] }
@@ -41,7 +46,7 @@ fn write_some_stage<K: Sink>(pending: &mut Pending, out: &mut K, stage: Stage) -
 }
 
 /// Writes the stage of a swap, or that none is pending.
-pub(crate) fn write_stage<K: Sink>(
+pub fn write_stage<K: Sink>(
     pending: &mut Pending,
     out: &mut K,
     stage: Option<Stage>,
@@ -73,7 +78,7 @@ fn write_step_refusal<K: Sink>(
 }
 
 /// Writes what a step answers.
-pub(crate) fn write_step<K: Sink>(
+pub fn write_step<K: Sink>(
     pending: &mut Pending,
     out: &mut K,
     answer: Result<Stage, StepRefusal>,
@@ -147,7 +152,7 @@ fn write_total<K: Sink>(pending: &mut Pending, out: &mut K, total: u64) -> Resul
 }
 
 /// Writes how many writes a swap has that begins, or why none does.
-pub(crate) fn write_begun<K: Sink>(
+pub fn write_begun<K: Sink>(
     pending: &mut Pending,
     out: &mut K,
     answer: Result<u64, BeginRefusal>,
@@ -163,11 +168,7 @@ pub(crate) fn write_begun<K: Sink>(
 }
 
 /// Writes the name of a decision.
-pub(crate) fn write_name<K: Sink>(
-    pending: &mut Pending,
-    out: &mut K,
-    name: &str,
-) -> Result<(), Failed>
+pub fn write_name<K: Sink>(pending: &mut Pending, out: &mut K, name: &str) -> Result<(), Failed>
     requires { pending.old ≡ [] }
     ensures whole { Writes K.written K.faults out.old out.new (name.now ++ line_end) result }
     ensures none { pending.new ≡ [] }

@@ -1,3 +1,4 @@
+//! A table in its slots, a swap that isn't over, and one write of it.
 use ternary_words::{Entry, Table};
 
 /// A table whose entries stand, or are to stand, in the slots from `start` on.

@@ -1,3 +1,4 @@
+//! How far a memory is: its settled table, and the swap that is pending.
 ghost use Rattle.std.specs.Prelude.{◌≡◌, ◌<◌, ◌^◌, true, map, option_map, slice_get};
 ghost use Rattle.tcam_sim.specs.Slots.{stored};
 ghost use Rattle.bank_update.specs.Kept.{swap_of};

@@ -1,3 +1,4 @@
+//! Reading a script whole.
 ghost use Rattle.std.specs.Prelude.{◌≡◌, All, IfOk, MatchResult, Ok};
 ghost use Rattle.bank_update.specs.Commands.{BecomesScriptError, IsLineRefused, IsScriptRefused, events_of};
 ghost use Rattle.bank_update.specs.Script.{IsWithin, script_of, with_line};
@@ -13,7 +14,7 @@ use thiserror::Error;
 #[derive(Clone, Copy, Debug, PartialEq, Eq, Error)]
 pub enum ScriptError {
     /// The first bad line, counted from 1, and its first reason.
-    #[error("a line is bad")]
+    #[error("line {line}: {reason}")]
     BadLine { line: u64, reason: ScriptReason },
     /// Memory was refused.
     #[error("memory was refused")]

@@ -1,3 +1,4 @@
+//! A script: the commands over a memory and some tables.
 use field_boxes::Header;
 use std::marker::Model;
 

@@ -1,3 +1,5 @@
+//! How far a swap is.
+
 /// How far a swap is.
 #[derive(Clone, Copy, Debug, PartialEq, Eq)]
 pub struct Stage {

@@ -1,0 +1,17 @@
+pub mod Edits
+pub mod Places
+pub mod Listings
+pub mod TableFor
+pub mod Begun
+pub mod Tables
+pub mod Deciding
+pub mod Settling
+pub mod ReadSoFar
+pub mod Behind
+pub mod Rooms
+pub mod RuleBytes
+pub mod AddBytes
+pub mod FewAdds
+pub mod SessionTurns
+pub mod SessionNames
+pub mod SessionDriving

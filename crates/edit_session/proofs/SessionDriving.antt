@@ -1,0 +1,151 @@
+-- Runs of the commands of a session, one turn after another.
+use Rattle.std.proofs.Common.{◌≡◌, ℕ, ◌+◌, ◌≤◌, ◌<◌, Bool, List, [], ◌∷◌, ◌++◌, Option, Result, Ok, Err, inl, refl, sym, ap, subst, ◌∙◌, append-nil, append_assoc, length, get_or, take, drop, take-append-drop, arith}
+use Rattle.std.specs.List.{concat}
+use Rattle.std.specs.Prelude.{All, IsErrAnd}
+use Rattle.std.proofs.lemmas.List.{get_or-map, length-map, map-append, take_all, take_more}
+use Rattle.std.proofs.lemmas.List.Elements.{All-get_or}
+use Rattle.std.proofs.lemmas.List.Folds.{concat-append}
+use Rattle.std.specs.Io.KnownBytes.{Appends}
+use Rattle.std.proofs.KnownBytes.{Appends-nil}
+use Rattle.razor_base.proofs.Output.{appends-then}
+use Rattle.razor_base.specs.Output.{Writes}
+use Rattle.bank_update.specs.Runs.{RoseBy}
+use Rattle.bank_update.proofs.Driving.{rose-more}
+use Rattle.bank_update.specs.declared.drive.DriveError.{DriveError}
+use Rattle.bank_update.specs.declared.drive.DriveError.TheVariants as errors
+use Rattle.edit_session.specs.Machine.{SessionState}
+use Rattle.edit_session.specs.SessionEnds.{HasRunBefore, HasRunSession, IsCutOffSession, SessionOutcome, StandsBefore, TakesTurn}
+use Rattle.edit_session.specs.SessionRuns.{AreTurns, IsSessionRun, IsTurn, Turn, fault_count, faults_of, last_of}
+use Rattle.edit_session.specs.SessionText.{SessionEvent}
+use Rattle.edit_session.specs.SessionViews.{IsCommand, event_of, events_of}
+use Rattle.edit_session.specs.declared.session.SessionCommand.{SessionCommand}
+
+-- one more turn
+turns-turn : (s : SessionState) (turns : List Turn) (turn : Turn) → AreTurns s turns → IsTurn (last_of s turns) turn.event turn.fails turn.after turn.line → AreTurns s (turns ++ turn ∷ [])
+turns-turn s [] turn are is = (is, tt)
+turns-turn s (first ∷ turns) turn are is = (are.0, turns-turn first.after turns turn are.1 is)
+
+last-turn : (s : SessionState) (turns : List Turn) (turn : Turn) → last_of s (turns ++ turn ∷ []) ≡ turn.after
+last-turn s [] turn = refl
+last-turn s (first ∷ turns) turn = last-turn first.after turns turn
+
+faults-turn : (s : SessionState) (turns : List Turn) (turn : Turn) → fault_count s (turns ++ turn ∷ []) ≡ fault_count s turns + faults_of (last_of s turns) turn.event turn.fails
+faults-turn s [] turn = omega arith
+faults-turn s (first ∷ turns) turn = ap (λ n. faults_of s first.event first.fails + n) (faults-turn first.after turns turn) ∙ omega arith
+
+-- nothing ran yet
+run-none : (s : SessionState) (d : ℕ) → IsSessionRun s s d d [] []
+run-none s d = record { turns = []; commands = refl; are = tt; state = refl; printed = refl; counted = inl (omega arith) }
+
+-- one command more ran
+run-turn : {start s last : SessionState} {a b c : ℕ} {events : List SessionEvent} {lines : List (List ℕ)} (event : SessionEvent) (fails : Bool) (line : List ℕ) →
+    IsSessionRun start s a b events lines → IsTurn s event fails last line → RoseBy (faults_of s event fails) b c → b ≤ c →
+    IsSessionRun start last a c (events ++ event ∷ []) (lines ++ line ∷ [])
+run-turn {start = start} {s = s} {last = last} {a = a} {b = b} {c = c} {events = events} {lines = lines} event fails line r is rose le =
+    let turn : Turn = record { event = event; fails = fails; after = last; line = line } in
+    record {
+      turns = r.turns ++ turn ∷ [];
+      commands = map-append (λ (t : Turn). t.event) r.turns (turn ∷ []) ∙ ap (λ es. es ++ event ∷ []) r.commands;
+      are = turns-turn start r.turns turn r.are (subst (λ (x : SessionState). IsTurn x event fails last line) r.state is);
+      state = sym (last-turn start r.turns turn);
+      printed = ap (λ ls. ls ++ line ∷ []) r.printed ∙ sym (map-append (λ (t : Turn). t.line) r.turns (turn ∷ []));
+      counted = subst (λ n. RoseBy n a c) (ap (λ (x : SessionState). fault_count start r.turns + faults_of x event fails) r.state ∙ sym (faults-turn start r.turns turn))
+          (rose-more (fault_count start r.turns) (faults_of s event fails) a b c r.counted rose le);
+    }
+
+-- runs that led to a session, over a device
+abbrev pub Led : SessionState → ℕ → ℕ → SessionState → List SessionEvent → List (List ℕ) → Type 0
+Led start m n stood events lines = IsSessionRun start stood m n events lines
+
+-- the next command takes its turn, and its line is written
+pub goes-on : {S T E : Type 0} (w : S → Option (List ℕ)) {f : S → ℕ} (o : Option (List ℕ)) (a b : S) {start old new : SessionState} {m n p : ℕ} (events more : List SessionEvent) {event : SessionEvent} {x : T} (r : Result T E) → r ≡ Ok x →
+    HasRunSession (Led start m n) (Appends o (w a)) old events → TakesTurn w f a b old new n p event r → more ≡ events ++ event ∷ [] →
+    HasRunSession (Led start m p) (Appends o (w b)) new more
+goes-on w {f = f} o a b {start = start} {old = old} {new = new} {m = m} {n = n} {p = p} events more {event = event} r ok h t is =
+    let writes = subst (Writes w f a b t.printed) ok t.line in
+    record {
+      lines = h.lines ++ t.printed ∷ [];
+      ran = subst (λ es. IsSessionRun start new m p es (h.lines ++ t.printed ∷ [])) (sym is) (run-turn event t.breaks t.printed h.ran t.turn t.counted t.counts);
+      written = subst (Appends o (w b)) (ap (λ t. concat h.lines ++ t) (sym (append-nil t.printed)) ∙ sym (concat-append h.lines (t.printed ∷ [])))
+          (appends-then o (w a) (w b) (concat h.lines) t.printed h.written writes.ok);
+    }
+
+-- the next command takes its turn, and its line is cut off
+pub is-cut-off : {S T E : Type 0} (w : S → Option (List ℕ)) {f : S → ℕ} (o : Option (List ℕ)) (a b : S) {start old new : SessionState} {m n p : ℕ} {event : SessionEvent} {e : E} (events : List SessionEvent) (i : ℕ) (r : Result T E) → r ≡ Err e →
+    HasRunSession (Led start m n) (Appends o (w a)) old (take i events) → TakesTurn w f a b old new n p event r → take (i + 1) events ≡ take i events ++ event ∷ [] →
+    IsCutOffSession (Led start m p) (Appends o (w b)) new events
+is-cut-off w {f = f} o a b {start = start} {old = old} {new = new} {m = m} {n = n} {p = p} {event = event} events i r err h t is =
+    let writes = subst (Writes w f a b t.printed) err t.line in
+    let cut = writes.err in
+    record {
+      front = take (i + 1) events;
+      rest = drop (i + 1) events;
+      parts = sym (take-append-drop (i + 1) events);
+      lines = h.lines;
+      line = t.printed;
+      part = cut.1.0;
+      lost = cut.0;
+      ran = subst (λ es. IsSessionRun start new m p es (h.lines ++ t.printed ∷ [])) (sym is) (run-turn event t.breaks t.printed h.ran t.turn t.counted t.counts);
+      cut = cut.1.2;
+      written = appends-then o (w a) (w b) (concat h.lines) cut.1.0 h.written cut.1.1;
+    }
+
+-- the next command wanted memory
+pub stopped-before : {S : Type 0} (w : S → Option (List ℕ)) (o : Option (List ℕ)) (a b : S) {start old : SessionState} {m n : ℕ} (last : SessionState) (p : ℕ) (event : SessionEvent) (events : List SessionEvent) (i : ℕ) →
+    StandsBefore event old last → p ≡ n → b ≡ a → take (i + 1) events ≡ take i events ++ event ∷ [] →
+    HasRunSession (Led start m n) (Appends o (w a)) old (take i events) → HasRunBefore (Led start m p) (Appends o (w b)) last events
+stopped-before w o a b {start = start} {old = old} {m = m} {n = n} last p event events i left count out is h = record {
+  front = take i events;
+  refused = event;
+  rest = drop (i + 1) events;
+  parts = sym (take-append-drop (i + 1) events) ∙ ap (λ es. es ++ drop (i + 1) events) is ∙ append_assoc (take i events) (event ∷ []) (drop (i + 1) events);
+  stood = old;
+  stands = left;
+  lines = h.lines;
+  ran = subst (λ q. IsSessionRun start old m q (take i events) h.lines) (sym count) h.ran;
+  written = subst (λ z. Appends o (w z) (concat h.lines)) (sym out) h.written;
+}
+
+-- no command ran yet, and nothing was written
+pub has-run-none : {S : Type 0} (w : S → Option (List ℕ)) (a : S) {s : SessionState} {n : ℕ} → HasRunSession (Led s n n) (Appends (w a) (w a)) s []
+has-run-none w a {s = s} {n = n} = record { lines = []; ran = run-none s n; written = Appends-nil (w a) }
+
+-- how a session ends, where its error was handed on
+pub out-of-memory : {Ran : SessionState → List SessionEvent → List (List ℕ) → Type 0} {Appended : List ℕ → Type 0} {last : SessionState} {events : List SessionEvent} (r : Result ℕ DriveError) → IsErrAnd r (λ e. e ≡ errors.Memory) → HasRunBefore Ran Appended last events → SessionOutcome Ran Appended last events r
+out-of-memory (Ok n) is h = absurd is
+out-of-memory {Ran = Ran} {Appended = Appended} {last = last} {events = events} (Err e) is h = subst (λ x. SessionOutcome Ran Appended last events (Err x)) (sym is) h
+
+pub write-failed : {Ran : SessionState → List SessionEvent → List (List ℕ) → Type 0} {Appended : List ℕ → Type 0} {last : SessionState} {events : List SessionEvent} (r : Result ℕ DriveError) → IsErrAnd r (λ e. e ≡ errors.WriteFault) → IsCutOffSession Ran Appended last events → SessionOutcome Ran Appended last events r
+write-failed (Ok n) is h = absurd is
+write-failed {Ran = Ran} {Appended = Appended} {last = last} {events = events} (Err e) is h = subst (λ x. SessionOutcome Ran Appended last events (Err x)) (sym is) h
+
+-- no write failed where the line of a turn was written
+pub calm-turn : {S T E : Type 0} {w : S → Option (List ℕ)} {f : S → ℕ} {a b : S} {old new : SessionState} {n p : ℕ} {event : SessionEvent} {x : T} (r : Result T E) → r ≡ Ok x →
+    TakesTurn w f a b old new n p event r → f b ≡ f a
+calm-turn {w = w} {f = f} {a = a} {b = b} r ok t =
+    let writes = subst (Writes w f a b t.printed) ok t.line in writes.calm
+
+-- the command at a place of a session
+event_at : (session : List SessionEvent) (items : List SessionCommand) (i : ℕ) (item : SessionCommand) → events_of items ≡ session → i < length items → item ≡ get_or items i item → (i < length session) × (get_or session i (event_of item) ≡ event_of item)
+event_at session items i item seen within is =
+    let longer = length-map items event_of in
+    let longest = ap length seen in (
+      omega (arith, within, longer, longest),
+      ap (λ es. get_or es i (event_of item)) (sym seen) ∙ get_or-map event_of items i item (event_of item) within ∙ ap event_of (sym is),
+    )
+
+pub next-event : (session : List SessionEvent) (items : List SessionCommand) (i : ℕ) (item : SessionCommand) → events_of items ≡ session → i < length items → item ≡ get_or items i item → take (i + 1) session ≡ take i session ++ event_of item ∷ []
+next-event session items i item seen within is =
+    let at = event_at session items i item seen within is in
+    take_more session i (event_of item) at.0 ∙ ap (λ e. take i session ++ e ∷ []) at.1
+
+pub good-command : (items : List SessionCommand) (i : ℕ) (item : SessionCommand) → i < length items → item ≡ get_or items i item → All IsCommand items → IsCommand item
+good-command items i item within is all = subst IsCommand (sym is) (All-get_or IsCommand items i item within all)
+
+-- as many commands as the session has ran
+pub has-run-all : {Ran : SessionState → List SessionEvent → List (List ℕ) → Type 0} {Appended : List ℕ → Type 0} {last : SessionState} (session : List SessionEvent) (items : List SessionCommand) (i : ℕ) → events_of items ≡ session → length items ≤ i →
+    HasRunSession Ran Appended last (take i session) → (length items ≡ length session) × HasRunSession Ran Appended last session
+has-run-all {Ran = Ran} {Appended = Appended} {last = last} session items i seen ended h =
+    let same : length items ≡ length session = sym (length-map items event_of) ∙ ap length seen in
+    let past : length session ≤ i = omega (arith, same, ended) in
+    (same, subst (HasRunSession Ran Appended last) (take_all i session past) h)

@@ -1,0 +1,12 @@
+pub mod Refusals
+pub mod Lists
+pub mod Machine
+pub mod Sound
+pub mod Editing
+pub mod Kept
+pub mod TableLists
+pub mod SessionText
+pub mod SessionViews
+pub mod SessionLines
+pub mod SessionRuns
+pub mod SessionEnds

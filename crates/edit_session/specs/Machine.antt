@@ -1,0 +1,151 @@
+-- An editing session: what is kept, and what each event answers and does.
+use Rattle.std.specs.Prelude.{◌≡◌, ◌≢◌, ℕ, zero, suc, ◌<◌, ◌≤◌, ◌==◌, cond, List, [], length, Option, Some, None, unwrap_or, Result, Ok, Err, if◌then◌else◌}
+use Rattle.field_boxes.specs.Classifier.{Rule, source}
+use Rattle.field_boxes.specs.Fields.{stated}
+use Rattle.ternary_words.specs.declared.table.Table as code
+use Rattle.ternary_words.specs.Views.{table_of}
+use Rattle.table_compose.specs.LeastCost.{IsLeastCost}
+use Rattle.rule_compilation.specs.Compiled.{IsCompiled}
+use Rattle.bank_update.specs.Machine as swaps
+use Rattle.bank_update.specs.Machine.{State, Swap, abort_answer, begin_answer, begun, has_turned, step_answer, total_with, unsettled}
+use Rattle.bank_update.specs.declared.refusal.BeginRefusal.TheVariants as begins
+use Rattle.bank_update.specs.declared.stage.Stage.{Stage}
+use Rattle.edit_session.specs.Lists.{Listed}
+use Rattle.edit_session.specs.declared.refusal.CommitRefusal.{CommitRefusal}
+use Rattle.edit_session.specs.declared.refusal.CommitRefusal.TheVariants as commits
+
+-- the lists at their commits: of the settled table, and of the pending one, if a swap is pending
+pub record Copies : Type 0 where
+  pub settled : List (Rule (List ℕ))
+  pub pending : Option (List (Rule (List ℕ)))
+
+-- the list now, the update machine, the lists of its tables at their commits, and the width of slots and the limit of entries
+pub record SessionState : Type 0 where
+  pub list : Listed
+  pub state : State
+  pub copies : Copies
+  pub slot : ℕ
+  pub limit : ℕ
+
+-- at first the settled table is the empty one, of the empty list
+abbrev pub no_copies : Copies
+no_copies = record { settled = []; pending = None }
+
+-- a session over so many empty slots
+abbrev pub opened : Listed → ℕ → ℕ → ℕ → SessionState
+opened list slots slot limit = record { list = list; state = unsettled slots; copies = no_copies; slot = slot; limit = limit }
+
+-- an edit changes the list alone
+abbrev pub with_list : SessionState → Listed → SessionState
+with_list s list = record { list = list; state = s.state; copies = s.copies; slot = s.slot; limit = s.limit }
+
+-- the session with its swap and the lists of its tables changed
+abbrev pub with_state : SessionState → State → Copies → SessionState
+with_state s state copies = record { list = s.list; state = state; copies = copies; slot = s.slot; limit = s.limit }
+
+-- Commit.
+
+-- a table that is handed over for the list: it answers every header as the list, is tight, has as `composed` the list's
+-- least cost and at most so many entries, and names decisions as the list does; the least cost is within the limit
+pub record IsTableFor (list : Listed) (slot limit : ℕ) (table : code.Table) : Type 0 where
+  pub compiled : IsCompiled list.rules slot (table_of table)
+  pub within : table.composed ≤ limit
+  pub names : table.names ≡ list.names
+
+-- the lists of the tables once a swap to a table of the list has begun: one that has no writes is over at once
+abbrev pub copies_begun : Listed → ℕ → Copies → Copies
+copies_begun list total copies =
+    if total == 0 then record { settled = list.rules; pending = None }
+    else record { settled = copies.settled; pending = Some list.rules }
+
+-- a swap to the table has begun
+abbrev pub committed : SessionState → code.Table → SessionState
+committed s table =
+    with_state s (begun s.state table.entries.items table.names) (copies_begun s.list (total_with s.state (length table.entries.items)) s.copies)
+
+-- a swap to a table for the list now has begun, of so many writes
+pub record IsBegun (s new : SessionState) (total : ℕ) : Type 0 where
+  pub table : code.Table
+  pub handed : IsTableFor s.list s.slot s.limit table
+  pub answer : begin_answer s.state (length table.entries.items) ≡ Ok total
+  pub state : new ≡ committed s table
+
+-- no swap is pending, and the least cost of the list now, which is so much, is above the limit
+pub record IsTooMuch (s : SessionState) (needed limit : ℕ) : Type 0 where
+  pub idle : s.state.pending ≡ None
+  pub cost : IsLeastCost stated s.list.rules needed
+  pub limit_is : limit ≡ s.limit
+  pub above : limit < needed
+
+-- no swap is pending, and a table for the list now fits on neither side of the settled one
+pub record HasNoRoom (s : SessionState) (above below wanted : ℕ) : Type 0 where
+  pub table : code.Table
+  pub handed : IsTableFor s.list s.slot s.limit table
+  pub answer : begin_answer s.state (length table.entries.items) ≡ Err (begins.NoRoom above below wanted)
+
+-- how a commit ends and what it leaves
+abbrev pub IsCommit : SessionState → SessionState → Result ℕ CommitRefusal → Type 0
+IsCommit s new (Ok total) = IsBegun s new total
+IsCommit s new (Err commits.Busy) = (s.state.pending ≢ None) × (new ≡ s)
+IsCommit s new (Err (commits.TooMany needed limit)) = IsTooMuch s needed limit × (new ≡ s)
+IsCommit s new (Err (commits.NoRoom above below wanted)) = HasNoRoom s above below wanted × (new ≡ s)
+IsCommit s new (Err commits.Memory) = (s.state.pending ≡ None) × (new ≡ s)
+
+-- A step whose write succeeds, and abort.
+
+-- the pending table has settled, so its list is the settled one's
+abbrev pub settled_copies : Copies → Copies
+settled_copies copies = record { settled = unwrap_or copies.pending copies.settled; pending = None }
+
+-- no swap is pending any more
+abbrev pub kept_copies : Copies → Copies
+kept_copies copies = record { settled = copies.settled; pending = None }
+
+-- the lists of the tables when the swap has reached the stage: forward it is over with the last write, back when none is left
+abbrev pub copies_at : Copies → Stage → Copies
+copies_at copies stage =
+    if stage.back then (if stage.done == 0 then kept_copies copies else copies)
+    else (if stage.done == stage.total then settled_copies copies else copies)
+
+-- the same where a stage was reached
+abbrev pub copies_by : Copies → Option Stage → Copies
+copies_by copies None = copies
+copies_by copies (Some stage) = copies_at copies stage
+
+-- the lists of the tables after a step that succeeds, and after abort
+abbrev pub stepped_copies : State → Copies → Copies
+stepped_copies s copies = copies_by copies (step_answer s)
+
+abbrev pub aborted_copies : State → Copies → Copies
+aborted_copies s copies = copies_by copies (abort_answer s)
+
+-- the session after a step that succeeds
+abbrev pub stepped : SessionState → SessionState
+stepped s = with_state s (swaps.stepped s.state) (stepped_copies s.state s.copies)
+
+-- the session after abort
+abbrev pub aborted : SessionState → SessionState
+aborted s = with_state s (swaps.aborted s.state) (aborted_copies s.state s.copies)
+
+-- so many steps that succeed
+abbrev pub after_steps : ℕ → SessionState → SessionState
+after_steps zero s = s
+after_steps (suc n) s = after_steps n (stepped s)
+
+-- no swap is pending, the settled table is a table of the list, and the list is as it was
+pub record HasSettled (list : Listed) (s : SessionState) : Type 0 where
+  pub idle : s.state.pending ≡ None
+  pub settled : s.copies.settled ≡ list.rules
+  pub list_is : s.list ≡ list
+
+-- Look.
+
+-- what the list of the settled table decides; during a swap that, or what the list of the pending table decides
+abbrev pub decided_with : State → Copies → Option Swap → List ℕ → Option (List ℕ)
+decided_with s copies None values = source stated values copies.settled
+decided_with s copies (Some swap) values =
+    cond (has_turned s swap values) (source stated values (unwrap_or copies.pending [])) (source stated values copies.settled)
+
+-- the decision of a header by name, as the list of the table decides that answers
+abbrev pub decided : State → Copies → List ℕ → Option (List ℕ)
+decided s copies values = decided_with s copies s.pending values

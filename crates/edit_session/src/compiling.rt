@@ -1,0 +1,26 @@
+//! The table that a commit hands over: the list is compiled anew.
+ghost use Rattle.std.specs.Prelude.{◌≤◌, IfOk, IfErr};
+ghost use Rattle.ternary_words.specs.Limits.{IsSlotWidth};
+ghost use Rattle.rule_compilation.specs.Compiled.{IsRefused};
+ghost use Rattle.edit_session.specs.Machine.{IsTableFor};
+
+use crate::listing::Listing;
+use rule_compilation::compile;
+use std::alloc::Global;
+use table_compose::ComposeError;
+use ternary_words::Table;
+
+/// The table of the list, for slots of `slot` trits; refused where the least cost of the list is above the limit.
+pub(crate) fn compiled(
+    alloc: Global,
+    list: &Listing,
+    slot: u16,
+    limit: u32,
+) -> Result<Table, ComposeError>
+    requires slot { ∥ IsSlotWidth slot ∥₁ }
+    requires limit { limit ≤ 262144 }
+    ensures table { IfOk result (IsTableFor list.now slot limit) }
+    ensures refused { IfErr result (IsRefused list.now.rules limit) }
+{
+    compile(alloc, list.rules(), list.names(), limit, slot)
+}

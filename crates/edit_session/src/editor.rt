@@ -1,0 +1,209 @@
+//! The editing session over a memory: its events, one call each.
+use crate::compiling::compiled;
+use crate::list_swapper::ListSwapper;
+use crate::listing::Listing;
+use crate::refusal::{CommitRefusal, NoPlace, PlaceRefusal, commit_answer};
+use bank_update::{Idle, Stage, StepRefusal};
+use field_boxes::{Decisions, Header, Rule};
+use filter_reader::RuleList;
+use std::alloc::Global;
+use std::marker::Model;
+use tcam_sim::Device;
+use ternary_words::Table;
+
+/// A rule list that is edited, and a memory into which the tables of the list are swapped write by write.
+///
+/// Edits change the list alone. [`commit`] compiles the list as it is then, and begins a swap to its table; a
+/// copy of the list goes with the table. Whatever was done and whichever writes failed, a look-up is answered by
+/// the list that the settled table was compiled of, or by that of the pending one.
+///
+/// [`commit`]: Editor::commit
+#[derive(Drop)]
+pub struct Editor<V: Device> {
+    alloc: Global,
+    list: Listing,
+    swapper: ListSwapper<V>,
+    slot: u16,
+    limit: u32,
+}
+
+impl<V: Device> Model for Editor<V> {
+    ghost use Rattle.std.specs.Prelude.{◌≤◌};
+    ghost use Rattle.ternary_words.specs.Limits.{IsSlotWidth};
+    ghost use Rattle.edit_session.specs.Editing.{Editing};
+
+    ghost Value = { Editing V };
+
+    ghost view = { λ e. record { device = e.swapper.device; session = record { list = e.list; state = e.swapper.state; copies = e.swapper.copies; slot = e.slot; limit = e.limit } } };
+
+    ghost invariant = { λ e. (e.limit ≤ 262144) × ∥ IsSlotWidth e.slot ∥₁ };
+}
+
+impl<V: Device> Editor<V> {
+    ghost use Rattle.std.specs.Prelude.{◌≡◌, ◌≢◌, ◌≤◌, ◌<◌, ◌↔◌, ℕ, List, None, Some, Ok, Err, All, length, replicate, ok_or, IfOk, IfErr, IsTrue, OnOk, OnErr};
+    ghost use Rattle.razor_base.specs.FaultPlan.{counted};
+    ghost use Rattle.razor_base.specs.Faults.{Rose};
+    ghost use Rattle.field_boxes.specs.NamedRules.{IsNumberedBy, named_rules};
+    ghost use Rattle.field_boxes.specs.Names.{is_decision_word, text_of};
+    ghost use Rattle.filter_reader.specs.FilterRules.{IsFilterRule};
+    ghost use Rattle.ternary_words.specs.Limits.{IsSlotWidth};
+    ghost use Rattle.bank_update.specs.Machine.{abort_answer, held, looked, stage, step_answer};
+    ghost use Rattle.bank_update.specs.Sound.{IsSound};
+    ghost use Rattle.bank_update.specs.Swapping.{KeepsNew};
+    ghost use Rattle.bank_update.specs.declared.refusal.StepRefusal.TheVariants as step_refusals;
+    ghost use Rattle.edit_session.specs.Editing.{IsAddRefused};
+    ghost use Rattle.edit_session.specs.Lists.{IsEditable, add_answer, rule_named, take_out_answer, taken_out, with_rule};
+    ghost use Rattle.edit_session.specs.Machine.{IsCommit, IsTableFor, aborted, decided, opened, stepped, with_list};
+    ghost use Rattle.edit_session.specs.Sound.{AreTablesOf};
+    ghost use Rattle.edit_session.specs.declared.refusal.CommitRefusal.TheVariants as commit_refusals;
+
+    /// A session over the list and an empty memory, for slots of `slot` trits (104, 144 or 288) and tables whose
+    /// least cost is at most `limit` (to 262,144).
+    pub fn new(alloc: Global, list: RuleList, slot: u16, limit: u32, device: V) -> Self
+        requires slot { ∥ IsSlotWidth slot ∥₁ }
+        requires limit { limit ≤ 262144 }
+        requires empty { V.held device ≡ replicate (length (V.held device)) None }
+        ensures device { result.device ≡ device }
+        ensures session { result.session ≡ opened (record { rules = named_rules list.names list.rules.items; names = list.names }) (length (V.held device)) slot limit }
+    {
+        Editor {
+            alloc,
+            list: Listing::of(list),
+            swapper: ListSwapper::new(alloc, device),
+            slot,
+            limit,
+        }
+    }
+
+    /// The device.
+    pub fn device(&self) -> &V
+        ensures device { result.now ≡ self.now.device }
+        ensures held { V.held result.now ≡ held self.now.session.state }
+    {
+        self.swapper.device()
+    }
+
+    /// The rules of the list, in their order.
+    pub fn rules(&self) -> &[Rule]
+        ensures rules { named_rules self.now.session.list.names result.now ≡ self.now.session.list.rules }
+        ensures numbered { All (IsNumberedBy self.now.session.list.names) result.now }
+        ensures spelled { All IsFilterRule result.now }
+        ensures few { length result.now ≤ 65536 }
+    {
+        self.list.rules()
+    }
+
+    /// The names of the decisions of the list, also of rules that were taken out.
+    pub fn names(&self) -> &Decisions
+        ensures { result.now ≡ self.now.session.list.names }
+    {
+        self.list.names()
+    }
+
+    /// Adds the rule with this name for its decision as rule `place`, counted from 1; the other rules keep their
+    /// order. Answers how many rules there are then.
+    ///
+    /// After `Memory` the name may be among the names; otherwise all is as it was after a refusal.
+    pub fn add(&mut self, place: u32, rule: &Rule, name: &str) -> Result<u32, PlaceRefusal>
+        requires rule { IsEditable rule.now }
+        requires word { IsTrue (is_decision_word name.now) }
+        requires room { length self.old.session.list.names < 262144 }
+        ensures ok { IfOk result (λ count. add_answer self.old.session.list place ≡ Ok count) }
+        ensures added { OnOk result (self.new.session.list ≡ with_rule self.old.session.list place (rule_named name.now rule.now)) }
+        ensures refused { IfErr result (λ refusal. IsAddRefused self.old.session.list self.new.session.list place name.now refusal) }
+
+        // An edit changes the list alone.
+        ensures session { self.new.session ≡ with_list self.old.session self.new.session.list }
+        ensures device { self.new.device ≡ self.old.device }
+    {
+        self.list.add(place, rule, name)
+    }
+
+    /// Takes rule `place` out, counted from 1; the other rules keep their order, and all names stay. Answers how
+    /// many rules are left. It takes no memory.
+    pub fn take_out(&mut self, place: u32) -> Result<u32, NoPlace>
+        ensures answer { result ≡ take_out_answer self.old.session.list place }
+        ensures session { self.new.session ≡ with_list self.old.session (taken_out self.old.session.list place) }
+        ensures device { self.new.device ≡ self.old.device }
+    {
+        self.list.take_out(place)
+    }
+
+    /// Compiles the list as it is now and begins a swap to its table. Answers how many writes the swap has; one
+    /// without any is over at once.
+    ///
+    /// After a refusal all is as it was.
+    pub fn commit(&mut self) -> Result<u64, CommitRefusal>
+        ensures commit { IsCommit self.old.session self.new.session result }
+        ensures busy { result ≡ Err commit_refusals.Busy ↔ self.old.session.state.pending ≢ None }
+        ensures device { self.new.device ≡ self.old.device }
+    {
+        if self.swapper.stage().is_some() {
+            return Err(CommitRefusal::Busy);
+        }
+        let table = compiled(self.alloc, &self.list, self.slot, self.limit)?;
+        let copy = self.list.copy(self.alloc)?;
+        self.begin(table, copy)
+    }
+
+    /// Begins a swap to a table of the list as it is now, with a copy of the list.
+    fn begin(&mut self, table: Table, copy: Listing) -> Result<u64, CommitRefusal>
+        requires idle { self.old.session.state.pending ≡ None }
+        requires table { IsTableFor self.old.session.list self.old.session.slot self.old.session.limit table }
+        requires copy { copy ≡ self.old.session.list }
+        ensures commit { IsCommit self.old.session self.new.session result }
+        ensures device { self.new.device ≡ self.old.device }
+    {
+        commit_answer(self.swapper.begin(table, copy))
+    }
+
+    /// Does the next write, or undoes the last one where the swap goes back, and answers the stage.
+    pub fn step(&mut self) -> Result<Stage, StepRefusal>
+        ensures ok { IfOk result (λ stage. step_answer self.old.session.state ≡ Some stage) }
+        ensures stepped { OnOk result (self.new.session ≡ stepped self.old.session) }
+        ensures idle { result ≡ Err step_refusals.Idle ↔ self.old.session.state.pending ≡ None }
+        ensures unchanged { OnErr result (self.new.session ≡ self.old.session) }
+
+        // One write is tried and no other, whether it fails or not; none where no swap is pending.
+        ensures one_try { self.old.session.state.pending ≢ None → V.tries self.new.device ≡ counted (V.tries self.old.device) }
+        ensures no_try { self.old.session.state.pending ≡ None → self.new ≡ self.old }
+
+        // No answer goes from new back to old while the swap goes forward.
+        ensures keeps { (values : List ℕ) → OnOk result (KeepsNew self.old.session.state self.new.session.state values) }
+
+        // A failure is counted, and the count doesn't fall.
+        ensures fault { result ≡ Err step_refusals.DeviceFault → Rose (V.faults self.old.device) (V.faults self.new.device) }
+        ensures counts { V.faults self.old.device ≤ V.faults self.new.device }
+    {
+        self.swapper.step()
+    }
+
+    /// Lets the swap go back from now on, and answers its stage. One with no write done is over at once.
+    pub fn abort(&mut self) -> Result<Stage, Idle>
+        ensures answer { result ≡ ok_or (abort_answer self.old.session.state) (record {}) }
+        ensures session { self.new.session ≡ aborted self.old.session }
+        ensures device { self.new.device ≡ self.old.device }
+    {
+        self.swapper.abort()
+    }
+
+    /// The name of the decision that the device finds for the header; `miss` where it finds none.
+    ///
+    /// It is what the list decides of which the table was compiled that answers: the settled table's list, or the
+    /// pending one's.
+    pub fn look(&self, header: &Header) -> &str
+        ensures looked { result.now ≡ text_of (looked self.now.session.state header.now.values) }
+        ensures decided { result.now ≡ text_of (decided self.now.session.state self.now.session.copies header.now.values) }
+    {
+        self.swapper.look(header)
+    }
+
+    /// The stage of the swap that is pending; none exactly where none is.
+    pub fn stage(&self) -> Option<Stage>
+        ensures stage { result ≡ stage self.now.session.state }
+        ensures sound { IsSound self.now.session.state }
+        ensures tables { AreTablesOf self.now.session.copies self.now.session.state }
+    {
+        self.swapper.stage()
+    }
+}

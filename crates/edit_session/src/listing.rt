@@ -1,0 +1,185 @@
+//! Rules with the names of their decisions, and their edits.
+ghost use Rattle.std.specs.Prelude.{◌≡◌, ◌≤◌, vec_len, OnOk, OnErr};
+ghost use Rattle.filter_reader.specs.FilterRules.{IsFilterRule};
+ghost use Rattle.edit_session.specs.Kept.{IsPut};
+ghost use Rattle.edit_session.specs.Lists.{IsEditable, is_within};
+
+use crate::refusal::{NoPlace, PlaceRefusal};
+use field_boxes::{Decisions, Ports, Rule};
+use filter_reader::RuleList;
+use razor_base::Memory;
+use std::alloc::Global;
+use std::marker::Model;
+
+/// As many rules as a list may have.
+const MOST_RULES: u32 = 65_536;
+
+/// The rules of a list in their order, and the names of their decisions.
+#[derive(Drop)]
+pub(crate) struct Listing {
+    rules: Vec<Rule>,
+    names: Decisions,
+}
+
+impl Model for Listing {
+    ghost use Rattle.edit_session.specs.Lists.{Listed};
+
+    ghost Value = { Listed };
+
+    ghost use Rattle.edit_session.specs.Kept.{IsListing, listed};
+
+    ghost view = { listed };
+
+    ghost invariant = { IsListing };
+}
+
+impl Listing {
+    ghost use Rattle.std.specs.Prelude.{◌≡◌, ◌≤◌, ◌<◌, [], length, All, IfOk, IfErr, IsTrue, OnOk};
+    ghost use Rattle.field_boxes.specs.NamedRules.{IsNumberedBy, named_rules};
+    ghost use Rattle.field_boxes.specs.Names.{AreNames, is_decision_word};
+    ghost use Rattle.filter_reader.specs.FilterRules.{IsFilterRule};
+    ghost use Rattle.edit_session.specs.Editing.{IsAddRefused};
+    ghost use Rattle.edit_session.specs.Lists.{IsEditable, add_answer, rule_named, take_out_answer, taken_out, with_rule};
+
+    /// No rule, and no name.
+    pub(crate) fn empty(alloc: Global) -> Self
+        ensures { result ≡ record { rules = []; names = [] } }
+    {
+        Listing {
+            rules: Vec::new(alloc),
+            names: Decisions::new(alloc),
+        }
+    }
+
+    /// The rules and names of the list.
+    pub(crate) fn of(list: RuleList) -> Self
+        ensures { result ≡ record { rules = named_rules list.names list.rules.items; names = list.names } }
+    {
+        Listing {
+            rules: list.rules,
+            names: list.names,
+        }
+    }
+
+    /// The rules in their order.
+    pub(crate) fn rules(&self) -> &[Rule]
+        ensures rules { named_rules self.now.names result.now ≡ self.now.rules }
+        ensures numbered { All (IsNumberedBy self.now.names) result.now }
+        ensures spelled { All IsFilterRule result.now }
+        ensures few { length result.now ≤ 65536 }
+    {
+        &self.rules
+    }
+
+    /// The names of the decisions.
+    pub(crate) fn names(&self) -> &Decisions
+        ensures { result.now ≡ self.now.names }
+    {
+        &self.names
+    }
+
+    /// A copy, with the same names under the same numbers.
+    pub(crate) fn copy(&self, alloc: Global) -> Result<Listing, Memory>
+        ensures { IfOk result (λ copy. copy ≡ self.now) }
+    {
+        Ok(Listing {
+            rules: self.rules.as_slice().to_vec(alloc)?,
+            names: self.names.copy(alloc)?,
+        })
+    }
+
+    /// How many rules there are.
+    fn count(&self) -> u32
+        ensures count { result ≡ length self.now.rules }
+        ensures few { result ≤ 65536 }
+    {
+        self.rules.len() as u32
+    }
+
+    /// How many rules there are with one more at this place, counted from 1, or why there is none more.
+    fn count_with(&self, place: u32) -> Result<u32, PlaceRefusal>
+        ensures { result ≡ add_answer self.now place }
+    {
+        let count = self.count();
+        if !is_within(place, count + 1) {
+            return Err(PlaceRefusal::NoPlace { count });
+        }
+        if count == MOST_RULES {
+            return Err(PlaceRefusal::Full);
+        }
+        Ok(count + 1)
+    }
+
+    /// Gives the rule this name and this place, counted from 1, and answers how many rules there are then.
+    ///
+    /// After `Memory` the name may be among the names; the rules are as they were after each refusal.
+    pub(crate) fn add(&mut self, place: u32, rule: &Rule, name: &str) -> Result<u32, PlaceRefusal>
+        requires rule { IsEditable rule.now }
+        requires word { IsTrue (is_decision_word name.now) }
+        requires room { length self.old.names < 262144 }
+        ensures ok { IfOk result (λ count. add_answer self.old place ≡ Ok count) }
+        ensures added { OnOk result (self.new ≡ with_rule self.old place (rule_named name.now rule.now)) }
+        ensures refused { IfErr result (λ refusal. IsAddRefused self.old self.new place name.now refusal) }
+    {
+        ports_are_sets(rule);
+        let count = self.count_with(place)?;
+        let decision = self.names.intern(name)?;
+        let index = place as usize - 1;
+        put(&mut self.rules, index, rule, rule.ports, decision)?;
+        Ok(count)
+    }
+
+    /// Takes the rule with this number out, counted from 1, and answers how many rules are left. It takes no memory.
+    pub(crate) fn take_out(&mut self, place: u32) -> Result<u32, NoPlace>
+        ensures answer { result ≡ take_out_answer self.old place }
+        ensures state { self.new ≡ taken_out self.old place }
+    {
+        let count = self.count();
+        if !is_within(place, count) {
+            return Err(NoPlace { count });
+        }
+        let _rule = self.rules.remove(place as usize - 1);
+        Ok(count - 1)
+    }
+}
+
+/// The sets of ports of the rule are sets of ports, so a filter list can spell it. The call does nothing.
+fn ports_are_sets(rule: &Rule)
+    requires { IsEditable rule.now }
+    ensures { IsFilterRule rule.now }
+{
+    let _source = rule.ports[0].spans();
+    let _destination = rule.ports[1].spans();
+}
+
+/// Whether the number is one of 1 to the greatest.
+fn is_within(number: u32, greatest: u32) -> bool
+    ensures { result ≡ is_within number greatest }
+{
+    1 <= number && number <= greatest
+}
+
+/// Puts the rule with this decision at the place, counted from 0. Its sets of ports come by themselves.
+fn put(
+    rules: &mut Vec<Rule>,
+    index: usize,
+    rule: &Rule,
+    ports: [Ports; 2],
+    decision: u32,
+) -> Result<(), Memory>
+    requires place { index ≤ vec_len rules.old }
+    requires spelled { IsFilterRule rule.now }
+    requires same { ports ≡ rule.now.ports }
+    ensures ok { OnOk result (IsPut rules.old.items rules.new.items index rule.now decision) }
+    ensures err { OnErr result (rules.new.items ≡ rules.old.items) }
+{
+    let added = Rule {
+        source: rule.source,
+        destination: rule.destination,
+        ports,
+        protocol: rule.protocol,
+        decision,
+    };
+    rules.insert(index, added)?;
+    Ok(())
+}
