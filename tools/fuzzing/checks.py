@@ -12,8 +12,9 @@ REASONS = {
     "table": "first line|word length|trit|padding|decision|count of entries differs, stated [0-9]+ found [0-9]+|not a prefix word|field form|value outside mask",
     "trace": "too few columns|not a number|value too large",
     "script": "unknown command|arguments",
+    "session": "unknown command|arguments|rule",
 }
-LIMITS = {"list": 16_777_216, "table": 134_217_728, "trace": 67_108_864, "certificate": 268_435_456, "script": 1_048_576}
+LIMITS = {"list": 16_777_216, "table": 134_217_728, "trace": 67_108_864, "certificate": 268_435_456, "script": 1_048_576, "session": 1_048_576}
 
 NUMBER = "(0|[1-9][0-9]*)"
 NAME = r"(miss|#[1-9][0-9]*|[A-Za-z0-9_.-]{1,32})"
@@ -27,6 +28,7 @@ TABLE = f"table 2 slot (104|144|288) composed {NUMBER} entries {NUMBER}\n({ENTRY
 SPAN = f"{NUMBER}-{NUMBER}"
 STATE_LINE = f"rule {NUMBER} ((live|droppable)( {NUMBER}){{5}}|never)\n"
 SCRIPT_LINE = f"(begun {NUMBER}|busy|no room {NUMBER} {NUMBER} {NUMBER}|stage {NUMBER} of {NUMBER}( back)?|idle|device fault|{NAME})\n"
+EDIT_LINE = f"(rules {NUMBER}|no place {NUMBER}|list full|{NUMBER} entries needed, limit {NUMBER})\n"
 
 OUTPUTS = {
     "expand": TABLE,
@@ -41,6 +43,7 @@ OUTPUTS = {
     "check": f"valid rows={NUMBER}\n",
     "trace": f"({NAME}\n)*",
     "drive": f"({SCRIPT_LINE})*",
+    "session": f"({SCRIPT_LINE}|{EDIT_LINE})*",
     "gen": "(@[^\n]*\n)*",
     "selfrun": f"rules {NUMBER} composed {NUMBER} entries {NUMBER} headers 256 accept {NUMBER} deny {NUMBER} log {NUMBER} miss {NUMBER}\n",
 }
@@ -110,7 +113,7 @@ def of_output(run, name):
         pattern = OUTPUTS[name]
     elif run.status == 1:
         pattern = WRONG if name == "check" else DIFFER
-    elif name == "trace" or (name in ("drive", "cert") and run.status == 7):
+    elif name == "trace" or (name in ("drive", "session", "cert") and run.status == 7):
         pattern = "([^\n]+\n)*"
     else:
         pattern = ""

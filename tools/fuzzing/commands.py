@@ -3,7 +3,7 @@ import dataclasses
 import itertools
 import re
 
-FILES = ("list", "table", "trace", "certificate", "script")
+FILES = ("list", "table", "trace", "certificate", "script", "session")
 NUMBERS = {"seed": range(0, 2**31), "count": range(0, 65_537)}
 SPANS = {"source": 2**32 - 1, "destination": 2**32 - 1, "source port": 65_535, "destination port": 65_535, "protocol": 255}
 ORDERS = tuple("".join(order) for order in itertools.permutations("01234"))
@@ -44,6 +44,7 @@ COMMANDS = {
     "merge": Command(("table",)),
     "audit": Command(("list",)),
     "query": Command(("list", *SPANS, "decision")),
+    "session": Command(("session", "list"), options=("--slots", "--limit", "--slot"), needed=("--slots",)),
 }
 
 

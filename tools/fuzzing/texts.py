@@ -27,12 +27,13 @@ def ports(random):
     return random.choice((",", " , ")).join(span(random) for _ in range(count))
 
 
-def rule_line(random):
+def rule_line(random, decided=0.8):
+    """A rule, which has a decision word so often."""
     protocol = random.choice(("0x06/0xFF", "0x11/0xff", "0X1/0xFF", "0x00/0x00", "0x6/0x0"))
     columns = ["@" + address(random), address(random), ports(random), ports(random), protocol]
     if random.random() < 0.3:
         columns.append(random.choice(("0x0000/0x0000", "0x1000/0x1000", "0x0/0xFFFF")))
-    if random.random() < 0.8:
+    if random.random() < decided:
         columns.append(random.choice(DECISIONS))
     return random.choice(("\t", " ", " \t")).join(columns)
 
@@ -61,6 +62,14 @@ def trace(random):
 def script(random):
     def line(random):
         return random.choice(("begin 1", "step", "step", "step", "abort", "stage", "look " + " ".join(map(str, header(random)))))
+
+    return lines_of(random, random.choice((3, 30)), line)
+
+
+def session(random):
+    def line(random):
+        edits = (f"add {random.choice((1, 1, 2, 3, 0))} {rule_line(random, decided=1)}", f"drop {random.choice((1, 1, 2, 4_294_967_295))}")
+        return random.choice((*edits, "commit", "step", "step", "step", "abort", "stage", "look " + " ".join(map(str, header(random)))))
 
     return lines_of(random, random.choice((3, 30)), line)
 
@@ -113,7 +122,7 @@ def certificate(random):
     return f"0-4294967295 0-4294967295 0-65535 0-65535 0-255 {claims}\nrows 1\n".encode()
 
 
-DRAW = {"list": rule_list, "table": table, "trace": trace, "script": script, "certificate": certificate}
+DRAW = {"list": rule_list, "table": table, "trace": trace, "script": script, "session": session, "certificate": certificate}
 
 
 def spoiled(random, text):

@@ -188,7 +188,10 @@ class Texts:
             return True
         if isinstance(value, Unknown):
             raise Cases(value, [self.case(file, it) for it in patterns])
-        return isinstance(value, Made) and value.constructor == name and all(self.fits(file, it, inner, [it], bound) for it, inner in zip(pattern[2:], value.values))
+        if not isinstance(value, Made) or value.constructor != name:
+            return False
+        alike = [it[2:] for it in patterns if self.constructor(file, it) == name]
+        return all(self.fits(file, it, inner, [others[n] for others in alike], bound) for n, (it, inner) in enumerate(zip(pattern[2:], value.values)))
 
     def value(self, file, expression, bound):
         kind, *parts = expression
@@ -260,9 +263,15 @@ def clauses(definition):
         yield patterns, right
 
 
+def is_pattern(expression):
+    """Whether the expression is a name, or a constructor of patterns."""
+    kind, *parts = expression
+    return kind == "name" or kind == "apply" and parts[0][0] == "name" and all(map(is_pattern, parts[1:]))
+
+
 def is_read(definition):
-    """Whether the patterns of each clause are names, or constructors of names."""
-    return all(pattern[0] == "name" or pattern[0] == "apply" and all(part[0] == "name" for part in pattern[1:]) for patterns, _ in clauses(definition) for pattern in patterns)
+    """Whether what stands on the left of each clause is patterns."""
+    return all(is_pattern(pattern) for patterns, _ in clauses(definition) for pattern in patterns)
 
 
 def arity(definition):

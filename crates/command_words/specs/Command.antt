@@ -30,3 +30,4 @@ pub data Command : Type 0 where
   Merge : List ℕ → Command
   Audit : List ℕ → Command
   Query : List ℕ → List Interval → Option (List ℕ) → Command
+  Session : ℕ → Sizes → List ℕ → List ℕ → Command

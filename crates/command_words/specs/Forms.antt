@@ -1,7 +1,7 @@
 -- How the commands are spelled: their names, their options, and what their other words are called.
 use Rattle.std.specs.Prelude.{ℕ, List, [], ◌∷◌, codes}
 use Rattle.command_words.specs.declared.form.CommandName.{CommandName}
-use Rattle.command_words.specs.declared.form.CommandName.TheVariants.{Expand, Compile, Equiv, Cert, Check, Trace, Drive, Gen, Selfrun, Migrate, Arrange, Merge, Audit, Query}
+use Rattle.command_words.specs.declared.form.CommandName.TheVariants.{Expand, Compile, Equiv, Cert, Check, Trace, Drive, Gen, Selfrun, Migrate, Arrange, Merge, Audit, Query, Session}
 use Rattle.command_words.specs.declared.form.Need.{Need}
 use Rattle.command_words.specs.declared.form.Need.TheVariants.{Never, Maybe, Always}
 
@@ -31,6 +31,10 @@ plain_form command name label = record { command = command; name = name; limit =
 abbrev pub script_form : CommandName → List ℕ → Form
 script_form command name = record { command = command; name = name; limit = Never; slot = Never; slots = Always; order = Never; label = codes "SCRIPT TABLE .." }
 
+-- the form of a command that runs a session over a list and a memory of some slots
+abbrev pub session_form : CommandName → List ℕ → Form
+session_form command name = record { command = command; name = name; limit = Maybe; slot = Maybe; slots = Always; order = Never; label = codes "SCRIPT LIST" }
+
 -- the forms of the commands that are built, in the order of the usage text
 unfoldable pub forms : List Form
 forms =
@@ -48,4 +52,5 @@ forms =
     ∷ plain_form Merge (codes "merge") (codes "TABLE")
     ∷ plain_form Audit (codes "audit") (codes "LIST")
     ∷ plain_form Query (codes "query") (codes "LIST S D SP DP P DECISION")
+    ∷ session_form Session (codes "session")
     ∷ []

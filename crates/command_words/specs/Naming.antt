@@ -5,7 +5,7 @@ use Rattle.std.specs.Str.{bytes_eq}
 use Rattle.field_boxes.specs.Classifier.{Interval}
 use Rattle.command_words.specs.declared.form.CommandName.{CommandName}
 use Rattle.command_words.specs.declared.form.CommandName.TheVariants as names
-use Rattle.command_words.specs.Command.{Command, Sizes, Expand, Compile, Arrange, Make, Equiv, Cert, Check, Trace, Drive, Gen, Selfrun, Migrate, Merge, Audit, Query}
+use Rattle.command_words.specs.Command.{Command, Sizes, Expand, Compile, Arrange, Make, Equiv, Cert, Check, Trace, Drive, Gen, Selfrun, Migrate, Merge, Audit, Query, Session}
 use Rattle.command_words.specs.Questions.{decision_asked, spans_asked}
 use Rattle.command_words.specs.Orders.{Wanted}
 use Rattle.command_words.specs.Numbers.{number_between}
@@ -82,3 +82,4 @@ command_named names.Arrange settings words = over_one (Make (Arrange settings.or
 command_named names.Merge settings words = over_one Merge words
 command_named names.Audit settings words = over_one Audit words
 command_named names.Query settings words = asking Query words
+command_named names.Session settings words = over_two (Session settings.slots settings.sizes) words

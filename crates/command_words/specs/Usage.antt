@@ -24,7 +24,7 @@ option_usage Always option = codes " " ++ option_text option ++ value_label opti
 -- the line of a command
 abbrev pub usage_line : Form → List ℕ
 usage_line form =
-    codes "  " ++ form.name ++ option_usage form.order Order ++ option_usage form.limit Limit ++ option_usage form.slot Slot ++ option_usage form.slots Slots ++ codes " " ++ form.label ++ 10 ∷ []
+    codes "  " ++ form.name ++ option_usage form.order Order ++ option_usage form.slots Slots ++ option_usage form.limit Limit ++ option_usage form.slot Slot ++ codes " " ++ form.label ++ 10 ∷ []
 
 -- the commands that are built
 abbrev pub usage_text : List ℕ

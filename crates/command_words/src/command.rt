@@ -48,4 +48,11 @@ pub enum Command<'a> {
     Audit(&'a str),
     /// Writes the boxes inside a box in which a list decides as asked.
     Query(Question<'a>),
+    /// Edits a list by the commands of a session, and swaps the tables of the list into a memory of so many slots: the
+    /// files are the session's and the list's.
+    Session {
+        slots: Slots,
+        sizes: Sizes,
+        files: TwoFiles<'a>,
+    },
 }

@@ -2,7 +2,7 @@
 ghost use Rattle.std.specs.Prelude.{◌≡◌, find, map};
 ghost use Rattle.std.specs.Option.{option_copied, option_map};
 ghost use Rattle.std.specs.Str.{bytes_eq};
-ghost use Rattle.command_words.specs.Forms.{forms, ordered_form, plain_form, script_form, table_form};
+ghost use Rattle.command_words.specs.Forms.{forms, ordered_form, plain_form, script_form, session_form, table_form};
 ghost use Rattle.command_words.specs.Views.{form_seen};
 
 /// The commands that are built.
@@ -22,6 +22,7 @@ pub(crate) enum CommandName {
     Merge,
     Audit,
     Query,
+    Session,
 }
 
 /// Whether a command takes an option: never, if it is there, or it has to be there.
@@ -105,9 +106,24 @@ fn script_form(command: CommandName, name: &'static str) -> CommandForm
     }
 }
 
+/// The form of a command that runs a session over a list and a memory of some slots.
+fn session_form(command: CommandName, name: &'static str) -> CommandForm
+    ensures { form_seen result ≡ session_form command name.now }
+{
+    CommandForm {
+        command,
+        name,
+        limit: Need::Maybe,
+        slot: Need::Maybe,
+        slots: Need::Always,
+        order: Need::Never,
+        label: "SCRIPT LIST",
+    }
+}
+
 /// The forms of the commands that are built, in the order of the usage text.
 #[tactic(auto, unfolding(crate::specs::Forms::forms))]
-pub(crate) fn forms() -> [CommandForm; 14]
+pub(crate) fn forms() -> [CommandForm; 15]
     ensures { map form_seen result ≡ forms }
 {
     [
@@ -125,6 +141,7 @@ pub(crate) fn forms() -> [CommandForm; 14]
         plain_form(CommandName::Merge, "merge", "TABLE"),
         plain_form(CommandName::Audit, "audit", "LIST"),
         plain_form(CommandName::Query, "query", "LIST S D SP DP P DECISION"),
+        session_form(CommandName::Session, "session"),
     ]
 }
 

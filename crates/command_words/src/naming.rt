@@ -66,5 +66,10 @@ pub(crate) fn named<'a>(
         CommandName::Merge => Some(Command::Merge(one_file(words)?)),
         CommandName::Audit => Some(Command::Audit(one_file(words)?)),
         CommandName::Query => Some(Command::Query(question_of(words)?)),
+        CommandName::Session => Some(Command::Session {
+            slots,
+            sizes,
+            files: two_files(words)?,
+        }),
     }
 }

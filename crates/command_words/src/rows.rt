@@ -3,7 +3,7 @@
 
 ghost use Rattle.std.specs.Prelude.{◌≡◌, ◌∷◌, [], ◌++◌, Some, None, codes};
 ghost use Rattle.std.specs.List.{flat_map};
-ghost use Rattle.command_words.specs.Command.{Arrange, Audit, Cert, Compile, Expand, Check, Drive, Equiv, Gen, Make, Query, Selfrun};
+ghost use Rattle.command_words.specs.Command.{Arrange, Audit, Cert, Compile, Expand, Check, Drive, Equiv, Gen, Make, Query, Selfrun, Session};
 ghost use Rattle.command_words.specs.Orders.{Best, In};
 ghost use Rattle.command_words.specs.Questions.{span};
 ghost use Rattle.command_words.specs.Spelling.{command_of};
@@ -91,6 +91,16 @@ pub fn worked_scripts()
     ensures none_of_the_slots { command_of (codes "drive" ∷ codes "--slots" ∷ codes "0" ∷ codes "s" ∷ codes "t" ∷ []) ≡ None }
 {}
 
+/// A session has a script and a list, and the number of slots must be there.
+pub fn worked_sessions()
+    ensures usual { command_of (codes "session" ∷ codes "--slots" ∷ codes "4" ∷ codes "s" ∷ codes "in" ∷ []) ≡ Some (Session 4 (record { limit = 262144; slot = 144 }) (codes "s") (codes "in")) }
+    ensures all { command_of (codes "session" ∷ codes "--limit=1" ∷ codes "--slot" ∷ codes "104" ∷ codes "s" ∷ codes "in" ∷ codes "--slots=262144" ∷ []) ≡ Some (Session 262144 (record { limit = 1; slot = 104 }) (codes "s") (codes "in")) }
+    ensures no_slots { command_of (codes "session" ∷ codes "s" ∷ codes "in" ∷ []) ≡ None }
+    ensures no_list { command_of (codes "session" ∷ codes "--slots" ∷ codes "4" ∷ codes "s" ∷ []) ≡ None }
+    ensures equal_files { command_of (codes "session" ∷ codes "--slots" ∷ codes "4" ∷ codes "s" ∷ codes "s" ∷ []) ≡ None }
+    ensures other_option { command_of (codes "session" ∷ codes "--slots" ∷ codes "4" ∷ codes "--order" ∷ codes "01234" ∷ codes "s" ∷ codes "in" ∷ []) ≡ None }
+{}
+
 /// A number has one to ten digits and lies in its range. Two equal numbers may stand together.
 pub fn worked_numbers()
     ensures ten_digits { command_of (codes "compile" ∷ codes "--limit" ∷ codes "0000000005" ∷ codes "in" ∷ []) ≡ Some (Make Compile (record { limit = 5; slot = 144 }) (codes "in")) }
@@ -152,5 +162,6 @@ pub fn worked_usage()
         ∷ codes "  merge TABLE"
         ∷ codes "  audit LIST"
         ∷ codes "  query LIST S D SP DP P DECISION"
+        ∷ codes "  session --slots N [--limit N] [--slot W] SCRIPT LIST"
         ∷ []) }
 {}

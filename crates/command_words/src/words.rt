@@ -1,3 +1,4 @@
+//! The words of a call of the program.
 ghost use Rattle.std.specs.Prelude.{◌≡◌, ◌∷◌, ◌++◌, [], map, OnOk, OnErr};
 ghost use Rattle.std.specs.String.{string_bytes};
 

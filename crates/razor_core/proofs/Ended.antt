@@ -1,17 +1,17 @@
 -- How a command ends: in the turn of an input, with a table that wasn't made, cut off, or done.
-use Rattle.std.proofs.Common.{◌≡◌, ℕ, ◌≤◌, List, [], ◌∷◌, ◌++◌, Some, None, inl, inr, refl, subst, sym, ap, arith, ◌∙◌}
+use Rattle.std.proofs.Common.{◌≡◌, ℕ, ◌≤◌, List, [], ◌∷◌, ◌++◌, Some, None, inl, inr, refl, subst, sym, ap, append-nil, arith, ◌∙◌}
 use Rattle.std.specs.Prelude.{Bool, Option, Ok, Err, Result, ◌⊎◌}
 use Rattle.std.specs.Io.KnownBytes.{Appends, Keeps}
 use Rattle.razor_base.specs.Faults.{Rose}
 use Rattle.razor_base.specs.Output.{AppendsFront}
-use Rattle.command_words.specs.Command.{Command, Make, Method, Sizes}
+use Rattle.command_words.specs.Command.{Command, Make, Method, Session, Sizes}
 use Rattle.filter_reader.specs.FilterList.{FilterList}
 use Rattle.razor_core.specs.declared.ending.Ending.{Ending}
 use Rattle.razor_core.specs.declared.ending.Ending.TheVariants.{Done, No, BadLine as Bad, TooLong, TooMany, ReadFault, WriteFault, Memory}
-use Rattle.razor_core.specs.Inputs.{Input, Value, inputs, list_input, list_value, most_bytes, read_by}
+use Rattle.razor_core.specs.Inputs.{Input, Value, inputs, list_input, list_value, session_value, most_bytes, read_by}
 use Rattle.razor_core.specs.Make.{IsNeeded, IsNotMade}
 use Rattle.razor_core.specs.Outcome.{Outcome}
-use Rattle.razor_core.specs.Gives.{Gives}
+use Rattle.razor_core.specs.Gives.{Begins, Gives}
 use Rattle.razor_core.specs.Outside.{Outside, AreKept, Tells}
 use Rattle.razor_core.specs.Standing.{StandsCut, StandsShort, WritesInTurn}
 use Rattle.razor_core.specs.Taking.{EndsTurn}
@@ -111,6 +111,11 @@ done_ends command before after values outcome answer passed free gives answered 
   read = read;
 }
 
+-- what a command defines, it begins with
+begins_of : (command : Command) (values : List Value) (outcome : Outcome) → Gives command values outcome → Begins command values outcome
+begins_of (Session slots sizes script file) (session_value events ∷ list_value list ∷ values) outcome h = record { front = events; rest = []; parts = sym (append-nil events); edits = h }
+begins_of command values outcome h = h
+
 -- a write failed
 pub cut_off_ends : (command : Command) (before after : Outside) (values : List Value) (outcome : Outcome) → Passed before (inputs command) values → IsFree command values ⊎ WritesInTurn command → Gives command values outcome →
     Rose before.write_faults after.write_faults → AppendsFront before.written after.written outcome.text → Ends command before after WriteFault
@@ -121,7 +126,7 @@ cut_off_ends command before after values outcome passed free gives rose written 
     outcome = outcome;
     turns = turns_pass before (inputs command) values passed tells;
     free = free;
-    gives = gives;
+    gives = begins_of command values outcome gives;
     written = written;
   }),
 )

@@ -5,7 +5,7 @@ use Rattle.std.specs.Io.KnownBytes.{Keeps}
 use Rattle.trace_run.specs.Outcome.{GoesOn}
 use Rattle.trace_run.specs.Trace as traces
 use Rattle.trace_run.specs.Trace.{trace_within}
-use Rattle.command_words.specs.Command.{Command, Make, Equiv, Cert, Check, Trace, Drive, Gen, Selfrun, Migrate, Merge, Audit, Query}
+use Rattle.command_words.specs.Command.{Command, Make, Equiv, Cert, Check, Trace, Drive, Gen, Selfrun, Migrate, Merge, Audit, Query, Session}
 use Rattle.razor_base.specs.Faults.{Rose}
 use Rattle.razor_core.specs.declared.ending.Ending.{Ending}
 use Rattle.razor_core.specs.declared.ending.Ending.TheVariants.{Done, No, BadLine as Bad, TooLong, TooMany, ReadFault, WriteFault, Memory}
@@ -155,6 +155,7 @@ cut_unchanged (Migrate table) before after file last h = h
 cut_unchanged (Merge table) before after file last h = h
 cut_unchanged (Audit list) before after file last h = h
 cut_unchanged (Query list box name) before after file last h = h
+cut_unchanged (Session slots sizes script list) before after file last h = h
 
 short_unchanged : (command : Command) (before after : Outside) → WritesNothing (Some command) 7 → StandsShort command before after → Keeps before.written after.written
 short_unchanged (Make method sizes list) before after last h = h
@@ -169,6 +170,7 @@ short_unchanged (Migrate table) before after last h = h
 short_unchanged (Merge table) before after last h = h
 short_unchanged (Audit list) before after last h = h
 short_unchanged (Query list box name) before after last h = h
+short_unchanged (Session slots sizes script list) before after last h = absurd (last refl)
 
 pub unchanged_by : (command : Command) (before after : Outside) (ending : Ending) → Ends command before after ending → WritesNothing (Some command) (status_of ending) → status_of ending ≢ 0 → status_of ending ≢ 1 → status_of ending ≢ 6 →
     Keeps before.written after.written

@@ -5,6 +5,7 @@ use Rattle.filter_reader.specs.FilterList as lists
 use Rattle.filter_reader.specs.FilterList.{FilterList, list_of}
 use Rattle.table_text.specs.Reading as tables
 use Rattle.bank_update.specs.Script as scripts
+use Rattle.edit_session.specs.SessionText as sessions
 use Rattle.table_text.specs.Reading.{table_in_text}
 use Rattle.ternary_words.specs.Table.{Table}
 use Rattle.field_boxes.specs.Classifier.{Interval, Rule}
@@ -12,15 +13,15 @@ use Rattle.filter_reader.specs.ListText.{list_text}
 use Rattle.list_generator.specs.DrawnRules.{generated}
 use Rattle.bit_merge.proofs.Merged.{is_alike, is_fewer, is_tight}
 use Rattle.command_words.specs.Orders.{Wanted}
-use Rattle.command_words.specs.Command.{Command, Method, Arrange, Compile, Expand, Cert, Check, Drive, Equiv, Gen, Make, Migrate, Merge, Selfrun, Sizes, Trace, Audit, Query}
+use Rattle.command_words.specs.Command.{Command, Method, Arrange, Compile, Expand, Cert, Check, Drive, Equiv, Gen, Make, Migrate, Merge, Selfrun, Session, Sizes, Trace, Audit, Query}
 use Rattle.razor_core.specs.Selfrun.{Summarises}
 use Rattle.razor_core.specs.Trace.{answers_text, taken_of}
 use Rattle.razor_core.specs.Cert.{IsCertificateOf, Writes}
 use Rattle.razor_core.specs.Check.{AnswerAlike, Certifies}
 use Rattle.razor_core.specs.Equiv.{DecideAlike, Compares}
-use Rattle.razor_core.specs.Headlines.{Adds, AreAlike, AreEqualLists, IsAnswered, IsArrangedText, IsCertified, IsCompiledText, IsDriven, IsExpandedText, IsMigrated, IsMergedText, IsAudited, IsQueried}
+use Rattle.razor_core.specs.Headlines.{Adds, AreAlike, AreEqualLists, IsAnswered, IsArrangedText, IsCertified, IsCompiledText, IsDriven, IsExpandedText, IsMigrated, IsMergedText, IsAudited, IsEdited, IsQueried}
 use Rattle.razor_core.specs.Make.{IsMade, IsOrderOf}
-use Rattle.razor_core.specs.Inputs.{Input, Value, as_list, as_script, as_table, certificate_input, lines_value, is_too_long, list_input, list_value, script_input, script_value, table_input, table_value, trace_input, text_of_list, text_of_script, text_of_table}
+use Rattle.razor_core.specs.Inputs.{Input, Value, as_list, as_script, as_session, as_table, certificate_input, lines_value, is_too_long, list_input, list_value, script_input, script_value, session_input, session_value, table_input, table_value, trace_input, text_of_list, text_of_script, text_of_session, text_of_table}
 use Rattle.razor_core.specs.Gives.{Gives}
 use Rattle.razor_core.specs.Outcome.{IsTextOf, Outcome}
 use Rattle.razor_core.specs.Outside.{Outside, Tells, bytes_at}
@@ -75,6 +76,16 @@ scripted_by false (Err bad) name stop value h = absurd cc
 
 scripted : (tables : ℕ) (name text : List ℕ) (value : Value) → turn (script_input tables name) text ≡ Ok value → (events : List scripts.Event) × (scripts.script_of tables text ≡ Ok events) × (value ≡ script_value events)
 scripted tables name text value h = scripted_by (is_too_long (text_of_script tables) (length text)) (scripts.script_of tables text) name _ value h
+
+-- a session whose turn passes
+sessioned_by : (long : Bool) (read : Result (List sessions.SessionEvent) sessions.BadLine) (name : List ℕ) (stop : Stop) (value : Value) → (if long then Err stop else stopped_by name (as_session read)) ≡ Ok value →
+    (events : List sessions.SessionEvent) × (read ≡ Ok events) × (value ≡ session_value events)
+sessioned_by true read name stop value h = absurd cc
+sessioned_by false (Ok events) name stop value h = (events, refl, cc)
+sessioned_by false (Err bad) name stop value h = absurd cc
+
+sessioned : (name text : List ℕ) (value : Value) → turn (session_input name) text ≡ Ok value → (events : List sessions.SessionEvent) × (sessions.session_of text ≡ Ok events) × (value ≡ session_value events)
+sessioned name text value h = sessioned_by (is_too_long text_of_session (length text)) (sessions.session_of text) name _ value h
 
 -- the bytes that are told
 pub told : (known : Option (List ℕ)) (text : List ℕ) → known ≡ Some text → IsSome known
@@ -284,3 +295,16 @@ module _ (before after : Outside) (line : List ℕ) where
           lines = ap (λ (o : Outcome). o.text) gives.says;
         },
       )
+
+  pub edited : (slots : ℕ) (sizes : Sizes) (script list first second : List ℕ) → KeepsPromise (Session slots sizes script list) before after line 0 → before.remaining script ≡ Some first → before.remaining list ≡ Some second →
+      Adds before after (IsEdited slots sizes first second)
+  edited slots sizes script list first second is known also =
+      let command : Command = Session slots sizes script list in
+      let done = is.done refl (told (before.remaining script) first known, (told (before.remaining list) second also, tt)) in
+      let one = first_of (turn (session_input script) (bytes_at before script)) (turns_of before (list_input list ∷ [])) done.values done.pass.turns in
+      let two = first_of (turn (list_input list) (bytes_at before list)) (Ok []) one.rest one.others_are in
+      let session = sessioned script first one.value (turn_told before (session_input script) first one.value known one.turned_is) in
+      let rules = listed list second two.value (turn_told before (list_input list) second two.value also two.turned_is) in
+      let values = two_are done.values one.rest two.rest one.value two.value (session_value session.0) (list_value rules.0) one.values_are session.2 two.values_are rules.2 in
+      let gives = subst (λ (vs : List Value). Gives command vs done.outcome) values done.gives in
+      (done.outcome.text, done.written, record { events = session.0; list = rules.0; outcome = done.outcome; session_spelled = session.1; list_spelled = rules.1; edits = gives; lines = refl })

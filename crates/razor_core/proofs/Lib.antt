@@ -2,6 +2,7 @@ pub mod EquivEnding
 pub mod ScriptWords
 pub mod DifferText
 pub mod DriveEnding
+pub mod SessionEnding
 pub mod Ended
 pub mod Endings
 pub mod Tables

@@ -1,6 +1,6 @@
 -- What each command defines for what its inputs come to.
 use Rattle.std.specs.Prelude.{List, ◌∷◌}
-use Rattle.command_words.specs.Command.{Command, Make, Equiv, Cert, Check, Trace, Drive, Gen, Selfrun, Migrate, Merge, Audit, Query}
+use Rattle.command_words.specs.Command.{Command, Make, Equiv, Cert, Check, Trace, Drive, Gen, Selfrun, Migrate, Merge, Audit, Query, Session}
 use Rattle.razor_core.specs.Outcome.{Outcome}
 use Rattle.razor_core.specs.Make.{IsTableOf}
 use Rattle.razor_core.specs.Equiv.{Compares}
@@ -14,7 +14,8 @@ use Rattle.razor_core.specs.Migrate.{Migrates}
 use Rattle.razor_core.specs.Merge.{Merges}
 use Rattle.razor_core.specs.Audit.{Audits}
 use Rattle.razor_core.specs.Query.{Queries}
-use Rattle.razor_core.specs.Inputs.{Value, list_value, table_value, script_value, lines_value, inputs}
+use Rattle.razor_core.specs.Session.{BeginsEdits, Edits}
+use Rattle.razor_core.specs.Inputs.{Value, list_value, table_value, script_value, session_value, lines_value, inputs}
 
 -- the outcome is one that the command defines for these values
 abbrev pub Gives : Command → List Value → Outcome → Type 0
@@ -30,4 +31,10 @@ Gives (Migrate file) (table_value table ∷ values) outcome = Migrates table out
 Gives (Merge file) (table_value table ∷ values) outcome = Merges table outcome
 Gives (Audit file) (list_value list ∷ values) outcome = Audits list.rules outcome
 Gives (Query file box name) (list_value list ∷ values) outcome = Queries box name list.rules outcome
+Gives (Session slots sizes script file) (session_value events ∷ list_value list ∷ values) outcome = Edits slots sizes list.rules events outcome
 Gives command values outcome = ⊥
+
+-- the outcome is one that the command defines, or begins with, for these values: a session's may stop behind its first commands
+abbrev pub Begins : Command → List Value → Outcome → Type 0
+Begins (Session slots sizes script file) (session_value events ∷ list_value list ∷ values) outcome = BeginsEdits slots sizes list.rules events outcome
+Begins command values outcome = Gives command values outcome

@@ -5,7 +5,7 @@ use Rattle.std.specs.List.{concat}
 use Rattle.bank_update.specs.Machine.{unsettled}
 use Rattle.bank_update.specs.Runs.{session}
 use Rattle.bank_update.specs.Script.{Event, script_of}
-use Rattle.command_words.specs.Command.{Arrange}
+use Rattle.command_words.specs.Command.{Arrange, Sizes}
 use Rattle.command_words.specs.Orders.{Wanted}
 use Rattle.field_boxes.specs.Classifier.{Interval, source}
 use Rattle.field_boxes.specs.Fields.{IsHeader, stated}
@@ -23,6 +23,9 @@ use Rattle.razor_core.specs.Inputs.{table_input}
 use Rattle.razor_core.specs.Drive.{value_of_table}
 use Rattle.razor_core.specs.Merge.{IsMergedTable}
 use Rattle.razor_core.specs.Make.{IsOrderOf}
+use Rattle.edit_session.specs.SessionText.{SessionEvent, session_of}
+use Rattle.razor_core.specs.Outcome.{Outcome}
+use Rattle.razor_core.specs.Session.{Edits}
 use Rattle.razor_core.specs.Outside.{Outside}
 use Rattle.razor_core.specs.Trace.{answers_text, taken_of}
 use Rattle.razor_core.specs.Turns.{turns_of}
@@ -142,6 +145,17 @@ pub record IsQueried (box : List Interval) (name : Option (List ℕ)) (list_byte
   pub list : FilterList
   pub spelled : list_of list_bytes ≡ Ok list
   pub answer : AreAnswered box name list.rules written
+
+-- the output is what the commands of the session print in turn over the list, with an empty memory of so many slots that
+-- never fails
+pub record IsEdited (slots : ℕ) (sizes : Sizes) (session_bytes list_bytes written : List ℕ) : Type 0 where
+  pub events : List SessionEvent
+  pub list : FilterList
+  pub outcome : Outcome
+  pub session_spelled : session_of session_bytes ≡ Ok events
+  pub list_spelled : list_of list_bytes ≡ Ok list
+  pub edits : Edits slots sizes list.rules events outcome
+  pub lines : written ≡ outcome.text
 
 -- what was added to the output is so
 abbrev pub Adds : Outside → Outside → (List ℕ → Type 0) → Type 0

@@ -3,17 +3,19 @@ use Rattle.std.specs.Prelude.{ℕ, Bool, false, nat_lt, List, [], ◌∷◌, len
 use Rattle.filter_reader.specs.FilterList as lists
 use Rattle.table_text.specs.Reading as tables
 use Rattle.bank_update.specs.Script as scripts
+use Rattle.edit_session.specs.SessionText as sessions
 use Rattle.ternary_words.specs.Table.{Table}
-use Rattle.command_words.specs.Command.{Command, Make, Equiv, Cert, Check, Trace, Drive, Gen, Selfrun, Migrate, Merge, Audit, Query}
+use Rattle.command_words.specs.Command.{Command, Make, Equiv, Cert, Check, Trace, Drive, Gen, Selfrun, Migrate, Merge, Audit, Query, Session}
 use Rattle.razor_core.specs.declared.line_reason.LineReason.{LineReason}
-use Rattle.razor_core.specs.declared.line_reason.LineReason.TheVariants.{OfList, OfTable, OfScript}
+use Rattle.razor_core.specs.declared.line_reason.LineReason.TheVariants.{OfList, OfTable, OfScript, OfSession}
 
--- the kinds of texts: lists, tables and scripts, which name so many tables, are read whole; traces and certificates are
--- taken line by line
+-- the kinds of texts: lists, tables, scripts, which name so many tables, and sessions are read whole; traces and
+-- certificates are taken line by line
 pub data Kind : Type 0 where
   text_of_list : Kind
   text_of_table : Kind
   text_of_script : ℕ → Kind
+  text_of_session : Kind
   text_of_trace : Kind
   text_of_certificate : Kind
 
@@ -38,6 +40,10 @@ table_input name = record { name = name; kind = text_of_table }
 abbrev pub script_input : ℕ → List ℕ → Input
 script_input tables name = record { name = name; kind = text_of_script tables }
 
+-- a session under this name
+abbrev pub session_input : List ℕ → Input
+session_input name = record { name = name; kind = text_of_session }
+
 -- a trace under this name
 abbrev pub trace_input : List ℕ → Input
 trace_input name = record { name = name; kind = text_of_trace }
@@ -60,6 +66,7 @@ inputs (Migrate table) = table_input table ∷ []
 inputs (Merge table) = table_input table ∷ []
 inputs (Audit list) = list_input list ∷ []
 inputs (Query list box name) = list_input list ∷ []
+inputs (Session slots sizes script list) = session_input script ∷ list_input list ∷ []
 
 -- the inputs that a command reads to their end where its answer is yes, or no: a certificate that is wrong needn't be
 abbrev pub read_by : Command → Bool → List Input
@@ -71,6 +78,7 @@ abbrev pub most_bytes : Kind → ℕ
 most_bytes text_of_list = 16777216
 most_bytes text_of_table = 134217728
 most_bytes (text_of_script tables) = 1048576
+most_bytes text_of_session = 1048576
 most_bytes text_of_trace = 67108864
 most_bytes text_of_certificate = 268435456
 
@@ -79,6 +87,7 @@ abbrev pub is_too_long : Kind → ℕ → Bool
 is_too_long text_of_list bytes = nat_lt (most_bytes text_of_list) bytes
 is_too_long text_of_table bytes = nat_lt (most_bytes text_of_table) bytes
 is_too_long (text_of_script tables) bytes = nat_lt (most_bytes (text_of_script tables)) bytes
+is_too_long text_of_session bytes = nat_lt (most_bytes text_of_session) bytes
 is_too_long text_of_trace bytes = false
 is_too_long text_of_certificate bytes = false
 
@@ -87,6 +96,7 @@ pub data Value : Type 0 where
   list_value : lists.FilterList → Value
   table_value : Table → Value
   script_value : List scripts.Event → Value
+  session_value : List sessions.SessionEvent → Value
   lines_value : List ℕ → Value
 
 -- a bad line of a text, counted from 1, and its first reason
@@ -109,10 +119,16 @@ abbrev pub as_script : Result (List scripts.Event) scripts.BadLine → Result Va
 as_script (Ok events) = Ok (script_value events)
 as_script (Err bad) = Err (record { line = bad.line; reason = OfScript bad.reason })
 
+-- a session, or its first bad line
+abbrev pub as_session : Result (List sessions.SessionEvent) sessions.BadLine → Result Value BadLine
+as_session (Ok events) = Ok (session_value events)
+as_session (Err bad) = Err (record { line = bad.line; reason = OfSession bad.reason })
+
 -- what a text spells, or its first bad line
 abbrev pub spelled_by : Kind → List ℕ → Result Value BadLine
 spelled_by text_of_list text = as_list (lists.list_of text)
 spelled_by text_of_table text = as_table (tables.table_in_text text)
 spelled_by (text_of_script tables) text = as_script (scripts.script_of tables text)
+spelled_by text_of_session text = as_session (sessions.session_of text)
 spelled_by text_of_trace text = Ok (lines_value text)
 spelled_by text_of_certificate text = Ok (lines_value text)

@@ -7,10 +7,12 @@ use Rattle.table_text.specs.declared.error.TableReason.{TableReason}
 use Rattle.table_text.specs.declared.error.TableReason.TheVariants.{FirstLine, WordLength, Trit, Padding, Decision, Count, FieldForm, OutsideMask}
 use Rattle.bank_update.specs.declared.reason.ScriptReason.{ScriptReason}
 use Rattle.bank_update.specs.declared.reason.ScriptReason.TheVariants.{Command, Arguments}
+use Rattle.edit_session.specs.declared.reason.SessionReason.{SessionReason}
+use Rattle.edit_session.specs.declared.reason.SessionReason.TheVariants as sessions
 use Rattle.trace_run.specs.declared.reason.TraceReason.{TraceReason}
 use Rattle.trace_run.specs.declared.reason.TraceReason.TheVariants.{Short, Digits, Large}
 use Rattle.razor_core.specs.declared.line_reason.LineReason.{LineReason}
-use Rattle.razor_core.specs.declared.line_reason.LineReason.TheVariants.{NotPrefix, OfList, OfTable, OfScript, OfTrace}
+use Rattle.razor_core.specs.declared.line_reason.LineReason.TheVariants.{NotPrefix, OfList, OfTable, OfScript, OfSession, OfTrace}
 
 -- of a list
 abbrev pub list_reason_text : Reason → List ℕ
@@ -46,6 +48,12 @@ abbrev pub script_reason_text : ScriptReason → List ℕ
 script_reason_text Command = codes "unknown command"
 script_reason_text Arguments = codes "arguments"
 
+-- of a session
+abbrev pub session_reason_text : SessionReason → List ℕ
+session_reason_text sessions.Command = codes "unknown command"
+session_reason_text sessions.Arguments = codes "arguments"
+session_reason_text sessions.Rule = codes "rule"
+
 -- of a trace
 abbrev pub trace_reason_text : TraceReason → List ℕ
 trace_reason_text Short = codes "too few columns"
@@ -58,6 +66,7 @@ reason_text (OfList reason) = list_reason_text reason
 reason_text (OfTable reason) = table_reason_text reason
 reason_text NotPrefix = codes "not a prefix word"
 reason_text (OfScript reason) = script_reason_text reason
+reason_text (OfSession reason) = session_reason_text reason
 reason_text (OfTrace reason) = trace_reason_text reason
 
 -- how many entries a table states, and how many were found
@@ -81,4 +90,5 @@ counts_text (OfList reason) = []
 counts_text (OfTable reason) = table_counts_text reason
 counts_text NotPrefix = []
 counts_text (OfScript reason) = []
+counts_text (OfSession reason) = []
 counts_text (OfTrace reason) = []

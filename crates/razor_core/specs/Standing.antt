@@ -2,11 +2,11 @@
 use Rattle.std.specs.Prelude.{◌≡◌, ◌≢◌, ℕ, ◌⊎◌, List, Option, Some, Ok, Err}
 use Rattle.std.specs.Io.KnownBytes.{Appends, Keeps}
 use Rattle.razor_base.specs.Output.{AppendsFront}
-use Rattle.command_words.specs.Command.{Command, Cert, Check, Trace, Drive}
+use Rattle.command_words.specs.Command.{Command, Cert, Check, Trace, Drive, Session}
 use Rattle.razor_core.specs.Inputs.{Value, inputs}
 use Rattle.razor_core.specs.Outside.{Outside, Tells}
 use Rattle.razor_core.specs.Outcome.{Outcome}
-use Rattle.razor_core.specs.Gives.{Gives}
+use Rattle.razor_core.specs.Gives.{Begins, Gives}
 use Rattle.razor_core.specs.Turns.{Stop, turns_of}
 use Rattle.razor_core.specs.Stopping.{IsFree}
 use Rattle.razor_core.specs.Trace.{AnswersCut}
@@ -22,6 +22,7 @@ abbrev pub WritesNothing : Option Command → ℕ → Type 0
 WritesNothing (Some (Trace table trace)) status = ⊥
 WritesNothing (Some (Cert list table)) status = status ≢ 7
 WritesNothing (Some (Drive slots script tables)) status = status ≢ 7
+WritesNothing (Some (Session slots sizes script list)) status = status ≢ 7
 WritesNothing command status = Unit {0}
 
 -- what was written of what the command defines for these values, where it is ended later
@@ -40,7 +41,7 @@ pub record IsCutOff (command : Command) (before after : Outside) : Type 0 where
   pub outcome : Outcome
   pub turns : turns_of before (inputs command) ≡ Ok values
   pub free : IsFree command values ⊎ WritesInTurn command
-  pub gives : Gives command values outcome
+  pub gives : Begins command values outcome
   pub written : AppendsFront before.written after.written outcome.text
 
 -- what was written where a read under the file word failed, and that no line had ended the command before
@@ -54,4 +55,5 @@ abbrev pub StandsShort : Command → Outside → Outside → Type 0
 StandsShort (Trace table trace) before after = Tells before (Trace table trace) → Keeps before.written after.written ⊎ IsCutOff (Trace table trace) before after
 StandsShort (Cert list table) before after = Tells before (Cert list table) → Keeps before.written after.written ⊎ IsCutOff (Cert list table) before after
 StandsShort (Drive slots script tables) before after = Tells before (Drive slots script tables) → Keeps before.written after.written ⊎ IsCutOff (Drive slots script tables) before after
+StandsShort (Session slots sizes script list) before after = Tells before (Session slots sizes script list) → Keeps before.written after.written ⊎ IsCutOff (Session slots sizes script list) before after
 StandsShort command before after = Keeps before.written after.written

@@ -1,9 +1,11 @@
 -- What taking the turn of one input comes to.
-use Rattle.std.specs.Prelude.{nat_lt, ◌≡◌, ℕ, List, [], Option, Some, IfSome, Ok, Err}
+use Rattle.std.specs.Prelude.{nat_lt, ◌≡◌, ℕ, List, [], Option, Some, IfSome, IsTrue, All, Ok, Err}
 use Rattle.razor_base.specs.declared.read.ReadError.{ReadError}
 use Rattle.razor_base.specs.declared.read.ReadError.TheVariants as reads
 use Rattle.filter_reader.specs.declared.list.RuleList.{RuleList}
+use Rattle.filter_reader.specs.FirstSeen.{first_seen}
 use Rattle.filter_reader.specs.Lists.{filter_list}
+use Rattle.table_text.specs.Names.{is_name}
 use Rattle.ternary_words.specs.declared.table.Table.{Table}
 use Rattle.ternary_words.specs.Views.{table_of}
 use Rattle.razor_core.specs.declared.ending.Ending.{Ending}
@@ -19,6 +21,11 @@ value_of list = list_value (filter_list list)
 -- the value of a table of the code
 abbrev pub table_value_of : Table → Value
 table_value_of table = table_value (table_of table)
+
+-- the names of a list that was read: each is a name of a table, and they stand as they are first seen
+pub record IsListRead (list : RuleList) : Type 0 where
+  pub spelled : All (λ name. IsTrue (is_name name)) list.names
+  pub numbers : list.names ≡ first_seen (filter_list list).rules
 
 -- the turn passed with this value, and the input was read to its end, where the desk tells it
 abbrev pub TakesTurn : Input → Option (List ℕ) → Option (List ℕ) → Value → Type 0

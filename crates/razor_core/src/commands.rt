@@ -24,6 +24,7 @@ mod merge;
 mod migrate;
 mod query;
 mod selfrun;
+mod session;
 mod trace;
 
 use crate::ending::Ending;
@@ -40,6 +41,7 @@ use migrate::migrate_table;
 use query::query_list;
 use razor_base::{Desk, Sink};
 use selfrun::run_load;
+use session::run_session;
 use std::alloc::Global;
 use trace::answer_trace;
 
@@ -73,5 +75,10 @@ pub fn run<'a, D: Desk, K: Sink>(
         Command::Merge(file) => merge_table(alloc, file, desk, out),
         Command::Audit(file) => audit_list(alloc, file, desk, out),
         Command::Query(question) => query_list(alloc, question, desk, out),
+        Command::Session {
+            slots,
+            sizes,
+            files,
+        } => run_session(alloc, slots, sizes, files, desk, out),
     }
 }

@@ -1,3 +1,4 @@
+//! How a command ends, and its status.
 ghost use Rattle.std.specs.Prelude.{◌≡◌};
 ghost use Rattle.razor_core.specs.Ending.{status_of};
 

@@ -2,9 +2,9 @@
 //! nothing.
 ghost use Rattle.std.specs.Prelude.{◌≡◌, ℕ, List, Option, Some};
 ghost use Rattle.field_boxes.specs.Classifier.{Interval};
-ghost use Rattle.command_words.specs.Command.{Arrange, Audit, Cert, Check, Compile, Drive, Equiv, Expand, Gen, Make, Merge, Migrate, Query, Selfrun, Sizes, Trace};
+ghost use Rattle.command_words.specs.Command.{Arrange, Audit, Cert, Check, Compile, Drive, Equiv, Expand, Gen, Make, Merge, Migrate, Query, Selfrun, Session, Sizes, Trace};
 ghost use Rattle.command_words.specs.Orders.{Wanted};
-ghost use Rattle.razor_core.specs.Headlines.{Adds, AreAlike, AreEqualLists, IsAnswered, IsArrangedText, IsAudited, IsCertified, IsCompiledText, IsDriven, IsExpandedText, IsMergedText, IsMigrated, IsQueried};
+ghost use Rattle.razor_core.specs.Headlines.{Adds, AreAlike, AreEqualLists, IsAnswered, IsArrangedText, IsAudited, IsCertified, IsCompiledText, IsDriven, IsEdited, IsExpandedText, IsMergedText, IsMigrated, IsQueried};
 ghost use Rattle.razor_core.specs.Outside.{Outside, Tells};
 ghost use Rattle.razor_core.specs.Promise.{KeepsPromise};
 ghost use Rattle.razor_core.specs.Selfrun.{Summarises};
@@ -67,6 +67,13 @@ pub fn scripts_print_their_sessions()
     ensures { (before after : Outside) (line : List ℕ) (slots : ℕ) (script : List ℕ) (tables : List (List ℕ)) (text : List ℕ) →
         KeepsPromise (Drive slots script tables) before after line 0 → Tells before (Drive slots script tables) → before.remaining script ≡ Some text →
         Adds before after (IsDriven slots before tables text) }
+{}
+
+/// What `session` has written is the line of each command of the session, run over the list.
+pub fn sessions_print_their_runs()
+    ensures { (before after : Outside) (line : List ℕ) (slots : ℕ) (sizes : Sizes) (script list first second : List ℕ) →
+        KeepsPromise (Session slots sizes script list) before after line 0 → before.remaining script ≡ Some first → before.remaining list ≡ Some second →
+        Adds before after (IsEdited slots sizes first second) }
 {}
 
 /// What `migrate` has written spells the table that was read, compactly.

@@ -1,4 +1,6 @@
+//! What is wrong with a line of any input.
 use bank_update::ScriptReason;
+use edit_session::SessionReason;
 use filter_reader::Reason;
 use table_text::TableReason;
 use trace_run::TraceReason;
@@ -11,5 +13,6 @@ pub enum LineReason {
     /// The word of a table's entry isn't a prefix in each field.
     NotPrefix,
     OfScript(ScriptReason),
+    OfSession(SessionReason),
     OfTrace(TraceReason),
 }

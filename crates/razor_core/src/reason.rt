@@ -1,9 +1,10 @@
 //! What is wrong with a line of an input, in words.
 ghost use Rattle.std.specs.Prelude.{◌≡◌, [], MatchOption};
-ghost use Rattle.razor_core.specs.Reasons.{counts_text, list_reason_text, reason_text, script_reason_text, table_counts_text, table_reason_text, trace_reason_text, two_counts};
+ghost use Rattle.razor_core.specs.Reasons.{counts_text, list_reason_text, reason_text, script_reason_text, session_reason_text, table_counts_text, table_reason_text, trace_reason_text, two_counts};
 
 use crate::line_reason::LineReason;
 use bank_update::ScriptReason;
+use edit_session::SessionReason;
 use filter_reader::Reason;
 use table_text::TableReason;
 use trace_run::TraceReason;
@@ -17,6 +18,7 @@ pub fn reason_words(reason: LineReason) -> &'static str
         LineReason::OfTable(reason) => table_words(reason),
         LineReason::NotPrefix => "not a prefix word",
         LineReason::OfScript(reason) => script_words(reason),
+        LineReason::OfSession(reason) => session_words(reason),
         LineReason::OfTrace(reason) => trace_words(reason),
     }
 }
@@ -29,6 +31,7 @@ pub fn counts(reason: LineReason) -> Option<(u32, u64)>
         LineReason::OfList(_)
         | LineReason::NotPrefix
         | LineReason::OfScript(_)
+        | LineReason::OfSession(_)
         | LineReason::OfTrace(_) => None,
         LineReason::OfTable(reason) => table_counts(reason),
     }
@@ -72,6 +75,17 @@ fn script_words(reason: ScriptReason) -> &'static str
     match reason {
         ScriptReason::Command => "unknown command",
         ScriptReason::Arguments => "arguments",
+    }
+}
+
+/// What is wrong with a line of a session, in words.
+fn session_words(reason: SessionReason) -> &'static str
+    ensures { result.now ≡ session_reason_text reason }
+{
+    match reason {
+        SessionReason::Command => "unknown command",
+        SessionReason::Arguments => "arguments",
+        SessionReason::Rule => "rule",
     }
 }
 

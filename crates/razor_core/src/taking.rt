@@ -1,5 +1,5 @@
 //! Taking the turn of an input that is read whole.
-ghost use Rattle.std.specs.Prelude.{◌≡◌, ◌≢◌, ◌≤◌, ℕ, List, IfOk, MatchResult, Ok};
+ghost use Rattle.std.specs.Prelude.{◌≡◌, ◌≢◌, ◌≤◌, ℕ, List, IfOk, MatchResult, Ok, length};
 ghost use Rattle.std.specs.Io.KnownBytes.{Keeps};
 ghost use Rattle.razor_core.specs.Inputs.{Kind, Value, input_of, most_bytes, spelled_by};
 ghost use Rattle.razor_core.specs.Taking.{EndsTurn, IsFaultOf, IsReadWhole, IsUnspelled, TakesTurn};
@@ -34,6 +34,7 @@ pub trait WholeText {
         file: &'a str,
         text: &[u8],
     ) -> Result<Self::Spelled, Ending<'a>>
+        requires { length text.now ≤ most_bytes (kind self.now) }
         ensures spelled { MatchResult result
             (λ spelled. spelled_by (kind self.now) text.now ≡ Ok (value spelled))
             (λ ending. IsUnspelled (kind self.now) file.now text.now ending) }

@@ -1,14 +1,16 @@
-//! The texts that are read whole: lists, tables and scripts.
-ghost use Rattle.std.specs.Prelude.{ℕ, List, All, IsTrue, refl};
+//! The texts that are read whole: lists, tables, scripts and sessions.
+ghost use Rattle.std.specs.Prelude.{◌≤◌, ◌*◌, ℕ, List, All, IsTrue, count_by, refl};
 ghost use Rattle.bank_update.specs.Script.{IsWithin};
+ghost use Rattle.edit_session.specs.SessionText.{is_add};
 ghost use Rattle.table_text.specs.Names.{is_name};
-ghost use Rattle.razor_core.specs.Inputs.{script_value, text_of_list, text_of_script, text_of_table};
-ghost use Rattle.razor_core.specs.Taking.{table_value_of, value_of};
+ghost use Rattle.razor_core.specs.Inputs.{script_value, session_value, text_of_list, text_of_script, text_of_session, text_of_table};
+ghost use Rattle.razor_core.specs.Taking.{IsListRead, table_value_of, value_of};
 
 use crate::ending::Ending;
 use crate::line_reason::LineReason;
 use crate::taking::WholeText;
 use bank_update::{Script, ScriptError, read_script};
+use edit_session::{Session, SessionError, read_session};
 use filter_reader::{ListError, RuleList, read_list};
 use std::alloc::Global;
 use table_text::{TableError, read_table};
@@ -20,7 +22,7 @@ const MOST_LIST_BYTES: u64 = 16_777_216;
 /// The greatest number of bytes of a table.
 const MOST_TABLE_BYTES: u64 = 134_217_728;
 
-/// The greatest number of bytes of a script.
+/// The greatest number of bytes of a script, and of a session.
 const MOST_SCRIPT_BYTES: u64 = 1_048_576;
 
 /// Lists.
@@ -37,6 +39,10 @@ pub struct ScriptText {
     pub tables: u32,
 }
 
+/// Editing sessions.
+#[derive(Clone, Copy)]
+pub struct SessionText;
+
 impl WholeText for ListText {
     type Spelled = RuleList;
 
@@ -44,7 +50,7 @@ impl WholeText for ListText {
 
     ghost value = { value_of };
 
-    ghost holds = { λ text list. All (λ name. IsTrue (is_name name)) list.names };
+    ghost holds = { λ text list. IsListRead list };
 
     fn most(&self) -> u64 {
         MOST_LIST_BYTES
@@ -115,6 +121,34 @@ impl WholeText for ScriptText {
                 reason: LineReason::OfScript(reason),
             }),
             Err(ScriptError::Memory) => Err(Ending::Memory),
+        }
+    }
+
+    ghost whole = { λ text bytes. refl };
+}
+
+impl WholeText for SessionText {
+    type Spelled = Session;
+
+    ghost kind = { λ text. text_of_session };
+
+    ghost value = { λ session. session_value session };
+
+    ghost holds = { λ text session. 40 * count_by is_add session ≤ 1048576 };
+
+    fn most(&self) -> u64 {
+        MOST_SCRIPT_BYTES
+    }
+
+    fn read<'a>(&self, alloc: Global, file: &'a str, text: &[u8]) -> Result<Session, Ending<'a>> {
+        match read_session(alloc, text) {
+            Ok(session) => Ok(session),
+            Err(SessionError::BadLine { line, reason }) => Err(Ending::BadLine {
+                file,
+                line,
+                reason: LineReason::OfSession(reason),
+            }),
+            Err(SessionError::Memory) => Err(Ending::Memory),
         }
     }
 

@@ -1,3 +1,4 @@
+//! The top call: words in, status out.
 ghost use Rattle.razor_core.specs.Outside.{seen};
 ghost use Rattle.razor_core.specs.Says.{Says};
 ghost use Rattle.razor_core.specs.Promise.{Promise};

@@ -1,3 +1,4 @@
+//! What a test calls the program on.
 ghost use Rattle.std.specs.Prelude.{◌≡◌};
 
 /// What a call is tried on: the list under `in`, as many bytes as a read gives at most, and the numbers of the read,

@@ -1,3 +1,5 @@
+//! The tests of the top call, a file for each command and for what all share.
+
 mod arranging;
 mod auditing;
 mod certifying;
@@ -6,6 +8,7 @@ mod comparing;
 mod compiling;
 mod counted;
 mod crossing;
+mod editing;
 mod faults;
 mod generating;
 mod limits;
@@ -53,7 +56,7 @@ const WEB_TABLE: &[u8] =
 
 /// The usage text.
 const USAGE: &[u8] =
-    b"usage: razor COMMAND\n  expand [--limit N] [--slot W] LIST\n  compile [--limit N] [--slot W] LIST\n  equiv A B\n  cert LIST TABLE\n  check LIST TABLE CERT\n  trace TABLE TRACE\n  drive --slots N SCRIPT TABLE ..\n  gen SEED N\n  selfrun SEED N\n  migrate TABLE\n  arrange [--order P] [--limit N] [--slot W] LIST\n  merge TABLE\n  audit LIST\n  query LIST S D SP DP P DECISION\n";
+    b"usage: razor COMMAND\n  expand [--limit N] [--slot W] LIST\n  compile [--limit N] [--slot W] LIST\n  equiv A B\n  cert LIST TABLE\n  check LIST TABLE CERT\n  trace TABLE TRACE\n  drive --slots N SCRIPT TABLE ..\n  gen SEED N\n  selfrun SEED N\n  migrate TABLE\n  arrange [--order P] [--limit N] [--slot W] LIST\n  merge TABLE\n  audit LIST\n  query LIST S D SP DP P DECISION\n  session --slots N [--limit N] [--slot W] SCRIPT LIST\n";
 
 /// How a call ended, with what it wrote and said.
 #[derive(Drop)]

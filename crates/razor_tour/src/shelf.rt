@@ -6,11 +6,12 @@ use razor_base::{Desk, MemDesk, Memory, read_all};
 use std::alloc::Global;
 
 /// The files in `data/`.
-const NAMES: [&str; 7] = [
+const NAMES: [&str; 8] = [
     "lab.list",
     "office.list",
     "lab.trace",
     "swap.script",
+    "edit.script",
     "old.table",
     "hosts.table",
     "edge.list",

@@ -15,7 +15,7 @@ pub struct Step {
 }
 
 /// Every command.
-pub const STEPS: [Step; 17] = [
+pub const STEPS: [Step; 18] = [
     Step {
         words: &["compile", "lab.list"],
         file: Some("lab.table"),
@@ -57,6 +57,10 @@ pub const STEPS: [Step; 17] = [
             "lab.table",
             "office.table",
         ],
+        file: None,
+    },
+    Step {
+        words: &["session", "--slots", "8", "edit.script", "office.list"],
         file: None,
     },
     Step {

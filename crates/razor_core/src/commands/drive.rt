@@ -45,7 +45,7 @@ fn take_tables<'a, D: Desk>(
 }
 
 /// The ending of a command whose script ended so.
-fn drive_ended<'a>(ended: Result<u64, DriveError>) -> Ending<'a>
+pub(super) fn drive_ended<'a>(ended: Result<u64, DriveError>) -> Ending<'a>
     ensures { IsEndOfDrive ended result }
 {
     match ended {

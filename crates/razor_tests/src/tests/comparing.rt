@@ -1,3 +1,4 @@
+//! Tests of `equiv`.
 use super::{ANY_TCP, ROOM, check};
 use crate::setting::calm;
 use razor_base::{MemDesk, MemSink};

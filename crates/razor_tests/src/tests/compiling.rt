@@ -1,3 +1,4 @@
+//! Tests of `compile`.
 use super::{ANY_TCP, ONE_RANGE, RANGES, check};
 use crate::setting::calm;
 use std::process::Abort;

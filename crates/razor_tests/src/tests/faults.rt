@@ -1,3 +1,4 @@
+//! Tests of failing reads and writes.
 use super::{ROOM, WEB, WEB_TABLE, call};
 use crate::setting::{Setting, calm};
 use razor_base::{MemDesk, MemSink};

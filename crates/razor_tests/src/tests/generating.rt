@@ -1,3 +1,4 @@
+//! Tests of `gen`, and of lists that it draws.
 use super::{call, check};
 use crate::setting::calm;
 use std::test::Fail;

@@ -1,3 +1,4 @@
+//! Tests at the limits of texts.
 use super::{WEB, check};
 use crate::setting::{Setting, calm};
 use std::test::Fail;

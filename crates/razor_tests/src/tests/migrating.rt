@@ -1,3 +1,4 @@
+//! Tests of `migrate`.
 use super::check;
 use crate::setting::calm;
 use std::process::Abort;

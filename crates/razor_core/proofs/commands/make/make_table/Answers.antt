@@ -47,7 +47,7 @@ returns-in-Ok-write_table-clause-ends g c =
     let flagged = c.in-Ok.list.flagged in
     let order = c.in-Ok-make_by.made.order in
     let line = made_line (method_seen c.args.method) order rules flagged in
-    let text : IsTextOf table (table_text table) = record { written = refl; spells = table-read c.in-Ok-make_by.made.table (subst AreSpelled (sym c.in-Ok-make_by.ensures.names) c.in-Ok.ensures.holds) } in
+    let text : IsTextOf table (table_text table) = record { written = refl; spells = table-read c.in-Ok-make_by.made.table (subst AreSpelled (sym c.in-Ok-make_by.ensures.names) c.in-Ok.ensures.holds.spelled) } in
     let made : Outcome = record { yes = true; text = table_text table; line = line } in (
       (order, rules, flagged, c.summary.ensures),
       λ tells. subst (IsDone command before after true) (sym c.summary.ensures)
@@ -66,7 +66,7 @@ returns-clause-ends g c =
     let value = value_of c.in-Ok.list in
     let order = c.in-Ok-make_by.made.order in
     let table = table_of c.in-Ok-make_by.made.table in
-    let text : IsTextOf table (table_text table) = record { written = refl; spells = table-read c.in-Ok-make_by.made.table (subst AreSpelled (sym c.in-Ok-make_by.ensures.names) c.in-Ok.ensures.holds) } in
+    let text : IsTextOf table (table_text table) = record { written = refl; spells = table-read c.in-Ok-make_by.made.table (subst AreSpelled (sym c.in-Ok-make_by.ensures.names) c.in-Ok.ensures.holds.spelled) } in
     let made : Outcome = record { yes = true; text = table_text table; line = made_line (method_seen c.args.method) order (length (filter_list c.in-Ok.list).rules) c.in-Ok.list.flagged } in
     cut_off_ends command before after (value ∷ []) made (passed_taken (list_input file) (before.remaining file) (after.remaining file) value c.in-Ok.ensures.turn, tt)
     (inl (make_free (method_seen c.args.method) (sizes_of c.args.sizes) file (filter_list c.in-Ok.list) c.in-Ok-make_by.ensures.room))

@@ -1,0 +1,70 @@
+//! `session`: a list that is edited, and whose tables are swapped into a memory.
+ghost use Rattle.std.specs.Prelude.{◌≡◌, ◌≢◌, ◌≤◌, ◌*◌, ℕ, List, count_by};
+ghost use Rattle.std.specs.Io.KnownBytes.{Keeps};
+ghost use Rattle.filter_reader.specs.FirstSeen.{first_seen};
+ghost use Rattle.filter_reader.specs.Lists.{filter_list};
+ghost use Rattle.command_words.specs.Command.{Session};
+ghost use Rattle.command_words.specs.Views.{sizes_of};
+ghost use Rattle.edit_session.specs.SessionText.{is_add};
+ghost use Rattle.razor_core.specs.Ending.{Ends};
+ghost use Rattle.razor_core.specs.Outside.{seen};
+ghost use Rattle.razor_core.specs.Session.{IsEndOfSession};
+
+use crate::commands::drive::drive_ended;
+use crate::ending::Ending;
+use crate::taking::take;
+use crate::texts::{ListText, SessionText};
+use command_words::{Sizes, Slots, TwoFiles};
+use edit_session::{Editor, session_on};
+use filter_reader::RuleList;
+use razor_base::{Desk, Sink};
+use std::alloc::Global;
+use tcam_sim::Bank;
+
+/// Runs the session over the list and an empty memory of so many slots, and says how the command ends.
+fn run_over<'a, K: Sink>(
+    alloc: Global,
+    slots: Slots,
+    sizes: Sizes,
+    session: &edit_session::Session,
+    list: RuleList,
+    out: &mut K,
+) -> Ending<'a>
+    requires few { 40 * count_by is_add session.now ≤ 1048576 }
+    requires names { list.names ≡ first_seen (filter_list list).rules }
+    ensures { IsEndOfSession slots.count (sizes_of sizes) (filter_list list).rules session.now (K.written out.old) (K.written out.new) (K.faults out.old) (K.faults out.new) result }
+{
+    let bank = match Bank::new(alloc, slots.count) {
+        Ok(bank) => bank,
+        Err(_) => return Ending::Memory,
+    };
+    let mut editor = Editor::new(alloc, list, sizes.slot, sizes.limit, bank);
+    let ended = session_on(alloc, session, &mut editor, out);
+    drive_ended(ended)
+}
+
+/// Writes the line of each command of the session, run over the list and a memory of so many slots.
+pub fn run_session<'a, D: Desk, K: Sink>(
+    alloc: Global,
+    slots: Slots,
+    sizes: Sizes,
+    files: TwoFiles<'a>,
+    desk: &mut D,
+    out: &mut K,
+) -> Ending<'a>
+    ensures ends { Ends (Session slots.count (sizes_of sizes) files.entry.first.now files.entry.second.now)
+        (seen D.remaining D.faults K.written K.faults desk.old out.old)
+        (seen D.remaining D.faults K.written K.faults desk.new out.new)
+        result }
+    ensures others { (other : List ℕ) → other ≢ files.entry.first.now → other ≢ files.entry.second.now → Keeps (D.remaining desk.old other) (D.remaining desk.new other) }
+{
+    let session = match take(alloc, &SessionText, files.first, desk) {
+        Ok(session) => session,
+        Err(ending) => return ending,
+    };
+    let list = match take(alloc, &ListText, files.second, desk) {
+        Ok(list) => list,
+        Err(ending) => return ending,
+    };
+    run_over(alloc, slots, sizes, &session, list, out)
+}

@@ -1,0 +1,96 @@
+//! Editing sessions over a list.
+use super::{ANY_TCP, ROOM};
+use crate::setting::{Setting, calm};
+use razor_base::{MemDesk, MemSink};
+use razor_core::{Words, razor};
+use std::process::Abort;
+use std::test::Fail;
+
+/// A swap to the list's table, a rule in front of the others, and a swap to the table with it; then the rule goes.
+const EDITING: &[u8] =
+    b"commit\nstep\nlook 0 0 0 0 6\nadd 1 @0.0.0.0/0\t0.0.0.0/0\t0 : 65535\t0 : 65535\t0x06/0xFF deny\nlook 0 0 0 0 6\ncommit\nlook 0 0 0 0 6\ncommit\nstep\nlook 0 0 0 0 6\nstep\nlook 0 0 0 0 6\ndrop 5\ndrop 1\ncommit\n";
+
+const EDITED: &[u8] =
+    b"begun 1\nstage 1 of 1\naccept\nrules 2\naccept\nbegun 2\naccept\nbusy\nstage 1 of 2\naccept\nstage 2 of 2\ndeny\nno place 2\nrules 1\nbegun 2\n";
+
+/// Runs the session over the list of one rule in four slots, with this limit, and compares the status, the output
+/// and the line on standard error.
+fn check_session(
+    rt: &(impl Abort + AllocGlobal),
+    limit: &str,
+    setting: Setting<'_>,
+    room: usize,
+    status: u8,
+    out: &[u8],
+    err: &[u8],
+) -> Result<(), Fail> {
+    let mut words = Words::new(rt.alloc());
+    for word in ["session", "--slots", "4", "--limit", limit, "s", "in"] {
+        words.push(word)?;
+    }
+    let mut desk = MemDesk::new(rt.alloc());
+    desk.add("s", setting.list)?;
+    desk.add("in", ANY_TCP)?;
+    desk.piece_limit(setting.most.max(1));
+    desk.fail_at(setting.failing_read)?;
+    let mut written = MemSink::new(rt.alloc(), room)?;
+    written.fail_at(setting.failing_write)?;
+    let mut said = MemSink::new(rt.alloc(), ROOM)?;
+    let answer = razor(rt.alloc(), &words, &mut desk, &mut written, &mut said);
+    assert!(rt; answer == status);
+    assert!(rt; written.bytes() == out);
+    assert!(rt; said.bytes() == err);
+    Ok(())
+}
+
+#[test]
+fn looks_are_answered_by_the_list_of_the_table(rt: HostRuntime) -> Result<(), Fail> {
+    check_session(&rt, "262144", calm(EDITING), ROOM, 0, EDITED, b"")?;
+    check_session(
+        &rt,
+        "1",
+        calm(b"commit\n"),
+        ROOM,
+        0,
+        b"2 entries needed, limit 1\n",
+        b"",
+    )
+}
+
+#[test]
+fn the_session_comes_first(rt: HostRuntime) -> Result<(), Fail> {
+    check_session(
+        &rt,
+        "1",
+        calm(b"add 1 @0.0.0.0/0\n"),
+        ROOM,
+        3,
+        b"",
+        b"s: line 1: rule\n",
+    )?;
+    check_session(
+        &rt,
+        "1",
+        calm(b"stage\nbegin 1\n"),
+        ROOM,
+        3,
+        b"",
+        b"s: line 2: unknown command\n",
+    )
+}
+
+#[test]
+fn lines_of_a_session_end_where_no_room_is_left(rt: HostRuntime) -> Result<(), Fail> {
+    for room in [0, 7, 8, 30, EDITED.len() - 1] {
+        check_session(
+            &rt,
+            "262144",
+            calm(EDITING),
+            room,
+            6,
+            &EDITED[..room],
+            b"write fault\n",
+        )?;
+    }
+    Ok(())
+}
