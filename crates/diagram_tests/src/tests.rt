@@ -1,3 +1,5 @@
+//! The tests of diagrams and of what is made of them.
+
 mod building;
 mod joints;
 mod nodes;

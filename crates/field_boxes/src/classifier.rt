@@ -1,3 +1,4 @@
+//! The first rule of a list that matches a header.
 ghost use Rattle.std.specs.Prelude.{◌≡◌};
 ghost use Rattle.field_boxes.specs.Rules.{first_match};
 

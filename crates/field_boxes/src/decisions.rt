@@ -1,3 +1,4 @@
+//! The names of decisions and their numbers.
 ghost use Rattle.std.specs.Prelude.{◌≡◌, ◌≢◌, ◌≤◌, ◌<◌, ◌↔◌, ℕ, false, List, [], length, Some, IfOk, IfSome, IsNone, OnOk, OnErr};
 ghost use Rattle.field_boxes.specs.Names.{AreNames, miss, is_known, name_at, number_of, text_of, with_name};
 

@@ -1,3 +1,4 @@
+//! The five fields: their widths and their greatest values.
 ghost use Rattle.std.specs.Prelude.{◌≡◌, ◌<◌};
 ghost use Rattle.field_boxes.specs.Fields.{greatest_of, width};
 

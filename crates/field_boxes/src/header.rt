@@ -1,3 +1,4 @@
+//! Headers.
 ghost use Rattle.std.specs.Prelude.{ℕ, ◌<◌, ◌^◌, slice_index};
 ghost use Rattle.field_boxes.specs.Fields.{width};
 

@@ -1,3 +1,4 @@
+//! Rules: a set of values for each field, and a decision.
 ghost use Rattle.std.specs.Prelude.{◌≡◌, ◌≤◌, ℕ, [], ◌∷◌};
 ghost use Rattle.field_boxes.specs.Spans.{interval_of, intervals_of};
 ghost use Rattle.field_boxes.specs.Unions.{RiseApart};

@@ -1,3 +1,4 @@
+//! Intervals of values.
 ghost use Rattle.std.specs.Prelude.{◌≤◌};
 
 /// The values from `lo` to `hi`, both included.

@@ -1,3 +1,4 @@
+//! The random numbers of which lists are made.
 ghost use Rattle.std.specs.Prelude.{◌≡◌, ◌<◌, ◌^◌};
 ghost use Rattle.list_generator.specs.Draws.{drawn, next_state};
 

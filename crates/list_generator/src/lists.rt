@@ -1,3 +1,4 @@
+//! Drawing a list, and headers to try it.
 ghost use Rattle.std.specs.Prelude.{◌≡◌, ◌≤◌, ◌<◌, ◌^◌, IfOk, OnOk};
 ghost use Rattle.list_generator.specs.DrawnHeaders.{state_behind};
 ghost use Rattle.list_generator.specs.Generated.{IsGenerated};

@@ -1,3 +1,4 @@
+//! A list with headers to try it.
 use field_boxes::Header;
 use filter_reader::RuleList;
 

@@ -1,3 +1,4 @@
+//! Drawing one rule.
 ghost use Rattle.std.specs.Prelude.{◌<◌, length, IfOk, OnOk};
 ghost use Rattle.list_generator.specs.Growing.{AddsDrawn, IsDrawn};
 

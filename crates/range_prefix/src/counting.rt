@@ -1,3 +1,4 @@
+//! How many prefixes hold the values of some spans.
 ghost use Rattle.std.specs.Prelude.{◌≡◌, ◌≤◌, ◌-◌, ◌*◌, List, length, max, ◌<◌, ◌^◌};
 ghost use Rattle.field_boxes.specs.declared.prefix.Prefix.{Prefix};
 ghost use Rattle.field_boxes.specs.Spans.{intervals_of};

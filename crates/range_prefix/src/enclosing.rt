@@ -1,3 +1,4 @@
+//! The longest prefix that holds some spans.
 ghost use Rattle.std.specs.Prelude.{◌≡◌, ◌≤◌, ◌<◌, ◌-◌, ◌^◌, true};
 ghost use Rattle.field_boxes.specs.Prefix.{FitsWidth, prefix_holds};
 ghost use Rattle.field_boxes.specs.Spans.{intervals_of};

@@ -1,3 +1,4 @@
+//! The spans that are left from a value on.
 ghost use Rattle.std.specs.Prelude.{◌≡◌, ◌≤◌, ℕ, IfSome, slice_get};
 ghost use Rattle.range_prefix.specs.Spans.{AreApart, union_of};
 

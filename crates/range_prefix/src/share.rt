@@ -1,3 +1,4 @@
+//! How much of a prefix some spans have.
 ghost use Rattle.std.specs.Prelude.{◌≤◌, ◌<◌, ◌⊎◌};
 ghost use Rattle.std.specs.Bool.{OnTrue, OnFalse};
 ghost use Rattle.field_boxes.specs.Prefix.{FitsWidth};

@@ -1,3 +1,4 @@
+//! Inputs in memory that never fail.
 use crate::desk::Desk;
 use crate::failure::{Failed, Memory};
 use crate::remaining::Remaining;

@@ -1,3 +1,4 @@
+//! Numbers in decimal digits.
 ghost use Rattle.std.specs.Prelude.{◌≡◌, ◌≤◌, ◌<◌, ◌^◌, length};
 ghost use Rattle.std.specs.Fmt.{decimal};
 

@@ -1,3 +1,4 @@
+//! The files of the system as inputs.
 use crate::desk::Desk;
 use crate::failure::Failed;
 use crate::host_stream::{HostFiles, HostSource};

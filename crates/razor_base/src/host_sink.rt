@@ -1,3 +1,4 @@
+//! Standard output and standard error.
 use crate::failure::Failed;
 use crate::host_stream::{HostDrain, Printer};
 use crate::sink::Sink;

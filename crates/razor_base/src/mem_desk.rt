@@ -1,3 +1,4 @@
+//! Inputs in memory, of which reads can fail.
 ghost use Rattle.std.specs.Prelude.{◌<◌};
 
 use crate::desk::Desk;

@@ -1,3 +1,4 @@
+//! Lines that are put together from words and numbers.
 ghost use Rattle.razor_base.specs.Output.{Puts, Writes};
 ghost use Rattle.razor_base.specs.Parts.{part_text, parts_text};
 

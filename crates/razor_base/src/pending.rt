@@ -1,3 +1,4 @@
+//! Bytes that wait to be written in large pieces.
 ghost use Rattle.std.specs.Prelude.{◌≡◌, ◌≤◌, ◌+◌, [], ◌++◌, length};
 ghost use Rattle.std.specs.Fmt.{decimal};
 ghost use Rattle.razor_base.specs.Output.{Puts, Writes};

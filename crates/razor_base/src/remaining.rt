@@ -1,3 +1,4 @@
+//! What is left of an input in memory.
 ghost use Rattle.std.specs.Prelude.{◌≡◌, ◌≤◌, ◌++◌, length, min, take};
 
 use std::marker::Model;

@@ -1,3 +1,4 @@
+//! Streams of the system, whose calls a signal may interrupt.
 ghost use Rattle.std.specs.Prelude.{◌≤◌, ◌<◌, length, IfOk};
 ghost use Rattle.std.specs.Io.KnownBytes.{ReadConsumes, WriteAppends};
 ghost use Rattle.razor_base.specs.Streams.{IsTried};

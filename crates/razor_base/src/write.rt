@@ -1,3 +1,4 @@
+//! Writing bytes and numbers whole.
 ghost use Rattle.std.specs.Fmt.{decimal};
 ghost use Rattle.razor_base.specs.Output.{Writes};
 

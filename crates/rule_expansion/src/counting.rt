@@ -1,3 +1,4 @@
+//! How many entries rules come to.
 ghost use Rattle.std.specs.Prelude.{◌≡◌, ◌≤◌, ◌^◌, length, map};
 ghost use Rattle.field_boxes.specs.Rules.{rule_of};
 ghost use Rattle.field_boxes.specs.Fields.{stated};

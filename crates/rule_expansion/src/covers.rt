@@ -1,3 +1,4 @@
+//! The covers of a rule's five sets.
 ghost use Rattle.std.specs.Prelude.{◌≡◌, OnOk};
 ghost use Rattle.field_boxes.specs.Fields.{stated};
 ghost use Rattle.field_boxes.specs.Rules.{rule_of};

@@ -1,3 +1,4 @@
+//! The entries of rules that are expanded directly.
 ghost use Rattle.std.specs.Prelude.{◌≡◌, ◌≤◌, ◌-◌, ◌∷◌, [], ◌++◌, IfOk, OnOk, length, map, drop, take};
 ghost use Rattle.field_boxes.specs.Fields.{stated};
 ghost use Rattle.field_boxes.specs.Rules.{rule_of};

@@ -1,3 +1,4 @@
+//! The cover of one set of a rule.
 ghost use Rattle.std.specs.Prelude.{◌≡◌, ◌<◌, ◌≤◌, length, All, OnOk};
 ghost use Rattle.field_boxes.specs.Classifier.{set_holds};
 ghost use Rattle.field_boxes.specs.Fields.{width};

@@ -1,3 +1,4 @@
+//! Running a drawn list: compiled, loaded, and looked up.
 ghost use Rattle.std.specs.Prelude.{◌≡◌, ◌≤◌, ◌<◌, ◌^◌, ℕ, MatchResult, IfOk, map};
 ghost use Rattle.std.specs.List.{count_by};
 ghost use Rattle.std.specs.Str.{bytes_eq};

@@ -1,3 +1,4 @@
+//! The columns of an entry's line.
 ghost use Rattle.std.specs.Prelude.{◌≡◌, ◌==◌, ◌≤◌, bit_and, IfSome, IsTrue};
 ghost use Rattle.std.specs.Option.{option_map};
 ghost use Rattle.ternary_words.specs.Views.{word_of};

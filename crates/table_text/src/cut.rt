@@ -1,3 +1,4 @@
+//! Cutting a text at a separator.
 ghost use Rattle.std.specs.Prelude.{◌≡◌, ◌==◌, position};
 ghost use Rattle.std.specs.Option.{option_map};
 ghost use Rattle.table_text.specs.Steps.{front_or_all, rest_of, split_once};

@@ -1,3 +1,4 @@
+//! Why the text of a table is refused.
 use razor_base::Memory;
 use thiserror::Error;
 

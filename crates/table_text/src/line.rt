@@ -1,3 +1,4 @@
+//! The lines of a table's text.
 ghost use Rattle.std.specs.Prelude.{◌≡◌, ◌≤◌, ◌<◌, ◌∷◌, [], length, IfSome, IfNone};
 ghost use Rattle.table_text.specs.Lines.{lines_of};
 

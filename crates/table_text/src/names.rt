@@ -1,3 +1,4 @@
+//! What may be the name of an entry's decision.
 ghost use Rattle.std.specs.Prelude.{◌≡◌, ◌∷◌, [], true, false, not, ◌&&◌, is_some, IfSome, IfNone};
 ghost use Rattle.std.specs.Bool.{OnTrue};
 ghost use Rattle.std.specs.Str.{IsAscii, bytes_eq};

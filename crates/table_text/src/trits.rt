@@ -1,3 +1,4 @@
+//! Words that are written trit by trit.
 ghost use Rattle.std.specs.Prelude.{◌≡◌, ◌+◌, ◌*◌, ◌^◌, ◌<◌, ◌≤◌, ◌==◌, length, nat_eq, bit_and};
 ghost use Rattle.std.specs.List.{list_all};
 ghost use Rattle.ternary_words.specs.Views.{word_of};

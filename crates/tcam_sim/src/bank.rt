@@ -1,3 +1,4 @@
+//! A ternary memory that never fails.
 ghost use Rattle.std.specs.Prelude.{◌≡◌, ◌≤◌, length};
 ghost use Rattle.tcam_sim.specs.Columns.{AreNarrow, HasLength, KeepNone};
 

@@ -1,3 +1,4 @@
+//! What a ternary memory does.
 ghost use Rattle.std.specs.Prelude.{◌≡◌, ◌≤◌, ◌<◌, ℕ, List, Option, length, option_map, slice_set, OnOk, OnErr};
 ghost use Rattle.razor_base.specs.FaultPlan.{counted};
 ghost use Rattle.razor_base.specs.Faults.{Rose};

@@ -1,3 +1,4 @@
+//! A ternary memory of which chosen writes fail.
 use crate::bank::Bank;
 use crate::device::Device;
 use field_boxes::Header;

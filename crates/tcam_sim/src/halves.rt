@@ -1,3 +1,4 @@
+//! Columns of wide numbers as two columns of their halves.
 ghost use Rattle.std.specs.Prelude.{◌≡◌, ◌/◌, ◌%◌, ◌^◌, ◌<◌, IfOk, length, replicate, slice_set};
 
 use razor_base::Memory;

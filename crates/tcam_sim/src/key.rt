@@ -1,3 +1,4 @@
+//! The bits of a header as two numbers.
 ghost use Rattle.std.specs.Prelude.{◌≡◌, ◌+◌, ◌*◌, ◌≤◌, ◌<◌, ◌^◌};
 
 use field_boxes::Header;

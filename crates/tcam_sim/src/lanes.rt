@@ -1,3 +1,4 @@
+//! Comparing eight slots at once.
 ghost use Rattle.std.specs.Prelude.{◌≡◌, ◌+◌, ◌<◌, ◌≤◌, ◌^◌, ◌==◌, ℕ, IfNone, IfSome, length, slice_index};
 ghost use Rattle.tcam_sim.specs.Bank.{slot_at, slots_of};
 ghost use Rattle.tcam_sim.specs.Keys.{key_bits};

@@ -1,3 +1,4 @@
+//! Loading a table into a memory.
 ghost use Rattle.std.specs.Prelude.{◌≡◌, ◌+◌, ◌≤◌, ◌<◌, ℕ, None, length, max, replicate, IfOk, OnOk, OnErr, take};
 ghost use Rattle.razor_base.specs.Faults.{Rose};
 ghost use Rattle.tcam_sim.specs.Bank.{slots_of};

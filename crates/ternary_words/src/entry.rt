@@ -1,3 +1,4 @@
+//! The entries of a table.
 use crate::word::Word;
 
 /// A word and the number of the decision that its headers get; 0 is no decision, written `miss`.

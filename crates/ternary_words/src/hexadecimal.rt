@@ -1,3 +1,4 @@
+//! Numbers in hexadecimal digits.
 ghost use Rattle.std.specs.Prelude.{◌≡◌, ◌%◌, ◌∷◌, [], ◌++◌};
 ghost use Rattle.field_boxes.specs.Bits.{bits};
 ghost use Rattle.ternary_words.specs.Hexadecimal.{hex_digit, hex_digits};

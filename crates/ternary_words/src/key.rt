@@ -1,3 +1,4 @@
+//! The bits of a header as one number.
 ghost use Rattle.std.specs.Prelude.{◌≡◌, ◌+◌, ◌*◌, ◌≤◌, ◌<◌, ◌^◌, ℕ, slice_index};
 ghost use Rattle.field_boxes.specs.Fields.{width};
 ghost use Rattle.field_boxes.specs.Bits.{bits};

@@ -1,3 +1,4 @@
+//! The first entry that matches a header.
 ghost use Rattle.std.specs.Prelude.{◌≡◌};
 ghost use Rattle.ternary_words.specs.Views.{first_match};
 

@@ -1,3 +1,4 @@
+//! The values and the masks of five prefixes.
 ghost use Rattle.std.specs.Prelude.{◌≡◌, ◌<◌, ◌^◌, ℕ, map, slice_index};
 ghost use Rattle.field_boxes.specs.Fields.{stated, width};
 ghost use Rattle.field_boxes.specs.Prefix.{FitsWidth};

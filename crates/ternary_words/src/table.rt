@@ -1,3 +1,4 @@
+//! Tables: entries, the width of their slots, and the names of their decisions.
 ghost use Rattle.std.specs.Prelude.{◌≤◌, length, vec_len};
 ghost use Rattle.ternary_words.specs.Limits.{IsSlotWidth, AreNumbered};
 

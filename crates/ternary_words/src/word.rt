@@ -1,3 +1,4 @@
+//! Words of 104 trits.
 ghost use Rattle.std.specs.Prelude.{◌≡◌, ◌<◌, ◌^◌, bit_and};
 
 use crate::key::key;

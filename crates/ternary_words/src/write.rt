@@ -1,3 +1,4 @@
+//! Writing a table.
 ghost use Rattle.std.specs.Prelude.{◌≤◌, ◌*◌, ◌/◌, ◌^◌, ◌∷◌, [], ◌++◌, length};
 ghost use Rattle.razor_base.specs.Output.{Puts, Writes};
 ghost use Rattle.field_boxes.specs.Bits.{bits};
