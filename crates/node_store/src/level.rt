@@ -73,12 +73,15 @@ impl Eq for Level {
     ghost laws = { nat_list_eq_equiv };
 }
 
+// Nodes of as many fields are told apart by their edges.
 impl Hash for Level {
-    ghost hash_input = { fed.slice fed.u8 };
+    ghost use Rattle.std.specs.Prelude.{length};
+
+    ghost hash_input = { λ level. fed.usize (length level) };
 
     ghost respects_eq = { Prim.search (hashing, rules) };
 
     fn hash<H: Hasher>(&self, state: &mut H) {
-        self.as_slice().hash(state);
+        self.as_slice().len().hash(state);
     }
 }

@@ -18,11 +18,22 @@ fn stays(edges: &[Edge], place: usize) -> bool
     place + 1 == edges.len() || edges[place + 1].to != edges[place].to
 }
 
-/// The edges with equal neighbours merged.
+/// How many edges stay.
+fn count(edges: &[Edge]) -> usize {
+    let mut count: usize = 0;
+    for place in 0..edges.len() {
+        if stays(edges, place) {
+            count = count.saturating_add(1);
+        }
+    }
+    count
+}
+
+/// The edges with equal neighbours merged, in room for just so many.
 pub(crate) fn merge(alloc: Global, edges: &[Edge]) -> Result<Edges, Memory>
     ensures { IfOk result (λ kept. kept.items ≡ merged edges.now) }
 {
-    let mut kept = SmallVec::new(alloc);
+    let mut kept = SmallVec::with_capacity(alloc, count(edges))?;
     for (place, edge) in edges.iter().enumerate() {
         if stays(edges, place) {
             kept.push(*edge)?;
