@@ -51,9 +51,9 @@ sides k v w h e = elim (over k v h) [
   | inr half ↦ inr (omega (arith, e, half, div-add-mod' v (2 ^ (k + 1))))
 ]
 
-pub about-aligned : (k v w : ℕ) → w ≡ v - v % 2 ^ (k + 1) → w % 2 ^ (k + 1) ≡ 0
+pub about-aligned : (k v w : ℕ) → w ≡ v - v % 2 ^ k → w % 2 ^ k ≡ 0
 about-aligned k v w e =
-    let m = 2 ^ (k + 1) in
+    let m = 2 ^ k in
     let is : w ≡ v / m * m = omega (arith, e, div-add-mod' v m) in
     ap (λ x. x % m) is ∙ mul-mod_left (v / m) m
 
@@ -74,15 +74,15 @@ about-self low bits most limit p l b le h ends = record {
   ends = omega (arith, l, ap (λ k. 2 ^ k) b, ends);
 }
 
--- and so does the one about it
-pub about-wider : (low bits most limit : ℕ) (p q : Part) → IsAbout low bits most limit p → q.bits ≡ p.bits + 1 → q.low ≡ p.low - p.low % 2 ^ (p.bits + 1) → p.bits < most → q.low + 2 ^ q.bits ≤ limit → IsAbout low bits most limit q
-about-wider low bits most limit p q a b l lt ends =
-    let size : 2 ^ q.bits ≡ 2 ^ (p.bits + 1) = ap (λ k. 2 ^ k) b in
+-- and so does a greater one that holds its low value
+pub about-around : (low bits most limit : ℕ) (p : Part) → p.low ≡ low - low % 2 ^ p.bits → bits ≤ p.bits → p.bits ≤ most → low % 2 ^ bits ≡ 0 → p.low + 2 ^ p.bits ≤ limit → IsAbout low bits most limit p
+about-around low bits most limit p l le short h ends =
+    let aligned = about-aligned p.bits low p.low l in
     record {
-      from = omega (arith, l, a.from);
-      to = omega (arith, a.to, about-ends p.bits p.low q.low a.aligned l, size);
-      less = omega (arith, a.less, b);
-      short = omega (arith, b, lt);
-      aligned = ap (λ m. q.low % m) size ∙ about-aligned p.bits p.low q.low l;
+      from = omega (arith, l);
+      to = to-within bits p.bits low p.low le h aligned (omega (arith, l, mod_below low (2 ^ p.bits) (pow_pos p.bits)));
+      less = le;
+      short = short;
+      aligned = aligned;
       ends = ends;
     }

@@ -15,6 +15,7 @@ use Rattle.prefix_min.specs.Built.{IsBuilt}
 use Rattle.prefix_min.specs.Costs.{Lists, RisesFrom}
 use Rattle.prefix_min.specs.Field.{no_piece}
 use Rattle.prefix_min.specs.Growth.{IsBeside, IsHalf, IsPut, IsStretch, end_of}
+use Rattle.prefix_min.specs.Merging.{AreKept, IsJoined}
 use Rattle.prefix_min.specs.NextPiece.{AreFit, IsNext, weight_below}
 use Rattle.prefix_min.specs.Parts.{IsAbout}
 use Rattle.prefix_min.specs.Pieces.{label_at, reach}
@@ -75,6 +76,11 @@ sums-turned xs ys sums t = record {
   lists = λ d h. elim (t.lists d h) [ inl k ↦ inr k | inr k ↦ inl k ];
 }
 
+-- what a part saves
+kept-of : (weights : List ℕ) (pieces : List Piece) (bits low : ℕ) (before after : List LabelCost) (old new following : ℕ) (cs0 cs1 : List Choice) (al0 al1 : List ℕ) →
+    (b : IsBuilt weights pieces bits low before after old new following cs0 cs1 al0 al1) → AreKept weights b.savings
+kept-of weights pieces bits low before after old new following cs0 cs1 al0 al1 b = record { rise = b.rise; within = λ d h. b.within d (b.saves.lists d h); most = b.saves.most; above = b.above }
+
 -- a part that is done elsewhere on the stack
 abbrev moved : (weights : List ℕ) (pieces : List Piece) (bits low : ℕ) (before after : List LabelCost) (old new following : ℕ) (cs0 cs1 : List Choice) (al0 al1 : List ℕ)
     (b : IsBuilt weights pieces bits low before after old new following cs0 cs1 al0 al1) (front : List LabelCost) (from to : ℕ) → to ≡ from + (costs_of b.node).row →
@@ -85,6 +91,7 @@ moved weights pieces bits low before after old new following cs0 cs1 al0 al1 b f
   stands = b.stands;
   saves = b.saves;
   rise = b.rise;
+  above = b.above;
   within = b.within;
   from = b.from;
   pushed = refl;
@@ -166,7 +173,7 @@ module _ (weights : List ℕ) (pieces : List Piece) (fit : AreFit weights pieces
     two = ap (λ k. 2 ^ k) wide ∙ double-one part.bits
 
     about_aligned : about.low % 2 ^ about.bits ≡ 0
-    about_aligned = ap (λ k. about.low % 2 ^ k) wide ∙ about-aligned part.bits part.low about.low is
+    about_aligned = ap (λ k. about.low % 2 ^ k) wide ∙ about-aligned (part.bits + 1) part.low about.low is
 
     about_ends : part.low + 2 ^ part.bits ≤ about.low + 2 ^ about.bits
     about_ends = omega (arith, about-ends part.bits part.low about.low g.aligned is, ap (λ k. 2 ^ k) wide)
@@ -295,27 +302,16 @@ module _ (weights : List ℕ) (pieces : List Piece) (fit : AreFit weights pieces
               grown_about new (c2 - top.gain) cs3 al3 (subst (λ k. IsBuilt weights pieces about.bits about.low before new c0 (c2 - top.gain) k cs0 cs3 al0 al3) (sym stays) built)
 
       -- either way
-      pub first-rises : RisesFrom 0 (take (m - s) (drop s after))
-      first-rises = elim b [
-        | inl h ↦ subst (RisesFrom 0) (sym (first_is before mid after g.built.savings h.1.savings g.built.pushed h.1.pushed s m ls lm)) g.built.rise
-        | inr h ↦ subst (RisesFrom 0) (sym (first_is before mid after g.built.savings h.1.savings g.built.pushed h.1.pushed s m ls lm)) g.built.rise
+      pub first-kept : AreKept weights (take (m - s) (drop s after))
+      first-kept = elim b [
+        | inl h ↦ subst (AreKept weights) (sym (xs_is h.0 h.1)) (kept-of weights pieces part.bits part.low before mid c0 c1 next1 cs0 cs1 al0 al1 g.built)
+        | inr h ↦ subst (AreKept weights) (sym (ps_is h.0 h.1 h.2)) (kept-of weights pieces part.bits part.low before mid c0 c1 next1 cs0 cs1 al0 al1 g.built)
       ]
 
-      pub second-rises : RisesFrom 0 (drop m after)
-      second-rises = elim b [
-        | inl h ↦ subst (RisesFrom 0) (sym (second_is before mid after g.built.savings h.1.savings g.built.pushed h.1.pushed s m ls lm)) h.1.rise
-        | inr h ↦ subst (RisesFrom 0) (sym (second_is before mid after g.built.savings h.1.savings g.built.pushed h.1.pushed s m ls lm)) h.1.rise
-      ]
-
-      places_of : (ys : List LabelCost) → take (m - s) (drop s after) ≡ g.built.savings → drop m after ≡ ys → ((d : ℕ) → Lists ys d → d < length weights) → (d : ℕ) →
-          Lists (take (m - s) (drop s after)) d ⊎ Lists (drop m after) d → d < length weights
-      places_of ys e f h d (inl k) = g.built.within d (g.built.saves.lists d (subst (λ zs. Lists zs d) e k))
-      places_of ys e f h d (inr k) = h d (subst (λ zs. Lists zs d) f k)
-
-      pub both-places : (d : ℕ) → Lists (take (m - s) (drop s after)) d ⊎ Lists (drop m after) d → d < length weights
-      both-places d k = elim b [
-        | inl h ↦ places_of h.1.savings (xs_is h.0 h.1) (ys_is h.0 h.1) (λ x l. h.1.within x (h.1.saves.lists x l)) d k
-        | inr h ↦ places_of h.1.savings (ps_is h.0 h.1 h.2) (qs_is h.0 h.1 h.2) (λ x l. h.1.within x (h.1.saves.lists x l)) d k
+      pub second-kept : AreKept weights (drop m after)
+      second-kept = elim b [
+        | inl h ↦ subst (AreKept weights) (sym (ys_is h.0 h.1)) (kept-of weights pieces part.bits (part.low + 2 ^ part.bits) mid after c1 c2 next2 cs1 cs2 al1 al2 h.1)
+        | inr h ↦ subst (AreKept weights) (sym (qs_is h.0 h.1 h.2)) (kept-of weights pieces part.bits about.low mid after c1 c2 first cs1 cs2 al1 al2 h.1)
       ]
 
       pub both-room : (d : ℕ) → saved (take (m - s) (drop s after)) d + saved (drop m after) d ≤ 2 ^ 104
@@ -327,15 +323,14 @@ module _ (weights : List ℕ) (pieces : List Piece) (fit : AreFit weights pieces
         | inr h ↦ (omega (arith, ls, lm, ap length g.built.pushed, length-append before g.built.savings), omega (arith, lm, ap length h.1.pushed, length-append mid h.1.savings))
       ]
 
-      module _ (top : Gain) (sums : List LabelCost) (i : IsGain weights (take (m - s) (drop s after)) (drop m after) top.gain top.best) (t : AreSums (take (m - s) (drop s after)) (drop m after) sums) where
+      module _ (top : Gain) (new : List LabelCost) (al3 : List ℕ) (j : IsJoined weights (take (m - s) (drop s after)) (drop m after) (take s after) new al2 al3 top) where
         pub both-fits : top.gain ≤ c2
-        both-fits = elim b [ inl h ↦ up_fits h.0 h.1 top sums i t | inr h ↦ down_fits h.0 h.1 h.2 top sums i t ]
+        both-fits = elim b [ inl h ↦ up_fits h.0 h.1 top j.sums j.gain j.are | inr h ↦ down_fits h.0 h.1 h.2 top j.sums j.gain j.are ]
 
-        pub grown-both : (new : List LabelCost) (cs3 : List Choice) (al3 : List ℕ) → new ≡ take s after ++ lowered top.gain sums → al3 ≡ al2 ++ more_labels top sums →
-            cs3 ≡ cs2 ++ more_choices top about.low about.bits (length cs0) (length al2) (length al3) → IsGrown weights pieces bits low first about before new c0 (c2 - top.gain) next2 cs0 cs3 al0 al3
-        grown-both new cs3 al3 put put_also put_choices = elim b [
-          | inl h ↦ up_grown h.0 h.1 top sums i t new cs3 al3 put put_also put_choices
-          | inr h ↦ down_grown h.0 h.1 h.2 top sums i t new cs3 al3 put put_also put_choices
+        pub grown-both : (cs3 : List Choice) → cs3 ≡ cs2 ++ more_choices top about.low about.bits (length cs0) (length al2) (length al3) → IsGrown weights pieces bits low first about before new c0 (c2 - top.gain) next2 cs0 cs3 al0 al3
+        grown-both cs3 put_choices = elim b [
+          | inl h ↦ up_grown h.0 h.1 top j.sums j.gain j.are new cs3 al3 j.savings j.also put_choices
+          | inr h ↦ down_grown h.0 h.1 h.2 top j.sums j.gain j.are new cs3 al3 j.savings j.also put_choices
         ]
 
   -- the part stretches as far as only its label stands about it
@@ -372,6 +367,7 @@ module _ (weights : List ℕ) (pieces : List Piece) (fit : AreFit weights pieces
           stands = o.inner.stands;
           saves = o.inner.saves;
           rise = (omega arith, tt);
+          above = (st.weighs, tt);
           within = o.inner.within;
           from = o.inner.from;
           pushed = built.pushed ∙ ap (λ zs. before ++ zs) only;

@@ -29,3 +29,4 @@ pub mod FullLabel
 pub mod Blocks
 pub mod Stretched
 pub mod Grown
+pub mod Joined

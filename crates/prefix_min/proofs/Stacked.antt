@@ -18,6 +18,7 @@ use Rattle.prefix_min.specs.Pieces.{label_at, reach}
 use Rattle.prefix_min.specs.Savings.{AreSavings, AreSums, IsGain, alone, lowered, saved}
 use Rattle.prefix_min.specs.Trie.{Constant, Halves, StandsFor, costs_of}
 use Rattle.prefix_min.proofs.Building.{constant_gives, first-weighs, same_piece, first_label}
+use Rattle.prefix_min.proofs.Joined.{lowered-above}
 use Rattle.prefix_min.proofs.PieceWeights.{below-all, place-label}
 use Rattle.prefix_min.proofs.FullLabel.{end-reached, label-at-end, listed-some}
 use Rattle.prefix_min.proofs.PartRows.{AreHalfRows}
@@ -54,6 +55,7 @@ constant-built weights pieces fit first bits low top d next within is_top covere
       stands = (k, constant_gives weights pieces fit first bits low top d next within is_top covered);
       saves = lowered-none weights (one_label weights y) (alone weights y) (omega arith, tt) (one-saves weights (one_label weights y) k);
       rise = lowered-rises 0 0 (alone weights y) (omega arith, tt);
+      above = lowered-above 0 (alone weights y);
       within = λ x h. elim h [ inl e ↦ subst (λ n. n < length weights) e place | inr none ↦ absurd none ];
       from = λ x h. elim h [ inl e ↦ (first, inside, ap (λ p. p.label) (same_piece pieces first (record { hi = 0; label = 0 }) d inside) ∙ e) | inr none ↦ absurd none ];
       pushed = put;
@@ -155,6 +157,7 @@ module _ (weights : List ℕ) (pieces : List Piece) (fit : AreFit weights pieces
         stands = subst (λ k. StandsFor weights (label_at pieces) k low (Halves node_costs lo.node hi.node)) (let e : suc n ≡ bits = omega (arith, size) in e) (split, lo.stands, high_stands);
         saves = joined-saves weights (costs_of lo.node) (costs_of hi.node) node_costs split lo.savings hi.savings lo.saves hi.saves top.gain top.best g sums t;
         rise = lowered-rises top.gain 0 sums t.rise;
+        above = lowered-above top.gain sums;
         within = all_within;
         from = all_from;
         pushed = put;

@@ -4,6 +4,7 @@ use Rattle.prefix_min.specs.declared.piece.Piece.{Piece}
 use Rattle.prefix_min.specs.declared.savings.LabelCost.{LabelCost}
 use Rattle.prefix_min.specs.Costs.{Has, RisesFrom}
 use Rattle.prefix_min.specs.declared.plan.Choice.{Choice}
+use Rattle.prefix_min.specs.Merging.{AreAbove}
 use Rattle.prefix_min.specs.Plan.{AreChosen}
 use Rattle.prefix_min.specs.Pieces.{label_at}
 use Rattle.prefix_min.specs.NextPiece.{weight_below, IsNext}
@@ -19,6 +20,7 @@ pub record IsBuilt (weights : List ℕ) (pieces : List Piece) (bits low : ℕ) (
   pub stands : StandsFor weights (label_at pieces) bits low node
   pub saves : AreSavings weights (costs_of node) savings
   pub rise : RisesFrom 0 savings
+  pub above : AreAbove savings
   pub within : (d : ℕ) → Has (costs_of node).labels d → d < length weights
   pub from : (d : ℕ) → Has (costs_of node).labels d → (k : ℕ) × (k < length pieces) × ((slice_index_or pieces k (record { hi = 0; label = 0 })).label ≡ d)
   pub pushed : after ≡ before ++ savings

@@ -7,6 +7,7 @@ pub mod Trie
 pub mod Choice
 pub mod Rows
 pub mod Savings
+pub mod Merging
 pub mod Built
 pub mod Plan
 pub mod Field

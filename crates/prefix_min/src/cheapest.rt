@@ -7,18 +7,12 @@ ghost use Rattle.prefix_min.specs.Choice.{IsChosen};
 ghost use Rattle.prefix_min.specs.Order.{InOrder};
 ghost use Rattle.prefix_min.specs.declared.row.PrefixRow.{PrefixRow};
 
-use crate::order::sort;
+use crate::costing::Costing;
 use crate::piece::Piece;
-use crate::plan::Plan;
 use crate::row::PrefixRow;
-use crate::stack::{Field, Stack};
 use bumpalo::Bump;
-use field_boxes::Prefix;
 use razor_base::Memory;
 use std::alloc::Global;
-
-/// The most choices for which there is room from the start.
-const FIRST_CHOICES: usize = 1_000;
 
 /// A right list that weighs least, and its weight.
 #[derive(Drop, Debug)]
@@ -64,27 +58,6 @@ pub fn minimise(
     ensures chosen { IfOk result (λ c. All (λ r. 0 < slice_index weights.now r.label → IsChosen weights.now (label_at pieces.now) width c.rows.items r) c.rows.items) }
 {
     let arena = Bump::new(alloc);
-    let mut stack = Stack {
-        savings: Vec::new(alloc),
-        sums: Vec::new(alloc),
-        next: 0,
-        cost: 0,
-        choices: Vec::with_capacity(&arena, pieces.len().min(FIRST_CHOICES))?,
-        also: Vec::new(&arena),
-    };
-    let field = Field { pieces, weights };
-    let label = field.whole(&mut stack, width)?;
-    let plan = Plan {
-        width,
-        choices: &stack.choices,
-        also: &stack.also,
-    };
-    let mut rows = Vec::new(alloc);
-    let prefix = Prefix { value: 0, len: 0 };
-    rows.push(PrefixRow { prefix, label })?;
-    plan.write(&mut rows, 0, stack.choices.len(), label)?;
-    rows.reverse();
-    sort(&mut rows)?;
-    let cost = stack.cost;
-    Ok(Cheapest { rows, cost })
+    let mut costing = Costing::new(alloc, &arena);
+    costing.cheapest(pieces, weights, width)
 }

@@ -1,17 +1,27 @@
-//! What the cheapest prefix list costs, where its rows aren't asked.
-ghost use Rattle.std.specs.Prelude.{◌≡◌, ◌≤◌, ◌^◌, IfOk, length};
+//! Room in which cheapest prefix lists are worked out, one after another.
+ghost use Rattle.std.specs.Prelude.{◌≡◌, ◌≤◌, ◌<◌, ◌^◌, ℕ, List, IfOk, length, slice_index};
+ghost use Rattle.std.specs.List.{All};
 ghost use Rattle.prefix_min.specs.Pieces.{Follow, label_at, reach, weight_from};
-ghost use Rattle.prefix_min.specs.PrefixList.{IsLeastWeight};
+ghost use Rattle.prefix_min.specs.PrefixList.{IsLeastWeight, IsRight, weight};
+ghost use Rattle.prefix_min.specs.Choice.{IsChosen};
+ghost use Rattle.prefix_min.specs.Order.{InOrder};
+ghost use Rattle.prefix_min.specs.declared.row.PrefixRow.{PrefixRow};
 
+use crate::cheapest::Cheapest;
+use crate::order::sort;
 use crate::piece::Piece;
+use crate::plan::Plan;
+use crate::row::PrefixRow;
 use crate::stack::{Field, Stack};
 use bumpalo::Bump;
+use field_boxes::Prefix;
 use razor_base::Memory;
 use std::alloc::Global;
 
-/// Room in which costs are worked out, one after another: each takes what the one before has left.
+/// Room in which lists and costs are worked out, one after another: each takes what the one before has left.
 #[derive(Drop)]
 pub struct Costing<'a> {
+    alloc: Global,
     stack: Stack<'a>,
 }
 
@@ -19,6 +29,7 @@ impl<'a> Costing<'a> {
     /// Room that grows as it is needed; what the parts choose lies in the arena.
     pub fn new(alloc: Global, arena: &'a Bump) -> Costing<'a> {
         Costing {
+            alloc,
             stack: Stack::new(alloc, arena),
         }
     }
@@ -43,5 +54,55 @@ impl<'a> Costing<'a> {
         let field = Field { pieces, weights };
         let _label = field.whole(&mut self.stack, width)?;
         Ok(self.stack.cost)
+    }
+
+    /// The cheapest prefix list of the pieces' function over the values of `width` bits: the list that
+    /// [`minimise`](crate::minimise) gives.
+    ///
+    /// Once an earlier call has made the room, nothing is allocated but the rows and what their order takes. After
+    /// a refusal of memory the room serves as before.
+    pub fn cheapest(
+        &mut self,
+        pieces: &[Piece],
+        weights: &[u128],
+        width: u8,
+    ) -> Result<Cheapest, Memory>
+        requires wide { width ≤ 32 }
+
+        // The pieces follow each other up to the greatest value, and each label has a weight.
+        requires follow { Follow (length weights.now) 0 pieces.now }
+        requires whole { reach 0 pieces.now ≡ 2 ^ width }
+
+        // The weights of the labels of all values stay within 2^104 together.
+        requires light { weight_from weights.now 0 pieces.now ≤ 2 ^ 104 }
+
+        ensures right { IfOk result (λ c. IsRight width (label_at pieces.now) c.rows.items) }
+        ensures labels { IfOk result (λ c. All (λ r. r.label < length weights.now) c.rows.items) }
+        ensures weighs { IfOk result (λ c. weight weights.now c.rows.items ≡ c.cost) }
+
+        // No right list weighs less, whatever its order, its repeats and its rows that are never first.
+        ensures least { IfOk result (λ c. (rows : List PrefixRow) → IsRight width (label_at pieces.now) rows → c.cost ≤ weight weights.now rows) }
+        ensures order { IfOk result (λ c. InOrder c.rows.items) }
+
+        // Of the lists that weigh least this one is chosen: a row that weighs something saves something, and has
+        // the least label with which it does.
+        ensures chosen { IfOk result (λ c. All (λ r. 0 < slice_index weights.now r.label → IsChosen weights.now (label_at pieces.now) width c.rows.items r) c.rows.items) }
+    {
+        self.stack.clear();
+        let field = Field { pieces, weights };
+        let label = field.whole(&mut self.stack, width)?;
+        let plan = Plan {
+            width,
+            choices: &self.stack.choices,
+            also: &self.stack.also,
+        };
+        let mut rows = Vec::new(self.alloc);
+        let prefix = Prefix { value: 0, len: 0 };
+        rows.push(PrefixRow { prefix, label })?;
+        plan.write(&mut rows, 0, self.stack.choices.len(), label)?;
+        rows.reverse();
+        sort(&mut rows)?;
+        let cost = self.stack.cost;
+        Ok(Cheapest { rows, cost })
     }
 }

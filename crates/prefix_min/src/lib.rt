@@ -14,6 +14,7 @@
 mod cheapest;
 mod costing;
 pub mod laws;
+mod merging;
 mod order;
 mod parts;
 mod piece;

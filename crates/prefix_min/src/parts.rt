@@ -37,14 +37,13 @@ pub fn middle(bits: u8, low: u32) -> u32
     low + (1u32 << (bits - 1))
 }
 
-/// The part of which this one is a half.
-pub fn about(part: Part) -> Part
-    requires { part.bits < 32 }
-    ensures bits { result.bits ≡ part.bits + 1 }
-    ensures low { result.low ≡ part.low - part.low % 2 ^ (part.bits + 1) }
+/// The part of so many bits that holds the value.
+pub fn around(low: u32, bits: u8) -> Part
+    requires { bits ≤ 32 }
+    ensures bits { result.bits ≡ bits }
+    ensures low { result.low ≡ low - low % 2 ^ bits }
 {
-    let low = u64::from(part.low);
-    let bits = part.bits + 1;
+    let low = u64::from(low);
     let over = low % (1u64 << bits);
     Part {
         low: (low - over) as u32,
@@ -52,7 +51,18 @@ pub fn about(part: Part) -> Part
     }
 }
 
+/// The part of which this one is a half.
+pub fn about(part: Part) -> Part
+    requires { part.bits < 32 }
+    ensures bits { result.bits ≡ part.bits + 1 }
+    ensures low { result.low ≡ part.low - part.low % 2 ^ (part.bits + 1) }
+{
+    around(part.low, part.bits + 1)
+}
+
 /// The greatest part about this one that has no more than `most` bits and ends at `limit` or below.
+///
+/// It has no more bits than the place of the highest bit in which its low value and the limit differ.
 pub fn widest(part: Part, most: u8, limit: u64) -> Part
     requires wide { most ≤ 32 }
     requires less { part.bits ≤ most }
@@ -60,13 +70,11 @@ pub fn widest(part: Part, most: u8, limit: u64) -> Part
     requires ends { part.low + 2 ^ part.bits ≤ limit }
     ensures { IsAbout part.low part.bits most limit result }
 {
-    let mut widest = part;
-    while widest.bits < most {
-        let wider = about(widest);
-        if limit < end(wider) {
-            return widest;
-        }
-        widest = wider;
+    let apart = (u64::from(part.low) ^ limit).leading_zeros();
+    let bits = u32::from(most).min(63u32.saturating_sub(apart)) as u8;
+    let wide = around(part.low, bits);
+    if bits <= part.bits || limit < end(wide) {
+        return part;
     }
-    widest
+    wide
 }

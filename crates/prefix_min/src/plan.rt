@@ -1,10 +1,10 @@
 //! What the parts choose to write.
 ghost use Rattle.std.specs.Prelude.{◌≡◌, ◌++◌, ◌∷◌, [], ◌+◌, ◌<◌, ◌^◌, ℕ, OnOk, length, ◌≤◌, ◌-◌, reverse, take, drop};
-ghost use Rattle.prefix_min.specs.Plan.{Forest, IsLaid, among, more_choices, more_labels, own_choice, rows_of, silent};
+ghost use Rattle.prefix_min.specs.Plan.{Forest, IsLaid, among, more_choices, own_choice, rows_of, silent};
 
 use crate::parts::Part;
 use crate::row::PrefixRow;
-use crate::savings::{Gain, LabelCost, put_further};
+use crate::savings::Gain;
 use bumpalo::Bump;
 use field_boxes::Prefix;
 use razor_base::Memory;
@@ -56,29 +56,27 @@ pub fn put(
     Ok(())
 }
 
-/// Puts down what a part with this gain chooses.
+/// Puts down what a part with this gain chooses, where its further labels stand between two places.
 pub fn choose(
     choices: &mut Vec<Choice, &Bump>,
-    also: &mut Vec<u32, &Bump>,
-    sums: &[LabelCost],
     gain: Gain,
     part: Part,
     below: usize,
+    also: usize,
+    end: usize,
 ) -> Result<(), Memory>
-    ensures { OnOk result ((also.new.items ≡ also.old.items ++ more_labels gain sums.now) × (choices.new.items ≡ choices.old.items ++ more_choices gain part.low part.bits below (length also.old.items) (length also.new.items))) }
+    ensures { OnOk result (choices.new.items ≡ choices.old.items ++ more_choices gain part.low part.bits below also end) }
 {
     if gain.gain == 0 {
         return Ok(());
     }
-    let start = also.len();
-    put_further(also, sums, gain)?;
     choices.push(Choice {
         value: part.low,
         bits: part.bits,
         label: gain.best,
         below,
-        also: start,
-        end: also.len(),
+        also,
+        end,
     })?;
     Ok(())
 }

@@ -1,6 +1,7 @@
 //! What a part saves, from what its halves save.
-ghost use Rattle.std.specs.Prelude.{◌≡◌, ℕ, ◌++◌, ◌⊎◌, ◌<◌, ◌≤◌, ◌+◌, ◌-◌, ◌^◌, [], IfOk, OnOk, MatchOption, length, take, drop};
+ghost use Rattle.std.specs.Prelude.{◌≡◌, ℕ, ◌++◌, ◌∷◌, ◌⊎◌, ◌<◌, ◌≤◌, ◌+◌, ◌-◌, ◌^◌, [], IfOk, OnOk, MatchOption, length, take, drop};
 ghost use Rattle.prefix_min.specs.Costs.{IsHead, Lists, RisesFrom, after};
+ghost use Rattle.prefix_min.specs.Plan.{more_labels};
 ghost use Rattle.prefix_min.specs.Savings.{AreSums, IsGain, further, lowered, raised, saved};
 
 use bumpalo::Bump;
@@ -118,8 +119,22 @@ pub fn lower(savings: &mut Vec<LabelCost>, sums: &[LabelCost], gain: u128) -> Re
     Ok(())
 }
 
+/// Puts what a part of one label saves behind the savings.
+pub fn put_one(savings: &mut Vec<LabelCost>, label: u32, weight: u128) -> Result<(), Memory>
+    ensures { OnOk result (savings.new.items ≡ savings.old.items ++ lowered 0 (record { label = label; cost = weight } ∷ [])) }
+{
+    if weight == 0 {
+        return Ok(());
+    }
+    savings.push(LabelCost {
+        label,
+        cost: weight,
+    })?;
+    Ok(())
+}
+
 /// Puts the labels beside the best that save the gain or more behind the others.
-pub fn put_further(also: &mut Vec<u32, &Bump>, sums: &[LabelCost], gain: Gain) -> Result<(), Memory>
+fn put_further(also: &mut Vec<u32, &Bump>, sums: &[LabelCost], gain: Gain) -> Result<(), Memory>
     ensures { OnOk result (also.new.items ≡ also.old.items ++ further gain.gain gain.best sums.now) }
 {
     for entry in sums {
@@ -128,6 +143,16 @@ pub fn put_further(also: &mut Vec<u32, &Bump>, sums: &[LabelCost], gain: Gain) -
         }
     }
     Ok(())
+}
+
+/// Puts the further labels of a gain behind the others.
+pub fn put_more(also: &mut Vec<u32, &Bump>, sums: &[LabelCost], gain: Gain) -> Result<(), Memory>
+    ensures { OnOk result (also.new.items ≡ also.old.items ++ more_labels gain sums.now) }
+{
+    if gain.gain == 0 {
+        return Ok(());
+    }
+    put_further(also, sums, gain)
 }
 
 /// Joins what two halves save, which stands from `start` and from `middle` on.

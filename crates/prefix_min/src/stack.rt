@@ -8,10 +8,11 @@ ghost use Rattle.prefix_min.specs.Savings.{alone, saved};
 ghost use Rattle.prefix_min.specs.Pieces.{reach};
 ghost use Rattle.prefix_min.specs.NextPiece.{AreFit, IsNext, weight_below};
 
+use crate::merging::join_parts;
 use crate::parts::{Part, about, end, middle, top, widest};
 use crate::piece::Piece;
 use crate::plan::{Choice, choose, put};
-use crate::savings::{LabelCost, join, lower};
+use crate::savings::{LabelCost, join, put_one};
 use bumpalo::Bump;
 use razor_base::Memory;
 use std::alloc::Global;
@@ -130,22 +131,18 @@ impl Field<'_> {
             let about = about(part);
             let middle = stack.savings.len();
             self.beside(stack, first, part, about)?;
-            let gain = join(
+            let start_also = stack.also.len();
+            let gain = join_parts(
                 &mut stack.savings,
                 &mut stack.sums,
+                &mut stack.also,
                 start,
                 middle,
                 self.weights,
             )?;
             stack.cost -= gain.gain;
-            choose(
-                &mut stack.choices,
-                &mut stack.also,
-                &stack.sums,
-                gain,
-                about,
-                below,
-            )?;
+            let end_also = stack.also.len();
+            choose(&mut stack.choices, gain, about, below, start_also, end_also)?;
             part = about;
         }
         Ok(())
@@ -179,14 +176,10 @@ impl Field<'_> {
     {
         let weight = self.weights[label as usize];
         stack.cost += weight;
-        let one = LabelCost {
-            label,
-            cost: weight,
-        };
         let below = stack.choices.len();
         let also = stack.also.len();
         put(&mut stack.choices, also, label, part, below)?;
-        lower(&mut stack.savings, &[one], 0)
+        put_one(&mut stack.savings, label, weight)
     }
 
     /// The place of the first piece that reaches the limit, where the one at this place reaches it or ends before.

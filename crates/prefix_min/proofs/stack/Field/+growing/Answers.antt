@@ -1,18 +1,19 @@
-use Rattle.std.proofs.Common.{◌≤◌, ◌<◌, ◌≡◌, ◌∙◌, arith, refl, ap, sym, subst, rules, ◌+◌, ◌-◌, ◌%◌, ◌^◌, ◌++◌, ◌∷◌, [], get_or, length, inl, inr}
+use Rattle.std.proofs.Common.{◌≤◌, ◌<◌, ◌≡◌, ◌∙◌, arith, refl, ap, sym, subst, rules, ◌+◌, ◌-◌, ◌%◌, ◌^◌, ◌++◌, ◌∷◌, [], get_or, length, inl, inr, ℕ, List}
 use Rattle.std.proofs.Math.Nat.{mod-one}
 use Rattle.std.proofs.lemmas.List.{length-append}
 use Rattle.std.proofs.lemmas.Nat.{pow_pos}
 use Rattle.std.proofs.lemmas.Result.{on_ok_weaker}
 use Rattle.prefix_min.specs.declared.parts.Part.{Part}
+use Rattle.prefix_min.specs.declared.plan.Choice.{Choice}
 use Rattle.prefix_min.specs.Built.{IsBuilt}
 use Rattle.prefix_min.specs.Field.{no_piece}
 use Rattle.prefix_min.specs.Growth.{end_of}
 use Rattle.prefix_min.specs.NextPiece.{IsNext, weight_below}
 use Rattle.prefix_min.specs.Parts.{IsAbout}
-use Rattle.prefix_min.specs.Plan.{more_choices, more_labels, own_choice}
+use Rattle.prefix_min.specs.Plan.{more_choices, own_choice}
 use Rattle.prefix_min.proofs.Building.{next-inside}
 use Rattle.prefix_min.proofs.FullLabel.{end-reached}
-use Rattle.prefix_min.proofs.Grown.{below-built, both-fits, both-places, both-room, covered-built, first-rises, grown-both, grown-first, grown-last, grown-light, grown-wide, half-of, lengths, one-room, second-rises}
+use Rattle.prefix_min.proofs.Grown.{below-built, both-fits, both-room, covered-built, first-kept, grown-both, grown-first, grown-last, grown-light, grown-wide, half-of, lengths, one-room, second-kept}
 use Rattle.prefix_min.proofs.PieceWeights.{place-label}
 use Rattle.prefix_min.proofs.stack.Field.+growing.Goals as goal
 
@@ -379,8 +380,8 @@ grown-beside-requires t c =
     c.args.stack.now.also.items l.stack.also.items l.invariant c.requires.next c.requires.within c.requires.aligned c.requires.light in
     (omega (arith, c.decreases, c.loop-part-test.true), (c.requires.fit, (l.invariant.built.next, (omega (arith, c.loop-part-test.true, c.requires.wide), (half, light)))))
 
-pub grown-join-requires-clause-from : goal.grown-join-requires-clause-from
-grown-join-requires-clause-from t c =
+pub grown-join_parts-requires-clause-from : goal.grown-join_parts-requires-clause-from
+grown-join_parts-requires-clause-from t c =
     let s = c.args.self.now in
     let ws = s.weights.now in
     let ps = s.pieces.now in
@@ -392,8 +393,8 @@ grown-join-requires-clause-from t c =
     c.beside.new.stack.savings.items c.beside.new.stack.cost c.beside.new.stack.next c.beside.new.stack.choices.items c.beside.new.stack.also.items c.in_ok-beside.ensures
     c.len-start.result c.len-middle.result (c.len-start.ensures ∙ c.args.stack.now.savings.ok.0) (c.len-middle.ensures ∙ l.stack.savings.ok.0)).0
 
-pub grown-join-requires-clause-to : goal.grown-join-requires-clause-to
-grown-join-requires-clause-to t c =
+pub grown-join_parts-requires-clause-to : goal.grown-join_parts-requires-clause-to
+grown-join_parts-requires-clause-to t c =
     let s = c.args.self.now in
     let ws = s.weights.now in
     let ps = s.pieces.now in
@@ -405,47 +406,34 @@ grown-join-requires-clause-to t c =
     c.beside.new.stack.savings.items c.beside.new.stack.cost c.beside.new.stack.next c.beside.new.stack.choices.items c.beside.new.stack.also.items c.in_ok-beside.ensures
     c.len-start.result c.len-middle.result (c.len-start.ensures ∙ c.args.stack.now.savings.ok.0) (c.len-middle.ensures ∙ l.stack.savings.ok.0)).1
 
-pub grown-join-requires-clause-low_rises : goal.grown-join-requires-clause-low_rises
-grown-join-requires-clause-low_rises t c =
+pub grown-join_parts-requires-clause-low : goal.grown-join_parts-requires-clause-low
+grown-join_parts-requires-clause-low t c =
     let s = c.args.self.now in
     let ws = s.weights.now in
     let ps = s.pieces.now in
     let first = c.args.stack.now.next in
     let inside = next-inside ws ps c.requires.fit first c.args.low c.requires.next (omega (arith, c.requires.within, pow_pos c.args.bits)) in
     let l = c.loop-part in
-    first-rises ws ps c.requires.fit c.args.bits c.args.low first l.part c.args.stack.now.savings.items l.stack.savings.items c.args.stack.now.cost l.stack.cost l.stack.next c.args.stack.now.choices.items l.stack.choices.items
+    first-kept ws ps c.requires.fit c.args.bits c.args.low first l.part c.args.stack.now.savings.items l.stack.savings.items c.args.stack.now.cost l.stack.cost l.stack.next c.args.stack.now.choices.items l.stack.choices.items
     c.args.stack.now.also.items l.stack.also.items l.invariant c.requires.next c.requires.within c.requires.aligned c.about-about.result c.loop-part-test.true c.about-about.ensures.bits c.about-about.ensures.low
     c.beside.new.stack.savings.items c.beside.new.stack.cost c.beside.new.stack.next c.beside.new.stack.choices.items c.beside.new.stack.also.items c.in_ok-beside.ensures
     c.len-start.result c.len-middle.result (c.len-start.ensures ∙ c.args.stack.now.savings.ok.0) (c.len-middle.ensures ∙ l.stack.savings.ok.0)
 
-pub grown-join-requires-clause-high_rises : goal.grown-join-requires-clause-high_rises
-grown-join-requires-clause-high_rises t c =
+pub grown-join_parts-requires-clause-high : goal.grown-join_parts-requires-clause-high
+grown-join_parts-requires-clause-high t c =
     let s = c.args.self.now in
     let ws = s.weights.now in
     let ps = s.pieces.now in
     let first = c.args.stack.now.next in
     let inside = next-inside ws ps c.requires.fit first c.args.low c.requires.next (omega (arith, c.requires.within, pow_pos c.args.bits)) in
     let l = c.loop-part in
-    second-rises ws ps c.requires.fit c.args.bits c.args.low first l.part c.args.stack.now.savings.items l.stack.savings.items c.args.stack.now.cost l.stack.cost l.stack.next c.args.stack.now.choices.items l.stack.choices.items
+    second-kept ws ps c.requires.fit c.args.bits c.args.low first l.part c.args.stack.now.savings.items l.stack.savings.items c.args.stack.now.cost l.stack.cost l.stack.next c.args.stack.now.choices.items l.stack.choices.items
     c.args.stack.now.also.items l.stack.also.items l.invariant c.requires.next c.requires.within c.requires.aligned c.about-about.result c.loop-part-test.true c.about-about.ensures.bits c.about-about.ensures.low
     c.beside.new.stack.savings.items c.beside.new.stack.cost c.beside.new.stack.next c.beside.new.stack.choices.items c.beside.new.stack.also.items c.in_ok-beside.ensures
     c.len-start.result c.len-middle.result (c.len-start.ensures ∙ c.args.stack.now.savings.ok.0) (c.len-middle.ensures ∙ l.stack.savings.ok.0)
 
-pub grown-join-requires-clause-places : goal.grown-join-requires-clause-places
-grown-join-requires-clause-places t c =
-    let s = c.args.self.now in
-    let ws = s.weights.now in
-    let ps = s.pieces.now in
-    let first = c.args.stack.now.next in
-    let inside = next-inside ws ps c.requires.fit first c.args.low c.requires.next (omega (arith, c.requires.within, pow_pos c.args.bits)) in
-    let l = c.loop-part in
-    both-places ws ps c.requires.fit c.args.bits c.args.low first l.part c.args.stack.now.savings.items l.stack.savings.items c.args.stack.now.cost l.stack.cost l.stack.next c.args.stack.now.choices.items l.stack.choices.items
-    c.args.stack.now.also.items l.stack.also.items l.invariant c.requires.next c.requires.within c.requires.aligned c.about-about.result c.loop-part-test.true c.about-about.ensures.bits c.about-about.ensures.low
-    c.beside.new.stack.savings.items c.beside.new.stack.cost c.beside.new.stack.next c.beside.new.stack.choices.items c.beside.new.stack.also.items c.in_ok-beside.ensures
-    c.len-start.result c.len-middle.result (c.len-start.ensures ∙ c.args.stack.now.savings.ok.0) (c.len-middle.ensures ∙ l.stack.savings.ok.0)
-
-pub grown-join-requires-clause-room : goal.grown-join-requires-clause-room
-grown-join-requires-clause-room t c =
+pub grown-join_parts-requires-clause-room : goal.grown-join_parts-requires-clause-room
+grown-join_parts-requires-clause-room t c =
     let s = c.args.self.now in
     let ws = s.weights.now in
     let ps = s.pieces.now in
@@ -471,7 +459,7 @@ grown-overflow_sub-stack t c =
     both-fits ws ps c.requires.fit c.args.bits c.args.low first l.part c.args.stack.now.savings.items l.stack.savings.items c.args.stack.now.cost l.stack.cost l.stack.next c.args.stack.now.choices.items l.stack.choices.items
     c.args.stack.now.also.items l.stack.also.items l.invariant c.requires.next c.requires.within c.requires.aligned c.about-about.result c.loop-part-test.true c.about-about.ensures.bits c.about-about.ensures.low
     c.beside.new.stack.savings.items c.beside.new.stack.cost c.beside.new.stack.next c.beside.new.stack.choices.items c.beside.new.stack.also.items c.in_ok-beside.ensures
-    c.len-start.result c.len-middle.result (c.len-start.ensures ∙ c.args.stack.now.savings.ok.0) (c.len-middle.ensures ∙ l.stack.savings.ok.0) c.in_ok-gain.gain c.join.new.sums.items c.in_ok-gain.ensures.gain c.in_ok-gain.ensures.sums
+    c.len-start.result c.len-middle.result (c.len-start.ensures ∙ c.args.stack.now.savings.ok.0) (c.len-middle.ensures ∙ l.stack.savings.ok.0) c.in_ok-gain.gain c.join_parts.new.savings.items c.join_parts.new.also.items c.in_ok-gain.ensures
 
 pub grown-loop-part-smaller : goal.grown-loop-part-smaller
 grown-loop-part-smaller t c =
@@ -488,13 +476,16 @@ grown-loop-part-preserved t c =
     let gain = c.in_ok-gain.gain in
     let cs2 = c.beside.new.stack.choices.items in
     let al2 = c.beside.new.stack.also.items in
-    let al3 = c.choose.new.also.items in
-    let labels = c.in_ok-choose.ensures.0 ∙ ap (λ zs. al2 ++ more_labels gain zs) c.deref.ensures.value in
-    let choices = c.in_ok-choose.ensures.1 ∙ ap (λ k. cs2 ++ more_choices gain c.about-about.result.low c.about-about.result.bits k (length al2) (length al3)) (c.len-below.ensures ∙ c.args.stack.now.choices.ok.0) in
+    let al3 = c.join_parts.new.also.items in
+    let start_also : c.len-start_also.result ≡ length al2 = c.len-start_also.ensures ∙ c.beside.new.stack.also.ok.0 in
+    let end_also : c.len-end_also.result ≡ length al3 = c.len-end_also.ensures ∙ c.join_parts.new.also.ok.0 in
+    let own : ℕ → ℕ → ℕ → List Choice = λ k a e. cs2 ++ more_choices gain c.about-about.result.low c.about-about.result.bits k a e in
+    let choices = c.in_ok-choose.ensures ∙ ap (λ k. own k c.len-start_also.result c.len-end_also.result) (c.len-below.ensures ∙ c.args.stack.now.choices.ok.0)
+    ∙ ap (λ k. own (length c.args.stack.now.choices.items) k c.len-end_also.result) start_also ∙ ap (own (length c.args.stack.now.choices.items) (length al2)) end_also in
     grown-both ws ps c.requires.fit c.args.bits c.args.low first l.part c.args.stack.now.savings.items l.stack.savings.items c.args.stack.now.cost l.stack.cost l.stack.next c.args.stack.now.choices.items l.stack.choices.items
     c.args.stack.now.also.items l.stack.also.items l.invariant c.requires.next c.requires.within c.requires.aligned c.about-about.result c.loop-part-test.true c.about-about.ensures.bits c.about-about.ensures.low
     c.beside.new.stack.savings.items c.beside.new.stack.cost c.beside.new.stack.next c.beside.new.stack.choices.items c.beside.new.stack.also.items c.in_ok-beside.ensures
-    c.len-start.result c.len-middle.result (c.len-start.ensures ∙ c.args.stack.now.savings.ok.0) (c.len-middle.ensures ∙ l.stack.savings.ok.0) c.in_ok-gain.gain c.join.new.sums.items c.in_ok-gain.ensures.gain c.in_ok-gain.ensures.sums c.join.new.savings.items c.choose.new.choices.items al3 c.in_ok-gain.ensures.savings labels choices
+    c.len-start.result c.len-middle.result (c.len-start.ensures ∙ c.args.stack.now.savings.ok.0) (c.len-middle.ensures ∙ l.stack.savings.ok.0) c.in_ok-gain.gain c.join_parts.new.savings.items al3 c.in_ok-gain.ensures c.choose.new.choices.items choices
 
 pub grown-returns : goal.grown-returns
 grown-returns t c =

@@ -7,7 +7,7 @@ use Rattle.prefix_min.proofs.FieldChoice.{chosen}
 use Rattle.prefix_min.proofs.FieldRows.{right, labels, weighs, in-order}
 use Rattle.prefix_min.proofs.Walking.{all-rows}
 use Rattle.prefix_min.proofs.Whole.{IsFresh, least}
-use Rattle.prefix_min.proofs.cheapest.minimise.Goals as goal
+use Rattle.prefix_min.proofs.costing.Costing.cheapest.Goals as goal
 
 pub returns-clause-right : goal.returns-clause-right
 returns-clause-right c =
