@@ -16,10 +16,9 @@ use Rattle.node_store.specs.Diagram.{Node, level_of, edges_of, answer}
 use Rattle.node_store.specs.Store.{IsStore}
 use Rattle.prefix_min.specs.declared.row.PrefixRow.{PrefixRow}
 use Rattle.prefix_min.specs.PrefixList.{IsRight, front, weight}
-use Rattle.std.specs.Global.{Vec}
-use Rattle.table_compose.specs.declared.row.Row.{Row}
+use Rattle.table_compose.specs.declared.diagram_plans.Plans.{Plans}
 use Rattle.table_compose.specs.Rows.{rows_at}
-use Rattle.table_compose.specs.Plans.{IsMarked, AreClosedFrom, IsListOf, ArePlanned, width_of}
+use Rattle.table_compose.specs.Plans.{IsMarked, IsListOf, ArePlansOf, width_of}
 use Rattle.table_compose.specs.Composed.{Box, behind, boxes, in_turn, HaveCosts, HaveLists}
 use Rattle.table_compose.proofs.Later.{child_older, child_marked, inner_of}
 
@@ -120,22 +119,22 @@ count nodes lists costs [] id h = sym h.1
 count nodes lists costs (f ∷ fields) id h =
     length_rows (boxes nodes lists fields) costs (lists id) (λ k d less. count nodes lists costs fields (slice_index_or (lists id) k d).label (h.2 k d less)) ∙ h.1
 
--- what is planned of a diagram gives each of its nodes its list, with the costs of its rows
-pub have_by : (nodes : List Node) (marks : List Bool) (costs : List ℕ) (lists : List (Vec Row)) → IsStore nodes → AreClosedFrom nodes 0 marks → ArePlanned nodes marks costs lists →
-    (level : List ℕ) (id : ℕ) → IsLevel level → level_of nodes id ≡ level → id < length costs → IsMarked marks id →
-    HaveLists nodes (rows_at lists) level id × HaveCosts nodes (rows_at lists) costs level id
-have_by nodes marks costs lists s closed planned [] id is level less marked = (tt, (less, (planned id less marked).leaf level))
-have_by nodes marks costs lists s closed planned (f ∷ fields) id is level less marked =
+-- plans give each node of a known one's diagram its list, with the costs of its rows
+pub have_by : (nodes : List Node) (plans : Plans) → IsStore nodes → ArePlansOf nodes plans → (level : List ℕ) (id : ℕ) → IsLevel level → level_of nodes id ≡ level → IsMarked plans.known.items id →
+    HaveLists nodes (rows_at plans.lists.items) level id × HaveCosts nodes (rows_at plans.lists.items) plans.costs.items level id
+have_by nodes plans s are [] id is level mark = let k = are.kept id mark in (tt, (k.room, k.planned.leaf level))
+have_by nodes plans s are (f ∷ fields) id is level mark =
     let has : HasField (level_of nodes id) = subst HasField (sym level) is in
-    let p = planned id less marked in
-    let below : (k : ℕ) (d : PrefixRow) → k < length (rows_at lists id) → HaveLists nodes (rows_at lists) fields (slice_index_or (rows_at lists id) k d).label × HaveCosts nodes (rows_at lists) costs fields (slice_index_or (rows_at lists id) k d).label =
-    λ k d within.
-    let r = slice_index_or (rows_at lists id) k d in
-    let c = (p.list has).children k d within in
+    let k = are.kept id mark in
+    let rows = rows_at plans.lists.items id in
+    let below : (k : ℕ) (d : PrefixRow) → k < length rows → HaveLists nodes (rows_at plans.lists.items) fields (slice_index_or rows k d).label × HaveCosts nodes (rows_at plans.lists.items) plans.costs.items fields (slice_index_or rows k d).label =
+    λ i d within.
+    let r = slice_index_or rows i d in
+    let c = (k.planned.list has).children i d within in
     let child = child_older nodes id r.label s has c in
-    let mark = subst (IsMarked marks) c.2 (child_marked nodes marks id c.0 closed marked (inner_of nodes id s has) c.1) in
-    have_by nodes marks costs lists s closed planned fields r.label is.1 (child.1 ∙ ap next level) (omega (arith, child.0, less)) mark in
-    ((p.list has, λ k d within. (below k d within).0), (less, p.sum has, λ k d within. (below k d within).1))
+    let there = subst (IsMarked plans.known.items) c.2 (child_marked nodes plans.known.items id c.0 are.closed mark (inner_of nodes id s has) c.1) in
+    have_by nodes plans s are fields r.label is.1 (child.1 ∙ ap next level) there in
+    ((k.planned.list has, λ i d within. (below i d within).0), (k.room, k.planned.sum has, λ i d within. (below i d within).1))
 
 count_rows : (tables : ℕ → List Box) (n : ℕ) (rows : List PrefixRow) → ((id : ℕ) → All (λ b. length b.prefixes ≡ n) (tables id)) → All (λ b. length b.prefixes ≡ suc n) (in_turn tables rows)
 count_rows tables n [] h = All-nil (λ (b : Box). length b.prefixes ≡ suc n)

@@ -112,7 +112,7 @@ pieces_more es ps i d p h z is =
     let now : ArePieces cs (take i es) ps = subst (λ c. ArePieces c (take i es) ps) (sym (children_more es i d h)) (pieces_with (children_of (take i es)) (get_or es i d).to (take i es) ps z) in
     subst (λ k. ArePieces cs (take k es) (ps ++ p ∷ [])) one (next (IsPiece cs) es ps i d p h now is)
 
-same_id : (a b : NodeId) → nat_eq a.0 b.0 ≡ true → a ≡ b
+pub same_id : (a b : NodeId) → nat_eq a.0 b.0 ≡ true → a ≡ b
 same_id a b h = elim (eqb_tells a.0 b.0) [
   | inl t ↦ ap (λ (n : ℕ). let r : NodeId = record { 0 = n } in r) t.1
   | inr t ↦ absurd (true≢false (sym h ∙ t.0))

@@ -4,44 +4,50 @@ use Rattle.std.specs.Prelude.{map, slice_get, slice_index, slice_index_or}
 use Rattle.std.specs.List.{All}
 use Rattle.std.proofs.lemmas.Option.{slice_get-get_or}
 use Rattle.std.proofs.lemmas.List.{length-map}
-use Rattle.node_store.specs.Levels.{HasField, top_of}
+use Rattle.field_boxes.specs.Fields.{greatest_of}
+use Rattle.node_store.specs.Levels.{HasField}
 use Rattle.node_store.specs.declared.edge.NodeId.{NodeId}
 use Rattle.node_store.specs.declared.edge.Edge.{Edge}
 use Rattle.node_store.specs.Edges.{child_of}
 use Rattle.node_store.specs.Diagram.{Node, level_of, edges_of}
 use Rattle.node_store.specs.Store.{IsStore, IsInner}
+use Rattle.node_store.proofs.Edges.{rise_of}
+use Rattle.node_store.proofs.Canonical.{chosen}
 use Rattle.prefix_min.specs.declared.piece.Piece.{Piece}
 use Rattle.prefix_min.specs.declared.row.PrefixRow.{PrefixRow}
 use Rattle.prefix_min.specs.Pieces.{Follow, reach, label_at, weight_from}
 use Rattle.prefix_min.specs.PrefixList.{IsRight, weight}
 use Rattle.prefix_min.specs.Order.{InOrder}
+use Rattle.table_compose.specs.Asked.{AreInputs, AreChildrenCosted}
 use Rattle.table_compose.specs.Labels.{children_of, ArePieces}
 use Rattle.table_compose.specs.Plans.{IsCosted, IsPlanned, width_of}
 use Rattle.table_compose.specs.Rows.{led}
 use Rattle.table_compose.proofs.NodeCost.{AreMinimal}
 use Rattle.table_compose.proofs.Planned as node
 
--- the node is an inner one, its labels are places of its children, and each weighs what its child costs
-pub record AreInputs (nodes : List Node) (id : ℕ) (costs : List ℕ) (children : List NodeId) (pieces : List Piece) (weights : List ℕ) : Type 0 where
-  pub store : IsStore nodes
-  pub five : HasField (level_of nodes id)
-  pub inner : IsInner nodes id (level_of nodes id) (edges_of nodes id)
-  pub children_are : children ≡ children_of (edges_of nodes id)
-  pub pieces_are : ArePieces (children_of (edges_of nodes id)) (edges_of nodes id) pieces
-  pub weights_are : weights ≡ map (λ (c : NodeId). slice_index costs c.0) (children_of (edges_of nodes id))
+pub inputs : (nodes : List Node) (id : ℕ) (costs : List ℕ) (es : List Edge) (children slice : List NodeId) (pieces : List Piece) (weights : List ℕ) → IsStore nodes →
+    HasField (level_of nodes id) → es ≡ edges_of nodes id → IsInner nodes id (level_of nodes id) es → children ≡ children_of es → ArePieces (children_of es) es pieces →
+    slice ≡ children → weights ≡ map (λ (c : NodeId). slice_index costs c.0) slice → AreInputs nodes id costs children pieces weights
+inputs nodes id costs es children slice pieces weights s five same inner first are value weigh = record {
+  store = s;
+  five = five;
+  inner = subst (IsInner nodes id (level_of nodes id)) same inner;
+  children_are = first ∙ ap children_of same;
+  pieces_are = subst (λ x. ArePieces (children_of x) x pieces) same are;
+  weights_are = weigh ∙ ap (map (λ (c : NodeId). slice_index costs c.0)) (value ∙ first ∙ ap children_of same);
+}
 
-pub inputs : (nodes : List Node) (id : ℕ) (costs : List ℕ) (es : List Edge) (keys children : List NodeId) (items pieces : List Piece) (list weights : List ℕ) → IsStore nodes →
-    HasField (level_of nodes id) → es ≡ edges_of nodes id → IsInner nodes id (level_of nodes id) es → keys ≡ children_of es → ArePieces (children_of es) es items →
-    children ≡ keys → pieces ≡ items → list ≡ map (λ (c : NodeId). slice_index costs c.0) children → weights ≡ list → AreInputs nodes id costs children pieces weights
-inputs nodes id costs es keys children items pieces list weights s five same inner first are slice slice_2 weigh slice_3 =
-    let children_are = slice ∙ first ∙ ap children_of same in record {
-      store = s;
-      five = five;
-      inner = subst (IsInner nodes id (level_of nodes id)) same inner;
-      children_are = children_are;
-      pieces_are = subst (λ ps. ArePieces (children_of (edges_of nodes id)) (edges_of nodes id) ps) (sym slice_2) (subst (λ x. ArePieces (children_of x) x items) same are);
-      weights_are = slice_3 ∙ weigh ∙ ap (map (λ (c : NodeId). slice_index costs c.0)) children_are;
-    }
+-- the same of slices of the lists
+pub sliced : (nodes : List Node) (id : ℕ) (costs : List ℕ) (children : List NodeId) (items pieces : List Piece) (list weights : List ℕ) → AreInputs nodes id costs children items list →
+    pieces ≡ items → weights ≡ list → AreInputs nodes id costs children pieces weights
+sliced nodes id costs children items pieces list weights h same here = record {
+  store = h.store;
+  five = h.five;
+  inner = h.inner;
+  children_are = h.children_are;
+  pieces_are = subst (λ ps. ArePieces (children_of (edges_of nodes id)) (edges_of nodes id) ps) (sym same) h.pieces_are;
+  weights_are = here ∙ h.weights_are;
+}
 
 module _ (nodes : List Node) (id : ℕ) (costs : List ℕ) (children : List NodeId) (pieces : List Piece) (weights : List ℕ) (h : AreInputs nodes id costs children pieces weights) where
   at : (f : ℕ) × (rest : List ℕ) × (level_of nodes id ≡ f ∷ rest)
@@ -62,22 +68,29 @@ module _ (nodes : List Node) (id : ℕ) (costs : List ℕ) (children : List Node
   pub wholes : reach 0 pieces ≡ 2 ^ width_of (level_of nodes id)
   wholes = node.wholes nodes h.store id at.0 at.1 has at.2 inner pieces h.pieces_are ∙ ap (λ k. 2 ^ width_of k) (sym at.2)
 
-  module _ (below : (v : ℕ) → HasField (level_of nodes id) → v ≤ top_of (level_of nodes id) → IsCosted nodes (child_of (edges_of nodes id) v) (slice_index costs (child_of (edges_of nodes id) v))) where
+  module _ (below : AreChildrenCosted nodes costs id) where
+    at_value : (v : ℕ) → v ≤ greatest_of at.0 → IsCosted nodes (child_of (edges_of nodes id) v) (slice_index costs (child_of (edges_of nodes id) v))
+    at_value v le = chosen (λ n. IsCosted nodes n (slice_index costs n)) (greatest_of at.0) 0 (edges_of nodes id) v (rise_of (greatest_of at.0) (edges_of nodes id) inner.full) le below
+
     pub lights : weight_from weights 0 pieces ≤ 2 ^ 104
-    lights = node.lights nodes h.store id at.0 at.1 has at.2 inner pieces h.pieces_are costs weights h.weights_are (λ v le. below v h.five (subst (λ k. v ≤ top_of k) (sym at.2) le))
+    lights = node.lights nodes h.store id at.0 at.1 has at.2 inner pieces h.pieces_are costs weights h.weights_are at_value
+
+    pub costed : (rows : List PrefixRow) (n : ℕ) → AreMinimal (width_of (level_of nodes id)) (label_at pieces) weights rows n → IsCosted nodes id n
+    costed rows n minimal =
+        node.costed nodes h.store id at.0 at.1 has at.2 inner pieces h.pieces_are costs weights h.weights_are at_value rows n (subst (λ k. AreMinimal (width_of k) (label_at pieces) weights rows n) at.2 minimal)
 
     pub planned : (rows leading : List PrefixRow) (n : ℕ) → AreMinimal (width_of (level_of nodes id)) (label_at pieces) weights rows n → InOrder rows →
         leading ≡ map (led children) rows → IsPlanned nodes costs id leading n
     planned rows leading n minimal order same =
         subst (λ ls. IsPlanned nodes costs id ls n) (ap (λ cs. map (led cs) rows) (sym h.children_are) ∙ sym same)
-        (node.planned nodes h.store id at.0 at.1 has at.2 inner pieces h.pieces_are costs weights h.weights_are (λ v le. below v h.five (subst (λ k. v ≤ top_of k) (sym at.2) le)) rows n (subst (λ k. AreMinimal (width_of k) (label_at pieces) weights rows n) at.2 minimal) order)
+        (node.planned nodes h.store id at.0 at.1 has at.2 inner pieces h.pieces_are costs weights h.weights_are at_value rows n (subst (λ k. AreMinimal (width_of k) (label_at pieces) weights rows n) at.2 minimal) order)
 
 -- the children are older than the node, so their costs are known
-pub known : (nodes : List Node) (id : ℕ) (costs : List ℕ) (es : List Edge) (keys children : List NodeId) → id ≤ length costs → IsInner nodes id (level_of nodes id) es →
-    keys ≡ children_of es → children ≡ keys → All (λ (c : NodeId). c.0 < length costs) children
-known nodes id costs es keys children room inner first slice k d less =
-    let at = ap (λ cs. slice_get cs k) (sym (slice ∙ first)) ∙ slice_get-get_or children k d less in
-    let low = node.older nodes id (level_of nodes id) es inner k (slice_index_or children k d) at in
+pub known : (nodes : List Node) (id : ℕ) (costs : List ℕ) (es : List Edge) (children slice : List NodeId) → id ≤ length costs → IsInner nodes id (level_of nodes id) es →
+    children ≡ children_of es → slice ≡ children → All (λ (c : NodeId). c.0 < length costs) slice
+known nodes id costs es children slice room inner first value k d less =
+    let at = ap (λ cs. slice_get cs k) (sym (value ∙ first)) ∙ slice_get-get_or slice k d less in
+    let low = node.older nodes id (level_of nodes id) es inner k (slice_index_or slice k d) at in
     omega (arith, room, low)
 
 -- what is promised for so many bits is promised for the bits of the node's field

@@ -5,12 +5,15 @@ pub mod FewHeaders
 pub mod Cheapest
 pub mod Labelled
 pub mod Children
-pub mod Marks
 pub mod NodeCost
 pub mod Planned
 pub mod Inputs
 pub mod Later
 pub mod KeptCosts
+pub mod KeptPlans
+pub mod Edges
+pub mod Padding
+pub mod Places
 pub mod Boxes
 pub mod Gaining
 pub mod Placing

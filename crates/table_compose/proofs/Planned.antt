@@ -164,7 +164,7 @@ module _ (nodes : List Node) (s : IsStore nodes) (id f : ℕ) (rest : List ℕ) 
         let room : 2 ^ bits_of (f ∷ rest) ≤ 2 ^ 104 = pow_mono has.0.1 in
         omega (arith, bound, all, room)
 
-    module _ (rows : List PrefixRow) (n : ℕ) (minimal : AreMinimal (width f) (label_at pieces) weights rows n) (order : InOrder rows) where
+    module _ (rows : List PrefixRow) (n : ℕ) (minimal : AreMinimal (width f) (label_at pieces) weights rows n) where
       within : (k : ℕ) → k < length weights → k < length children
       within k less = let e = ap length weigh ∙ length-map children (λ (c : NodeId). slice_index costs c.0) in omega (arith, less, e)
 
@@ -186,15 +186,18 @@ module _ (nodes : List Node) (s : IsStore nodes) (id f : ℕ) (rest : List ℕ) 
             front_led children (width f) v rows ∙ ap (option_map (child_at children)) (minimal.right.answers v small) ∙ ap Some (ap (λ o. option_map_or (λ x. x.0) o 0) c.1 ∙ c.2);
       }
 
-      pub planned : IsPlanned nodes costs id (map (led children) rows) n
-      planned = record {
-        costed = record {
-          least = subst (λ k. IsCostOf nodes k id n) (sym level) (node.node-cost nodes s id f rest has level inner.full pieces are costs weights weigh
-              (λ v small. subst (λ k. IsCostOf nodes k (child_of es v) (slice_index costs (child_of es v))) (node.child_level nodes s id f rest has level inner.full pieces are v small)
-              (below v (up_to f v small)).least)
-              rows n minimal);
-          few = subst (λ k. n ≤ 2 ^ bits_of k) (sym level) n_few;
-        };
+      pub costed : IsCosted nodes id n
+      costed = record {
+        least = subst (λ k. IsCostOf nodes k id n) (sym level) (node.node-cost nodes s id f rest has level inner.full pieces are costs weights weigh
+            (λ v small. subst (λ k. IsCostOf nodes k (child_of es v) (slice_index costs (child_of es v))) (node.child_level nodes s id f rest has level inner.full pieces are v small)
+            (below v (up_to f v small)).least)
+            rows n minimal);
+        few = subst (λ k. n ≤ 2 ^ bits_of k) (sym level) n_few;
+      }
+
+      pub planned : InOrder rows → IsPlanned nodes costs id (map (led children) rows) n
+      planned order = record {
+        costed = costed;
         list = λ h. record {
           right = subst (λ k. IsRight (width_of k) (child_of es) (map (led children) rows)) (sym level) right_led;
           order = in_order_led children rows order;
@@ -244,12 +247,15 @@ no_fields [] h = refl
 no_fields (f ∷ level) h = let e = eqb-true (length (f ∷ level)) 0 h in absurd (omega (arith, e))
 
 -- a leaf costs one entry
+pub leaf_costed : (nodes : List Node) (id : ℕ) → level_of nodes id ≡ [] → IsCosted nodes id 1
+leaf_costed nodes id level = record {
+  least = subst (λ k. IsCostOf nodes k id 1) (sym level) (λ name R apart decide. leaf-cost R);
+  few = pow_pos (bits_of (level_of nodes id));
+}
+
 pub leaf_planned : (nodes : List Node) (costs : List ℕ) (id : ℕ) (rows : List PrefixRow) → level_of nodes id ≡ [] → IsPlanned nodes costs id rows 1
 leaf_planned nodes costs id rows level = record {
-  costed = record {
-    least = subst (λ k. IsCostOf nodes k id 1) (sym level) (λ name R apart decide. leaf-cost R);
-    few = pow_pos (bits_of (level_of nodes id));
-  };
+  costed = leaf_costed nodes id level;
   list = λ five. absurd (subst HasField level five);
   sum = λ five. absurd (subst HasField level five);
   leaf = λ h. refl;

@@ -2,7 +2,6 @@
 use Rattle.std.proofs.Common.{◌≡◌, ◌∷◌, ◌++◌, ℕ, suc, List, [], Bool, true, false, length, ap, arith, refl, sym, ◌∙◌, subst}
 use Rattle.std.specs.Prelude.{cond, find, Option, Some, option_map, slice_index}
 use Rattle.std.specs.List.{All, AllZip}
-use Rattle.std.specs.Global.{Vec}
 use Rattle.std.proofs.lemmas.List.Elements.{All-nil, All-cons, All-head, All-tail}
 use Rattle.field_boxes.specs.declared.prefix.Prefix.{Prefix}
 use Rattle.node_store.specs.Levels.{IsLevel}
@@ -14,12 +13,9 @@ use Rattle.ternary_words.specs.Views.{word_of}
 use Rattle.node_store.specs.Diagram.{Node, level_of, answer}
 use Rattle.node_store.specs.Store.{IsStore}
 use Rattle.prefix_min.specs.declared.row.PrefixRow.{PrefixRow}
-use Rattle.table_compose.specs.declared.row.Row.{Row}
-use Rattle.table_compose.specs.Rows.{rows_at}
-use Rattle.table_compose.specs.Plans.{ArePlans}
 use Rattle.table_compose.specs.Composed.{Box, boxes, HaveCosts, HaveLists, IsPlaced, placed, picked, open_all, AreDistinct, Gains, IsPrefixWord, decided}
 use Rattle.table_compose.proofs.Placing.{box_at, picked_values}
-use Rattle.table_compose.proofs.Boxes.{prefix_count, count, decide_by, first_of, have_by}
+use Rattle.table_compose.proofs.Boxes.{prefix_count, count, decide_by, first_of}
 
 same_length : (level : List ℕ) (bs : List Box) (es : List Entry) → AllZip (IsPlaced level open_all) bs es → length es ≡ length bs
 same_length level [] [] z = refl
@@ -51,11 +47,6 @@ prefix_words level [] [] z = All-nil (λ e. IsPrefixWord e.word)
 prefix_words level [] (e ∷ es) z = absurd z
 prefix_words level (b ∷ bs) [] z = absurd z
 prefix_words level (b ∷ bs) (e ∷ es) z = All-cons (λ x. IsPrefixWord x.word) e es (placed level open_all b.prefixes, z.0.0) (prefix_words level bs es z.1)
-
--- what is planned of a diagram: each node has its list, with the costs of its rows
-pub have_all : (nodes : List Node) (fields : List ℕ) (root : ℕ) (costs : List ℕ) (lists : List (Vec Row)) → IsStore nodes → IsLevel fields → level_of nodes root ≡ fields → ArePlans nodes root costs lists →
-    HaveLists nodes (rows_at lists) fields root × HaveCosts nodes (rows_at lists) costs fields root
-have_all nodes fields root costs lists s is level p = have_by nodes p.marks costs lists s p.closed p.planned fields root is level (omega (arith, p.count)) p.root_marked
 
 -- as many entries as the diagram costs
 pub counted : (nodes : List Node) (fields : List ℕ) (root : ℕ) (costs : List ℕ) (lists : ℕ → List PrefixRow) (es : List Entry) → HaveCosts nodes lists costs fields root →

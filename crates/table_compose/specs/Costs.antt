@@ -1,5 +1,5 @@
 -- What is kept of what the nodes of a store cost.
-use Rattle.std.specs.Prelude.{◌≡◌, ℕ, ◌<◌, ◌++◌, Bool, List, length, replicate, slice_index}
+use Rattle.std.specs.Prelude.{ℕ, ◌<◌, ◌≤◌, Bool, List, length, slice_index}
 use Rattle.node_store.specs.Diagram.{Node}
 use Rattle.table_compose.specs.Plans.{IsMarked, IsCosted}
 use Rattle.table_compose.specs.declared.costs.Costs.{Costs}
@@ -18,6 +18,14 @@ AreKept nodes known costs = (id : ℕ) → IsMarked known id → IsKeptCost node
 abbrev pub AreCostsOf : List Node → Costs → Type 0
 AreCostsOf nodes costs = AreKept nodes costs.known.items costs.numbers.items
 
--- items of one kind were added behind
-abbrev pub IsPadded : {X : Type 0} → X → List X → List X → Type 0
-IsPadded x old new = (count : ℕ) × (new ≡ old ++ replicate count x)
+-- there is room under each number below so many
+pub record HasRoom (costs : Costs) (count : ℕ) : Type 0 where
+  pub known : count ≤ length costs.known.items
+  pub numbers : count ≤ length costs.numbers.items
+  pub places : count ≤ length costs.labels.children.places.items
+
+-- more is known, and what was known is
+pub record LearnsCosts (nodes : List Node) (old new : Costs) : Type 0 where
+  pub costs : AreCostsOf nodes new
+  pub earlier : (id : ℕ) → IsMarked old.known.items id → IsMarked new.known.items id
+  pub room : (count : ℕ) → HasRoom old count → HasRoom new count

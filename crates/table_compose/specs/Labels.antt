@@ -1,5 +1,5 @@
 -- The children of a node, and the labels that the values of its field have.
-use Rattle.std.specs.Prelude.{◌≡◌, nat_eq, List, [], ◌∷◌, ◌++◌, Some, fold, slice_get, if◌then◌else◌}
+use Rattle.std.specs.Prelude.{◌≡◌, ℕ, nat_eq, List, [], ◌∷◌, ◌++◌, Some, fold, slice_get, if◌then◌else◌}
 use Rattle.std.specs.List.{list_any, AllZip}
 use Rattle.node_store.specs.declared.edge.NodeId.{NodeId}
 use Rattle.node_store.specs.declared.edge.Edge.{Edge}
@@ -20,3 +20,7 @@ IsPiece children e p = (p.hi ≡ e.hi) × (slice_get children p.label ≡ Some e
 -- a piece for each edge, where labels are places among the children
 abbrev pub ArePieces : List NodeId → List Edge → List Piece → Type 0
 ArePieces children edges pieces = AllZip (IsPiece children) edges pieces
+
+-- under the number of each of the nodes stands its place among them
+abbrev pub ArePlaced : List ℕ → List NodeId → Type 0
+ArePlaced places nodes = (i : ℕ) (node : NodeId) → slice_get nodes i ≡ Some node → slice_get places node.0 ≡ Some i

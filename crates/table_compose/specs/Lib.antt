@@ -5,3 +5,5 @@ pub mod Plans
 pub mod Rows
 pub mod Composed
 pub mod Costs
+pub mod Asked
+pub mod Room

@@ -1,5 +1,5 @@
 -- What is worked out of each node: its least cost, and the cheapest prefix list of its field.
-use Rattle.std.specs.Prelude.{◌≡◌, ℕ, ◌<◌, ◌≤◌, ◌^◌, ◌+◌, Bool, true, List, [], ◌∷◌, Some, All, length, slice_get, slice_index}
+use Rattle.std.specs.Prelude.{◌≡◌, ℕ, ◌<◌, ◌≤◌, ◌^◌, ◌+◌, Bool, true, false, List, [], ◌∷◌, Some, All, length, slice_get, slice_index}
 use Rattle.std.specs.Global.{Vec}
 use Rattle.field_boxes.specs.Fields.{width}
 use Rattle.node_store.specs.Edges.{child_of}
@@ -9,8 +9,10 @@ use Rattle.prefix_min.specs.PrefixList.{IsRight, weight}
 use Rattle.prefix_min.specs.Order.{InOrder}
 use Rattle.node_store.specs.Levels.{HasField, top_of, bits_of}
 use Rattle.table_compose.specs.Diagrams.{IsCostOf}
+use Rattle.table_compose.specs.declared.diagram_plans.Plans.{Plans}
 use Rattle.table_compose.specs.declared.row.Row.{Row}
 use Rattle.table_compose.specs.Rows.{rows_at}
+use Rattle.table_compose.specs.Room.{IsPadded, IsLonger}
 
 -- the node under the number is marked
 abbrev pub IsMarked : List Bool → ℕ → Type 0
@@ -48,14 +50,40 @@ pub record IsPlanned (nodes : List Node) (costs : List ℕ) (id : ℕ) (rows : L
   pub sum : HasField (level_of nodes id) → weight costs rows ≡ n
   pub leaf : level_of nodes id ≡ [] → n ≡ 1
 
--- each marked node below so many is planned: its cost and its list stand under its number
-abbrev pub ArePlanned : List Node → List Bool → List ℕ → List (Vec Row) → Type 0
-ArePlanned nodes marks costs lists = (id : ℕ) → id < length costs → IsMarked marks id → IsPlanned nodes costs id (rows_at lists id) (slice_index costs id)
+-- the node under the number is one of the store, and its cost and its list stand under its number
+pub record IsKeptPlan (nodes : List Node) (costs : List ℕ) (lists : List (Vec Row)) (id : ℕ) : Type 0 where
+  pub number : id < length nodes
+  pub room : id < length costs
+  pub listed : id < length lists
+  pub planned : IsPlanned nodes costs id (rows_at lists id) (slice_index costs id)
 
--- the nodes of a diagram are planned
-pub record ArePlans (nodes : List Node) (root : ℕ) (costs : List ℕ) (lists : List (Vec Row)) : Type 0 where
-  pub marks : List Bool
-  pub root_marked : IsMarked marks root
-  pub closed : AreClosedFrom nodes 0 marks
-  pub count : length costs ≡ root + 1
-  pub planned : ArePlanned nodes marks costs lists
+-- what is kept are plans of nodes of this store, and of all to which their edges lead
+pub record ArePlansOf (nodes : List Node) (plans : Plans) : Type 0 where
+  pub closed : AreClosedFrom nodes 0 plans.known.items
+  pub kept : (id : ℕ) → IsMarked plans.known.items id → IsKeptPlan nodes plans.costs.items plans.lists.items id
+
+-- what was known is known, with its cost and its list
+pub record KeepsPlans (old new : Plans) : Type 0 where
+  pub known : (id : ℕ) → IsMarked old.known.items id → IsMarked new.known.items id
+  pub costs : (id : ℕ) → IsMarked old.known.items id → slice_index new.costs.items id ≡ slice_index old.costs.items id
+  pub lists : (id : ℕ) → IsMarked old.known.items id → rows_at new.lists.items id ≡ rows_at old.lists.items id
+
+-- there is room under each number below so many
+pub record HasRoom (plans : Plans) (count : ℕ) : Type 0 where
+  pub known : count ≤ length plans.known.items
+  pub costs : count ≤ length plans.costs.items
+  pub lists : count ≤ length plans.lists.items
+  pub places : count ≤ length plans.labels.children.places.items
+
+-- more of the nodes below a number are known, and what was known stays
+pub record LearnsBelow (nodes : List Node) (old new : Plans) (most : ℕ) : Type 0 where
+  pub plans : ArePlansOf nodes new
+  pub keeps : KeepsPlans old new
+  pub above : (id : ℕ) → most ≤ id → slice_get new.known.items id ≡ slice_get old.known.items id
+  pub room : (count : ℕ) → HasRoom old count → HasRoom new count
+
+-- room was added for more, of which nothing is known
+pub record HasMoreRoom (old new : Plans) : Type 0 where
+  pub known : IsPadded false old.known.items new.known.items
+  pub costs : IsPadded 0 old.costs.items new.costs.items
+  pub lists : IsLonger old.lists.items new.lists.items

@@ -96,12 +96,8 @@ pub fn plans_within(
     ensures within { IfOk result (λ plans. slice_index plans.costs.items root.0 ≤ limit) }
     ensures refusal { IfErr result (λ e. IsRefusal store.now order.now root.0 limit e) }
 {
-    store.same_answers();
-    let plans = Plans::of(alloc, store, root)?;
-    let needed = plans.cost(root);
-    if needed > u128::from(limit) {
-        return Err(ComposeError::TooMany { needed, limit });
-    }
+    let mut plans = Plans::new(alloc);
+    plans.learn(alloc, store, order, root, limit)?;
     Ok(plans)
 }
 

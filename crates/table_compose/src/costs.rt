@@ -1,15 +1,16 @@
 //! What the nodes of one store cost, each worked out once.
-ghost use Rattle.std.specs.Prelude.{◌≡◌, ◌<◌, ◌≤◌, ℕ, List, IsTrue, IfOk, OnOk, length, true, false, slice_index, slice_set};
-ghost use Rattle.node_store.specs.Levels.{HasField, top_of};
-ghost use Rattle.node_store.specs.Edges.{child_of};
+ghost use Rattle.std.specs.Prelude.{◌≡◌, ◌≢◌, ◌<◌, ◌+◌, List, All, IfOk, OnOk, length, true, slice_get, slice_index, slice_set, Some};
 ghost use Rattle.node_store.specs.Diagram.{Node, level_of, edges_of};
 ghost use Rattle.table_compose.specs.Diagrams.{IsCostOf};
 ghost use Rattle.table_compose.specs.Plans.{IsMarked};
-ghost use Rattle.table_compose.specs.Costs.{AreCostsOf, IsPadded};
+ghost use Rattle.table_compose.specs.Costs.{AreCostsOf, HasRoom, LearnsCosts};
 
-use crate::node_plan::NodePlan;
-use crate::reached::reached;
+use crate::labels::Labelling;
+use crate::node_plan::node_cost;
+use crate::room::{more_marks, more_numbers};
+use bumpalo::Bump;
 use node_store::{NodeId, Store};
+use prefix_min::Costing;
 use razor_base::Memory;
 use std::alloc::Global;
 
@@ -21,6 +22,7 @@ pub struct Costs {
     alloc: Global,
     known: Vec<bool>,
     numbers: Vec<u128>,
+    labels: Labelling,
 }
 
 impl Costs {
@@ -32,7 +34,25 @@ impl Costs {
             alloc,
             known: Vec::new(alloc),
             numbers: Vec::new(alloc),
+            labels: Labelling::new(alloc),
         }
+    }
+
+    /// Costs that are known from elsewhere: of the marked nodes, by number.
+    pub(crate) fn begun(alloc: Global, known: &[bool], numbers: &[u128]) -> Result<Costs, Memory>
+        ensures known { IfOk result (λ costs. costs.known.items ≡ known.now) }
+        ensures numbers { IfOk result (λ costs. costs.numbers.items ≡ numbers.now) }
+    {
+        let mut marks = Vec::new(alloc);
+        marks.extend_from_slice(known)?;
+        let mut costs = Vec::new(alloc);
+        costs.extend_from_slice(numbers)?;
+        Ok(Costs {
+            alloc,
+            known: marks,
+            numbers: costs,
+            labels: Labelling::new(alloc),
+        })
     }
 
     /// The field-by-field least cost of every rule list that decides as the diagram answers.
@@ -44,12 +64,10 @@ impl Costs {
         ensures cost { IfOk result (λ n. IsCostOf store.now (level_of store.now root.0) root.0 n) }
         ensures costs { AreCostsOf store.now self.new }
     {
-        store.same_answers();
-        let marks = reached(self.alloc, store, root)?;
-        self.make_room(marks.len())?;
-        for (number, marked) in marks.iter().enumerate() {
-            self.learn(store, NodeId(number), *marked)?;
-        }
+        self.make_room(store.count())?;
+        let arena = Bump::new(self.alloc);
+        let mut costing = Costing::new(self.alloc, &arena);
+        self.learn(&mut costing, store, root)?;
         Ok(self.known_cost(root))
     }
 
@@ -61,24 +79,37 @@ impl Costs {
         self.numbers[id.0]
     }
 
-    /// Works out what a marked node costs, where it isn't known.
-    fn learn(&mut self, store: &Store, id: NodeId, marked: bool) -> Result<(), Memory>
+    /// Works out the nodes of a diagram that aren't known, each after its children.
+    fn learn(&mut self, costing: &mut Costing, store: &Store, id: NodeId) -> Result<(), Memory>
         requires number { id.0 < length store.now }
-        requires known { id.0 < length self.old.known.items }
-        requires numbers { id.0 < length self.old.numbers.items }
+        requires room { HasRoom self.old (id.0 + 1) }
         requires costs { AreCostsOf store.now self.old }
-        requires children { IsTrue marked → (v : ℕ) → HasField (level_of store.now id.0) → v ≤ top_of (level_of store.now id.0) →
-            IsMarked self.old.known.items (child_of (edges_of store.now id.0) v) }
-        ensures costs { AreCostsOf store.now self.new }
-        ensures earlier { (k : ℕ) → IsMarked self.old.known.items k → IsMarked self.new.known.items k }
-        ensures room { (length self.new.known.items ≡ length self.old.known.items) × (length self.new.numbers.items ≡ length self.old.numbers.items) }
-        ensures known { OnOk result (IsTrue marked → IsMarked self.new.known.items id.0) }
+        ensures learns { LearnsCosts store.now self.old self.new }
+        ensures known { OnOk result (IsMarked self.new.known.items id.0) }
     {
-        if !marked || self.known[id.0] {
+        if self.known[id.0] {
             return Ok(());
         }
-        let plan = NodePlan::of(self.alloc, store, self.numbers.as_slice(), id)?;
-        self.keep(id, plan.cost);
+        store.same_answers();
+        let edges = store.edges(id);
+        for edge in edges {
+            self.learn(costing, store, edge.to)?;
+        }
+        self.work_out(costing, store, id)
+    }
+
+    /// Works out a node whose children are known.
+    fn work_out(&mut self, costing: &mut Costing, store: &Store, id: NodeId) -> Result<(), Memory>
+        requires number { id.0 < length store.now }
+        requires room { HasRoom self.old (id.0 + 1) }
+        requires costs { AreCostsOf store.now self.old }
+        requires children { All (λ e. IsMarked self.old.known.items e.to.0) (edges_of store.now id.0) }
+        ensures learns { LearnsCosts store.now self.old self.new }
+        ensures known { OnOk result (IsMarked self.new.known.items id.0) }
+    {
+        let costs = self.numbers.as_slice();
+        let cost = node_cost(&mut self.labels, costing, store, costs, id)?;
+        self.keep(id, cost);
         Ok(())
     }
 
@@ -88,6 +119,7 @@ impl Costs {
         requires numbers { id.0 < length self.old.numbers.items }
         ensures known { self.new.known.items ≡ slice_set self.old.known.items id.0 true }
         ensures numbers { self.new.numbers.items ≡ slice_set self.old.numbers.items id.0 cost }
+        ensures places { length self.new.labels.children.places.items ≡ length self.old.labels.children.places.items }
     {
         self.known[id.0] = true;
         self.numbers[id.0] = cost;
@@ -96,31 +128,11 @@ impl Costs {
     /// Makes room for the costs of so many nodes, the first of the store.
     fn make_room(&mut self, count: usize) -> Result<(), Memory>
         ensures costs { (nodes : List Node) → AreCostsOf nodes self.old → AreCostsOf nodes self.new }
-        ensures known { OnOk result (count ≤ length self.new.known.items) }
-        ensures numbers { OnOk result (count ≤ length self.new.numbers.items) }
+        ensures room { OnOk result (HasRoom self.new count) }
     {
         more_marks(&mut self.known, count)?;
         more_numbers(&mut self.numbers, count)?;
+        self.labels.children.make_room(count)?;
         Ok(())
     }
-}
-
-/// Adds marks that aren't set, up to so many.
-fn more_marks(marks: &mut Vec<bool>, count: usize) -> Result<(), Memory>
-    ensures padded { IsPadded false marks.old.items marks.new.items }
-    ensures room { OnOk result (count ≤ length marks.new.items) }
-{
-    let count = marks.len().max(count);
-    marks.resize(count, false)?;
-    Ok(())
-}
-
-/// Adds noughts, up to so many numbers.
-fn more_numbers(numbers: &mut Vec<u128>, count: usize) -> Result<(), Memory>
-    ensures padded { IsPadded 0 numbers.old.items numbers.new.items }
-    ensures room { OnOk result (count ≤ length numbers.new.items) }
-{
-    let count = numbers.len().max(count);
-    numbers.resize(count, 0)?;
-    Ok(())
 }

@@ -11,6 +11,9 @@ ghost use Rattle.ternary_words.specs.Views.{entry_of};
 ghost use Rattle.table_compose.specs.LeastCost.{AreAlike, IsLeastCost};
 ghost use Rattle.table_compose.specs.Diagrams.{NamesApart};
 ghost use Rattle.table_compose.specs.Composed.{decided};
+ghost use Rattle.table_compose.specs.Plans.{ArePlansOf};
+ghost use Rattle.table_compose.specs.declared.diagram_plans.Plans.{Plans};
+ghost use Rattle.node_store.specs.Store.{Grows};
 
 /// No two numbers are the least cost of one list.
 pub fn one_least_cost()
@@ -39,4 +42,9 @@ pub fn distinct_names_tell_apart()
 pub fn decisions_have_names()
     ensures { (names : List (List ℕ)) (entries : List Entry) (header : List ℕ) (n : ℕ) →
         decided entries header ≡ Some n → table_answer (map (entry_of names) entries) header ≡ name_at names n }
+{}
+
+/// Plans of the nodes of a store stay so when the store grows.
+pub fn plans_last()
+    ensures { (old new : List Node) (plans : Plans) → Grows old new → ArePlansOf old plans → ArePlansOf new plans }
 {}

@@ -4,7 +4,7 @@ ghost use Rattle.node_store.specs.Levels.{IsLevel};
 ghost use Rattle.node_store.specs.Diagram.{level_of};
 ghost use Rattle.table_compose.specs.Diagrams.{IsCostOf};
 
-use crate::diagram_plans::Plans;
+use crate::costs::Costs;
 use node_store::{NodeId, Store};
 use razor_base::Memory;
 use std::alloc::Global;
@@ -17,6 +17,7 @@ pub fn cost(alloc: Global, store: &Store, root: NodeId) -> Result<u128, Memory>
     requires { IsLevel (level_of store.now root.0) }
     ensures { IfOk result (λ n. IsCostOf store.now (level_of store.now root.0) root.0 n) }
 {
-    let plans = Plans::of(alloc, store, root)?;
-    Ok(plans.cost(root))
+    let mut costs = Costs::new(alloc);
+    let cost = costs.of(store, root)?;
+    Ok(cost)
 }

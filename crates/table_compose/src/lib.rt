@@ -31,7 +31,8 @@ mod labels;
 pub mod laws;
 mod least_cost;
 mod node_plan;
-mod reached;
+mod placed;
+mod room;
 mod row;
 
 pub use composition::{ComposeError, compose, plans_within};
