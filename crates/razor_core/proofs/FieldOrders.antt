@@ -13,7 +13,7 @@ use Rattle.table_compose.specs.LeastCost.{IsLeastCost}
 use Rattle.table_compose.specs.Composed.{Missing, AreDistinct}
 use Rattle.field_order.specs.Order.{IsOrder, are_distinct, are_fields}
 use Rattle.field_order.proofs.Orders.{passed}
-use Rattle.field_sift.specs.Orders as sift
+use Rattle.redundancy_laws.specs.Orders as sift
 use Rattle.node_store.specs.Levels.{IsLevel}
 use Rattle.razor_core.specs.Make.{IsNeeded, IsOrderOf}
 

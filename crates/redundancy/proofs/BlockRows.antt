@@ -8,9 +8,9 @@ use Rattle.std.proofs.lemmas.List.Elements.{All-head, All-tail, All-weaker}
 use Rattle.field_boxes.specs.Classifier.{Interval}
 use Rattle.field_boxes.specs.Spans.{interval_of}
 use Rattle.node_store.proofs.Growth.{kept_place}
-use Rattle.field_sift.specs.Rows.{Row, last_row}
-use Rattle.field_sift.specs.Layers as laws
-use Rattle.field_sift.specs.Layers.{rows_of_runs}
+use Rattle.redundancy_laws.specs.Rows.{Row, last_row}
+use Rattle.redundancy_laws.specs.Layers as laws
+use Rattle.redundancy_laws.specs.Layers.{rows_of_runs}
 use Rattle.redundancy.specs.declared.block.Block.{Block}
 use Rattle.redundancy.specs.declared.block.Block.TheVariants.{Last, Layer, Two}
 use Rattle.redundancy.specs.declared.block.Cover.{Cover}

@@ -2,8 +2,8 @@
 use Rattle.std.proofs.Common.{List}
 use Rattle.node_store.specs.Diagram.{Node}
 use Rattle.node_store.specs.Store.{Grows}
-use Rattle.field_sift.specs.Rows.{Row}
-use Rattle.field_sift.proofs.Kept.{cover-stays}
+use Rattle.redundancy_laws.specs.Rows.{Row}
+use Rattle.redundancy_laws.proofs.Kept.{cover-stays}
 use Rattle.redundancy.proofs.Numbers.{number_stays}
 use Rattle.redundancy.specs.declared.block.Block.{Block}
 use Rattle.redundancy.specs.declared.block.Cover.{Cover}

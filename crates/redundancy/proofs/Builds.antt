@@ -14,11 +14,11 @@ use Rattle.node_store.specs.Diagram.{Node, level_of}
 use Rattle.node_store.specs.Store.{Grows}
 use Rattle.node_store.proofs.Growth.{kept_place, level_kept, stays}
 use Rattle.node_store.proofs.Canonical.{in_use, is_level}
-use Rattle.field_sift.specs.Rows.{Row, last_row}
-use Rattle.field_sift.specs.Layers.{rows_of_runs}
-use Rattle.field_sift.specs.Sifted.{is_in, IsCover, IsUnion}
-use Rattle.field_sift.proofs.Covers.{cover-last, cover-two}
-use Rattle.field_sift.proofs.Kept.{cover-stays}
+use Rattle.redundancy_laws.specs.Rows.{Row, last_row}
+use Rattle.redundancy_laws.specs.Layers.{rows_of_runs}
+use Rattle.redundancy_laws.specs.Sifted.{is_in, IsCover, IsUnion}
+use Rattle.redundancy_laws.proofs.Covers.{cover-last, cover-two}
+use Rattle.redundancy_laws.proofs.Kept.{cover-stays}
 use Rattle.redundancy.specs.declared.block.Block.{Block}
 use Rattle.redundancy.specs.declared.block.Block.TheVariants.{Last, Layer, Two}
 use Rattle.redundancy.specs.declared.block.Cover.{Cover}

@@ -3,11 +3,11 @@ use Rattle.std.proofs.Common.{◌≡◌, ◌+◌, ◌<◌, ℕ, List, [], Bool, 
 use Rattle.std.proofs.lemmas.Bool.{cases_lt}
 use Rattle.std.proofs.lemmas.List.{get_or_default}
 use Rattle.ternary_words.specs.declared.entry.Entry.{Entry}
-use Rattle.field_sift.specs.Built.{ArePrefixes}
-use Rattle.field_sift.specs.Flags.{AreRightFlags, with_flags}
-use Rattle.field_sift.specs.Orders.{IsOrder}
-use Rattle.field_sift.specs.Pass.{Keeps}
-use Rattle.field_sift.proofs.Chosen.{chosen}
+use Rattle.redundancy_laws.specs.Built.{ArePrefixes}
+use Rattle.redundancy_laws.specs.Flags.{AreRightFlags, with_flags}
+use Rattle.redundancy_laws.specs.Orders.{IsOrder}
+use Rattle.redundancy_laws.specs.Pass.{Keeps}
+use Rattle.redundancy_laws.proofs.Chosen.{chosen}
 
 -- what is flagged is what a pass keeps
 pub kept_is : (order : List ℕ) (entries seen again kept : List Entry) (flags flags_seen : List Bool) → IsOrder order → ArePrefixes entries → seen ≡ entries → again ≡ entries → flags_seen ≡ flags → AreRightFlags order seen flags →

@@ -17,16 +17,16 @@ use Rattle.node_store.specs.Diagram.{Node, level_of, edges_of}
 use Rattle.node_store.specs.Store.{Grows}
 use Rattle.field_sets.specs.declared.placed.Placed.{Placed}
 use Rattle.field_sets.specs.Placed.{PlacedAt, RiseFrom, placed_at}
-use Rattle.field_sift.specs.declared.pair.Pair.{Pair}
-use Rattle.field_sift.specs.declared.sifted.Sifted.{Sifted}
-use Rattle.field_sift.specs.Rows.{Row, in_front}
-use Rattle.field_sift.specs.Layers.{AreApartFrom}
-use Rattle.field_sift.specs.Sifted.{pair_at, node_at, ArePairs, IsSifted, AreBelow, AreDistinct, IsSoFar, LeadOn}
-use Rattle.field_sift.proofs.Below.{once-below}
-use Rattle.field_sift.proofs.Kept.{next-so-far, same-so-far, so-far-stays, below-stays}
-use Rattle.redundancy.specs.declared.below.Stretch.{Stretch}
-use Rattle.redundancy.specs.declared.draft.Change.{Change}
-use Rattle.redundancy.specs.declared.draft.Draft.{Draft}
+use Rattle.redundancy_laws.specs.declared.context.Context.{Context}
+use Rattle.redundancy_laws.specs.declared.sifted.Sifted.{Sifted}
+use Rattle.redundancy_laws.specs.Rows.{Row, in_front}
+use Rattle.redundancy_laws.specs.Layers.{AreApartFrom}
+use Rattle.redundancy_laws.specs.Sifted.{context_at, node_at, AreContexts, IsSifted, AreBelow, AreDistinct, IsSoFar, LeadOn}
+use Rattle.redundancy_laws.proofs.Below.{once-below}
+use Rattle.redundancy_laws.proofs.Kept.{next-so-far, same-so-far, so-far-stays, below-stays}
+use Rattle.redundancy.specs.declared.run_contexts.Stretch.{Stretch}
+use Rattle.redundancy.specs.declared.layer_draft.Change.{Change}
+use Rattle.redundancy.specs.declared.layer_draft.Draft.{Draft}
 use Rattle.redundancy.specs.Stretches.{stretch_at, FillSpan, stretches_at, AreListed}
 use Rattle.redundancy.specs.Drafts.{placed_by, placed_in, placed_for, leads_of, IsChange, IsTakenIn, RiseUpTo, IsDraft}
 use Rattle.redundancy.proofs.Numbers.{number_stays}
@@ -117,7 +117,7 @@ pub placed_stays : (old new : List Node) (level : List ℕ) (ps : List Placed) �
 placed_stays old new level ps five g h = All-weaker (λ (p : Placed). level_of old p.to.0 ≡ level) (λ (p : Placed). level_of new p.to.0 ≡ level) (λ p e. number_stays old new p.to.0 level five g e) ps h
 
 -- the pairs at the places of the keys
-pub keys_below : (nodes : List Node) (level : List ℕ) (span : Interval) (pairs lower keys : List Pair) (lists : List (SmallVec Stretch)) (places : List ℕ) → span.hi ≤ top_of level →
+pub keys_below : (nodes : List Node) (level : List ℕ) (span : Interval) (pairs lower keys : List Context) (lists : List (SmallVec Stretch)) (places : List ℕ) → span.hi ≤ top_of level →
     AreListed nodes span pairs (length pairs) lower lists → AreDistinct lower keys places → AreBelow nodes level span pairs keys (λ c v. slice_index_or places (stretch_at (stretches_at lists c) v) 0)
 keys_below nodes level span pairs lower keys lists places inside listed distinct =
     once-below nodes level span pairs lower keys (λ c v. stretch_at (stretches_at lists c) v) places
@@ -127,7 +127,7 @@ keys_below nodes level span pairs lower keys lists places inside listed distinct
     })
     distinct
 
-module _ (base old new : List Node) (level : List ℕ) (rows more : List Row) (pairs lower keys : List Pair) (next : ℕ) (span : Span) (lists : List (SmallVec Stretch)) (places : List ℕ) (inner : Sifted) (d e : Draft) where
+module _ (base old new : List Node) (level : List ℕ) (rows more : List Row) (pairs lower keys : List Context) (next : ℕ) (span : Span) (lists : List (SmallVec Stretch)) (places : List ℕ) (inner : Sifted) (d e : Draft) where
   abbrev Runs : List Row
   Runs = rows ++ map (in_front (interval_of span)) more
 
@@ -145,7 +145,7 @@ module _ (base old new : List Node) (level : List ℕ) (rows more : List Row) (p
   pub record IsRun : Type 0 where
     pub five : HasField level
     pub grown : Grows old new
-    pub are : ArePairs old level pairs
+    pub are : AreContexts old level pairs
     pub inside : span.hi ≤ top_of level
     pub listed : AreListed old (interval_of span) pairs (length pairs) lower lists
     pub distinct : AreDistinct lower keys places
@@ -205,12 +205,12 @@ module _ (base old new : List Node) (level : List ℕ) (rows more : List Row) (p
     inside = λ c v less small holds.
         let b = between v (interval_of span) holds in
         let low = h.above in
-        ap (λ r. unwrap_or r (child_of (edges_of base (pair_at pairs c).after.0) v))
+        ap (λ r. unwrap_or r (child_of (edges_of base (context_at pairs c).after.0) v))
         (ap (λ ps. placed_at ps v) (placed_is h change is c less)
         ∙ placed_past 0 next v (placed_for d.changes.items c) (map (placed_by places inner.after.items) (stretches_at lists c)) (h.draft.rise c less) (omega (arith, low, b.0))
         ∙ placed_here places inner.after.items span.lo span.hi v (stretches_at lists c) (h.listed.each c less).fill b.0 b.1);
     outside = λ c v less small out.
-        ap (λ r. unwrap_or r (child_of (edges_of base (pair_at pairs c).after.0) v))
+        ap (λ r. unwrap_or r (child_of (edges_of base (context_at pairs c).after.0) v))
         (ap (λ ps. placed_at ps v) (placed_is h change is c less)
         ∙ placed_before v (placed_for d.changes.items c) (map (placed_by places inner.after.items) (stretches_at lists c))
         (placed_none places inner.after.items span.lo span.hi v (stretches_at lists c) (h.listed.each c less).fill (out_of v (interval_of span) out)));

@@ -1,6 +1,6 @@
 -- No field of an order stands twice, said of a table's fields.
 use Rattle.std.proofs.Common.{◌∷◌, ℕ, List, []}
-use Rattle.field_sift.specs.Orders.{AreDistinct, IsMissing}
+use Rattle.redundancy_laws.specs.Orders.{AreDistinct, IsMissing}
 use Rattle.table_compose.specs.Composed as tables
 
 missing : (f : ℕ) (level : List ℕ) → IsMissing f level → tables.Missing f level

@@ -4,8 +4,8 @@ use Rattle.ternary_words.specs.declared.entry.Entry.{Entry}
 use Rattle.field_boxes.specs.Classifier.{Interval}
 use Rattle.field_boxes.specs.Fields.{greatest_of}
 use Rattle.node_store.specs.Levels.{HasField, next as next_level, top_of}
-use Rattle.field_sift.specs.Built.{row_at, span_at}
-use Rattle.field_sift.specs.Rows.{in_front}
+use Rattle.redundancy_laws.specs.Built.{row_at, span_at}
+use Rattle.redundancy_laws.specs.Rows.{in_front}
 
 pub front : (level : List ℕ) (e : Entry) (span : Interval) → HasField level → span_at (get_or level 0 0) e ≡ span → row_at level e ≡ in_front span (row_at (next_level level) e)
 front [] e span has is = absurd has

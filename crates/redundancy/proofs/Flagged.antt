@@ -15,7 +15,7 @@ use Rattle.table_compose.specs.declared.row.Row.{Row}
 use Rattle.table_compose.specs.Rows.{rows_of}
 use Rattle.table_compose.specs.Composed.{Box, HaveLists, IsPlaced, behind, boxes, in_turn}
 use Rattle.table_compose.proofs.Gaining.{one_row, turn_more, zip_append}
-use Rattle.field_sift.specs.Flags.{with_flags}
+use Rattle.redundancy_laws.specs.Flags.{with_flags}
 use Rattle.redundancy.specs.Kept.{GainsFlagged}
 use Rattle.redundancy.proofs.Words.{entries_there}
 

@@ -12,9 +12,9 @@ use Rattle.field_boxes.specs.Spans.{interval_of}
 use Rattle.node_store.specs.Diagram.{Node}
 use Rattle.node_store.specs.Store.{Grows}
 use Rattle.node_store.proofs.Growth as growth
-use Rattle.field_sift.specs.Rows.{Row, in_front}
-use Rattle.field_sift.specs.Layers as laws
-use Rattle.field_sift.specs.Layers.{rows_of_runs}
+use Rattle.redundancy_laws.specs.Rows.{Row, in_front}
+use Rattle.redundancy_laws.specs.Layers as laws
+use Rattle.redundancy_laws.specs.Layers.{rows_of_runs}
 use Rattle.redundancy.specs.declared.block.Run.{Run}
 use Rattle.redundancy.specs.declared.blocks.Blocks.{Blocks}
 use Rattle.redundancy.specs.declared.lists.Item.TheVariants.{Behind}

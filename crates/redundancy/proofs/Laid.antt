@@ -14,11 +14,11 @@ use Rattle.node_store.specs.Edges.{child_of}
 use Rattle.node_store.specs.Diagram.{Node, answer, edges_of, level_of}
 use Rattle.node_store.proofs.Values.{each, values_from}
 use Rattle.field_sets.specs.Placed.{PlacedAt, RiseFrom, led, placed_at}
-use Rattle.field_sift.specs.Rows.{Row, in_front, matches}
-use Rattle.field_sift.specs.Layers.{AreApart, rows_of_runs}
-use Rattle.field_sift.specs.Sifted.{is_in, IsCover}
-use Rattle.field_sift.proofs.Apart.{behind-none, ends, none-below}
-use Rattle.field_sift.proofs.OneRun.{cover-behind}
+use Rattle.redundancy_laws.specs.Rows.{Row, in_front, matches}
+use Rattle.redundancy_laws.specs.Layers.{AreApart, rows_of_runs}
+use Rattle.redundancy_laws.specs.Sifted.{is_in, IsCover}
+use Rattle.redundancy_laws.proofs.Apart.{behind-none, ends, none-below}
+use Rattle.redundancy_laws.proofs.OneRun.{cover-behind}
 use Rattle.redundancy.specs.declared.block.Cover.{Cover}
 use Rattle.redundancy.specs.declared.block.Run.{Run}
 use Rattle.redundancy.specs.declared.blocks.Blocks.{Blocks}

@@ -14,19 +14,19 @@ use Rattle.node_store.specs.Store.{Grows, IsStore}
 use Rattle.node_store.proofs.Growth.{twice}
 use Rattle.field_sets.specs.declared.placed.Placed.{Placed}
 use Rattle.field_sets.specs.Placed.{led}
-use Rattle.field_sift.specs.declared.pair.Pair.{Pair}
-use Rattle.field_sift.specs.declared.sifted.Sifted.{Sifted}
-use Rattle.field_sift.specs.Rows.{Row, in_front}
-use Rattle.field_sift.specs.Layers as laws
-use Rattle.field_sift.specs.Layers.{AreApart, AreApartFrom, rows_of_runs, end_of}
-use Rattle.field_sift.specs.Sifted.{no_node, pair_at, node_at, ArePairs, IsSifted, IsSoFar, LeadsAs}
-use Rattle.field_sift.proofs.Apart.{apart-from, rows-more}
-use Rattle.field_sift.proofs.Covers.{end-more}
-use Rattle.field_sift.proofs.Kept.{none-so-far, so-far-stays, layer-sifted, made, made-stays, pairs-stay}
+use Rattle.redundancy_laws.specs.declared.context.Context.{Context}
+use Rattle.redundancy_laws.specs.declared.sifted.Sifted.{Sifted}
+use Rattle.redundancy_laws.specs.Rows.{Row, in_front}
+use Rattle.redundancy_laws.specs.Layers as laws
+use Rattle.redundancy_laws.specs.Layers.{AreApart, AreApartFrom, rows_of_runs, end_of}
+use Rattle.redundancy_laws.specs.Sifted.{no_node, context_at, node_at, AreContexts, IsSifted, IsSoFar, LeadsAs}
+use Rattle.redundancy_laws.proofs.Apart.{apart-from, rows-more}
+use Rattle.redundancy_laws.proofs.Covers.{end-more}
+use Rattle.redundancy_laws.proofs.Kept.{none-so-far, so-far-stays, layer-sifted, made, made-stays, pairs-stay}
 use Rattle.redundancy.specs.declared.block.Run.{Run}
 use Rattle.redundancy.specs.declared.block.Cover.{Cover}
-use Rattle.redundancy.specs.declared.draft.Change.{Change}
-use Rattle.redundancy.specs.declared.draft.Draft.{Draft}
+use Rattle.redundancy.specs.declared.layer_draft.Change.{Change}
+use Rattle.redundancy.specs.declared.layer_draft.Draft.{Draft}
 use Rattle.redundancy.specs.Blocks.{run_by, FitsRun, RiseApart}
 use Rattle.redundancy.specs.Drafts.{placed_for, leads_of, RiseUpTo, AreChanges, IsDraft}
 use Rattle.redundancy.proofs.Numbers.{number_stays, edges_stay}
@@ -51,7 +51,7 @@ module _ (rows : ℕ → List Row) (runs : List Run) (k : ℕ) (r : Run) where
   pub apart_front : RiseApart runs → slice_get runs k ≡ Some r → AreApartFrom (interval_of r.span) (rows_of_runs Front)
   apart_front apart e = apart-from 0 (map (run_by rows) runs) k (run_by rows r) (apart_by (λ block. []) rows 0 runs apart) (run_there e)
 
-  pub draft_next : (base new : List Node) (level : List ℕ) (pairs : List Pair) (d : Draft) → RiseApart runs → slice_get runs k ≡ Some r →
+  pub draft_next : (base new : List Node) (level : List ℕ) (pairs : List Context) (d : Draft) → RiseApart runs → slice_get runs k ≡ Some r →
       IsDraft base new level (rows_of_runs Front ++ map (in_front (interval_of r.span)) (rows r.block)) pairs (suc r.span.hi) d →
       IsDraft base new level (rows_of_runs (take (k + 1) (map (run_by rows) runs))) pairs (end_of 0 (take (k + 1) (map (run_by rows) runs))) d
   draft_next base new level pairs d apart e h =
@@ -64,7 +64,7 @@ module _ (rows : ℕ → List Row) (runs : List Run) (k : ℕ) (r : Run) where
       (subst (λ rs. IsDraft base new level rs pairs (suc r.span.hi) d) (sym more) h))
 
 -- no run was taken in
-pub draft_start : (nodes : List Node) (level : List ℕ) (pairs : List Pair) (d : Draft) → IsStore nodes → HasField level → ArePairs nodes level pairs → d.kept.items ≡ [] → d.changes.items ≡ [] → IsDraft nodes nodes level [] pairs 0 d
+pub draft_start : (nodes : List Node) (level : List ℕ) (pairs : List Context) (d : Draft) → IsStore nodes → HasField level → AreContexts nodes level pairs → d.kept.items ≡ [] → d.changes.items ≡ [] → IsDraft nodes nodes level [] pairs 0 d
 draft_start nodes level pairs d store five are ek ec = record {
   so_far = subst (λ flags. IsSoFar nodes level [] pairs flags (leads_of nodes pairs d.changes.items)) (sym ek) (subst (λ cs. IsSoFar nodes level [] pairs [] (leads_of nodes pairs cs)) (sym ec) (none-so-far nodes level pairs store five are));
   room = subst (All (λ (change : Change). length change.placed.items ≡ length pairs)) (sym ec) (All-nil (λ (change : Change). length change.placed.items ≡ length pairs));
@@ -79,12 +79,12 @@ end_inside covers number level least rows (r ∷ runs) le all =
     let inside = (All-head (FitsRun covers number level) r runs all).inside in
     end_inside covers number level (r.span.hi + 1) rows runs (omega (arith, inside)) (All-tail (FitsRun covers number level) r runs all)
 
-module _ (base now : List Node) (level : List ℕ) (pairs : List Pair) (changes : List Change) where
+module _ (base now : List Node) (level : List ℕ) (pairs : List Context) (changes : List Change) where
   -- contexts lead as they did
-  leads_same : HasField level → Grows base now → ArePairs base level pairs → (c v : ℕ) → c < length pairs → leads_of now pairs changes c v ≡ leads_of base pairs changes c v
-  leads_same five g are c v less = ap (λ es. led (placed_for changes c) es v) (edges_stay base now (pair_at pairs c).after.0 level (is_level level five) g (are c less).0)
+  leads_same : HasField level → Grows base now → AreContexts base level pairs → (c v : ℕ) → c < length pairs → leads_of now pairs changes c v ≡ leads_of base pairs changes c v
+  leads_same five g are c v less = ap (λ es. led (placed_for changes c) es v) (edges_stay base now (context_at pairs c).after.0 level (is_level level five) g (are c less).0)
 
-  pub numbers_now : (rows : List Row) (d : Draft) (next : ℕ) → HasField level → Grows base now → ArePairs base level pairs → d.changes.items ≡ changes → IsDraft base now level rows pairs next d →
+  pub numbers_now : (rows : List Row) (d : Draft) (next : ℕ) → HasField level → Grows base now → AreContexts base level pairs → d.changes.items ≡ changes → IsDraft base now level rows pairs next d →
       (c v : ℕ) → c < length pairs → v ≤ top_of level → level_of now (leads_of now pairs changes c v) ≡ next_level level
   numbers_now rows d next five g are ec draft c v less small =
       ap (level_of now) (leads_same five g are c v less ∙ sym (ap (λ cs. leads_of base pairs cs c v) ec)) ∙ draft.so_far.numbers c v less small
@@ -99,19 +99,19 @@ module _ (base now : List Node) (level : List ℕ) (pairs : List Pair) (changes 
       })
 
   -- a context's node leads as the changes say
-  pub finished_next : (new : List Node) (c : ℕ) (placed : List Placed) (id : NodeId) → HasField level → Grows base now → Grows now new → ArePairs base level pairs → c < length pairs →
+  pub finished_next : (new : List Node) (c : ℕ) (placed : List Placed) (id : NodeId) → HasField level → Grows base now → Grows now new → AreContexts base level pairs → c < length pairs →
       placed ≡ placed_for changes c → ((k v : ℕ) → k < length pairs → v ≤ top_of level → level_of base (leads_of base pairs changes k v) ≡ next_level level) → level_of new id.0 ≡ level →
-      ((v : ℕ) (values : List ℕ) → v ≤ top_of level → answer new id.0 (v ∷ values) ≡ answer now (led placed (edges_of now (pair_at pairs c).after.0) v) values) →
+      ((v : ℕ) (values : List ℕ) → v ≤ top_of level → answer new id.0 (v ∷ values) ≡ answer now (led placed (edges_of now (context_at pairs c).after.0) v) values) →
       LeadsAs new level (leads_of base pairs changes) c id
   finished_next new c placed id five first g are less is numbers number answers =
       made now new level (leads_of base pairs changes) c id five g (λ v small. number_stays base now _ (next_level level) (is_next level five) first (numbers c v less small)) number
       (λ v values small.
       answers v values small
-      ∙ ap (λ ps. answer now (led ps (edges_of now (pair_at pairs c).after.0) v) values) is
+      ∙ ap (λ ps. answer now (led ps (edges_of now (context_at pairs c).after.0) v) values) is
       ∙ ap (λ n. answer now n values) (leads_same five first are c v less))
 
 -- the layer by its nodes
-pub layer_end : (base now new : List Node) (level : List ℕ) (next : ℕ) (rows : List Row) (pairs : List Pair) (d : Draft) (changes : List Change) (s : Sifted) → HasField level → Grows base now → Grows now new → ArePairs base level pairs →
+pub layer_end : (base now new : List Node) (level : List ℕ) (next : ℕ) (rows : List Row) (pairs : List Context) (d : Draft) (changes : List Change) (s : Sifted) → HasField level → Grows base now → Grows now new → AreContexts base level pairs →
     IsDraft base now level rows pairs next d → d.changes.items ≡ changes → s.kept.items ≡ d.kept.items → length s.after.items ≡ length pairs →
     ((c : ℕ) → c < length pairs → LeadsAs new level (leads_of now pairs changes) c (node_at s.after.items c)) → IsSifted new level rows pairs s
 layer_end base now new level next rows pairs d changes s five first g are draft ec ek count each =
@@ -126,10 +126,10 @@ layer_end base now new level next rows pairs d changes s five first g are draft 
     })
 
 -- a node more
-pub finished_more : (base now new : List Node) (level : List ℕ) (pairs : List Pair) (changes : List Change) (placed_now placed : List Placed) (id : NodeId) (ids longer : List NodeId) (n : ℕ) → HasField level → Grows base now → Grows now new →
-    ArePairs base level pairs → n < length pairs → placed_now ≡ placed → placed ≡ placed_for changes n →
+pub finished_more : (base now new : List Node) (level : List ℕ) (pairs : List Context) (changes : List Change) (placed_now placed : List Placed) (id : NodeId) (ids longer : List NodeId) (n : ℕ) → HasField level → Grows base now → Grows now new →
+    AreContexts base level pairs → n < length pairs → placed_now ≡ placed → placed ≡ placed_for changes n →
     ((k v : ℕ) → k < length pairs → v ≤ top_of level → level_of base (leads_of base pairs changes k v) ≡ next_level level) → level_of new id.0 ≡ level →
-    ((v : ℕ) (values : List ℕ) → v ≤ top_of level → answer new id.0 (v ∷ values) ≡ answer now (led placed_now (edges_of now (pair_at pairs n).after.0) v) values) →
+    ((v : ℕ) (values : List ℕ) → v ≤ top_of level → answer new id.0 (v ∷ values) ≡ answer now (led placed_now (edges_of now (context_at pairs n).after.0) v) values) →
     length ids ≡ n → ((c : ℕ) → c < n → LeadsAs now level (leads_of base pairs changes) c (node_at ids c)) → longer ≡ ids ++ id ∷ [] →
     Grows base new × (length longer ≡ n + 1) × ((c : ℕ) → c < n + 1 → LeadsAs new level (leads_of base pairs changes) c (node_at longer c))
 finished_more base now new level pairs changes placed_now placed id ids longer n five first g are less pn is numbers number answers count each longer_is =
@@ -140,7 +140,7 @@ finished_more base now new level pairs changes placed_now placed id ids longer n
     (twice base now new first g, p.0, p.1)
 
 -- all runs were taken in
-pub draft_full : (rows : ℕ → List Row) (runs : List Run) (k : ℕ) (base now : List Node) (level : List ℕ) (pairs : List Pair) (d : Draft) → k ≡ length runs →
+pub draft_full : (rows : ℕ → List Row) (runs : List Run) (k : ℕ) (base now : List Node) (level : List ℕ) (pairs : List Context) (d : Draft) → k ≡ length runs →
     IsDraft base now level (rows_of_runs (take k (map (run_by rows) runs))) pairs (end_of 0 (take k (map (run_by rows) runs))) d →
     IsDraft base now level (rows_of_runs (map (run_by rows) runs)) pairs (end_of 0 (map (run_by rows) runs)) d
 draft_full rows runs k base now level pairs d e draft =

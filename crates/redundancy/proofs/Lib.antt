@@ -13,12 +13,15 @@ pub mod Laid
 pub mod LayerDrafts
 pub mod ListRows
 pub mod Listing
+pub mod NodeBlocks
+pub mod NodePlans
 pub mod NodeRows
 pub mod NodeRuns
 pub mod Numbers
 pub mod Once
 pub mod Places
 pub mod Recalled
+pub mod Removals
 pub mod Rooms
 pub mod Running
 pub mod Sequences

@@ -5,7 +5,7 @@ use Rattle.std.proofs.lemmas.Bool.{cases_lt}
 use Rattle.std.proofs.Math.ListN.{set}
 use Rattle.std.proofs.lemmas.List.{length-append, length-set}
 use Rattle.std.proofs.lemmas.Option.{slice_get_within}
-use Rattle.field_sift.specs.Rows.{Row, in_front}
+use Rattle.redundancy_laws.specs.Rows.{Row, in_front}
 use Rattle.redundancy.specs.declared.blocks.Blocks.{Blocks}
 use Rattle.redundancy.specs.declared.lists.Item.{Item}
 use Rattle.redundancy.specs.declared.lists.Item.TheVariants.{Last, Behind}

@@ -23,11 +23,11 @@ use Rattle.table_compose.proofs.Boxes.{prefix_count}
 use Rattle.table_compose.proofs.Later.{child_older}
 use Rattle.table_compose.proofs.Placing.{box_at}
 use Rattle.table_compose.proofs.Tables.{prefix_words}
-use Rattle.field_sift.specs.Built.{ArePrefixes, row_at}
-use Rattle.field_sift.specs.Orders.{IsOrder, picked}
-use Rattle.field_sift.specs.Rows.{Row, each_holds, in_front, matches}
-use Rattle.field_sift.proofs.Orders.{picked_values, some_header}
-use Rattle.field_sift.proofs.Prefixed.{row-matches}
+use Rattle.redundancy_laws.specs.Built.{ArePrefixes, row_at}
+use Rattle.redundancy_laws.specs.Orders.{IsOrder, picked}
+use Rattle.redundancy_laws.specs.Rows.{Row, each_holds, in_front, matches}
+use Rattle.redundancy_laws.proofs.Orders.{picked_values, some_header}
+use Rattle.redundancy_laws.proofs.Prefixed.{row-matches}
 use Rattle.redundancy.specs.NodeRows.{in_turn, node_rows}
 use Rattle.redundancy.proofs.Fields.{distinct}
 use Rattle.redundancy.proofs.WholeFlags.{AreAlikeRows}
@@ -56,18 +56,19 @@ rows_in_turn f fields tables (r ∷ rows) =
     ∙ ap (λ (rs : List Row). rs ++ map (box_row (f ∷ fields)) (composed.in_turn tables rows)) (rows_behind f fields r.prefix (tables r.label))
     ∙ ap (λ (rs : List Row). map (in_front (prefix_interval (width f) r.prefix)) (map (box_row fields) (tables r.label)) ++ rs) (rows_in_turn f fields tables rows)
 
-same_in_turn : (f : ℕ) (some others : ℕ → List Row) (rows : List PrefixRow) → ((id : ℕ) → some id ≡ others id) → in_turn f some rows ≡ in_turn f others rows
-same_in_turn f some others [] h = refl
-same_in_turn f some others (r ∷ rows) h =
-    ap (λ (rs : List Row). map (in_front (prefix_interval (width f) r.prefix)) rs ++ in_turn f some rows) (h r.label)
-    ∙ ap (λ (rs : List Row). map (in_front (prefix_interval (width f) r.prefix)) (others r.label) ++ rs) (same_in_turn f some others rows h)
+-- tables that are the same for each row
+pub same_in_turn : (f : ℕ) (some others : ℕ → List Row) (rows : List PrefixRow) → All (λ (r : PrefixRow). some r.label ≡ others r.label) rows → in_turn f some rows ≡ in_turn f others rows
+same_in_turn f some others [] same = refl
+same_in_turn f some others (r ∷ rows) same =
+    ap (λ (rs : List Row). map (in_front (prefix_interval (width f) r.prefix)) rs ++ in_turn f some rows) (All-head (λ (x : PrefixRow). some x.label ≡ others x.label) r rows same)
+    ∙ ap (λ (rs : List Row). map (in_front (prefix_interval (width f) r.prefix)) (others r.label) ++ rs) (same_in_turn f some others rows (All-tail (λ (x : PrefixRow). some x.label ≡ others x.label) r rows same))
 
 -- the boxes of a node, as rows, are the rows of the node
 pub rows_of_boxes : (nodes : List Node) (lists : ℕ → List PrefixRow) (fields : List ℕ) (id : ℕ) → map (box_row fields) (boxes nodes lists fields id) ≡ node_rows nodes lists fields id
 rows_of_boxes nodes lists [] id = refl
 rows_of_boxes nodes lists (f ∷ fields) id =
     rows_in_turn f fields (boxes nodes lists fields) (lists id)
-    ∙ same_in_turn f (λ child. map (box_row fields) (boxes nodes lists fields child)) (node_rows nodes lists fields) (lists id) (λ child. rows_of_boxes nodes lists fields child)
+    ∙ same_in_turn f (λ child. map (box_row fields) (boxes nodes lists fields child)) (node_rows nodes lists fields) (lists id) (λ k d less. rows_of_boxes nodes lists fields (slice_index_or (lists id) k d).label)
 
 both : (a b c d : Bool) → a ≡ b → c ≡ d → (a && c) ≡ (b && d)
 both a b c d h k = cc

@@ -1,7 +1,6 @@
 -- The runs of a node's rows.
-use Rattle.std.proofs.Common.{◌≡◌, ◌∷◌, ◌++◌, ℕ, zero, suc, List, [], ◌+◌, ◌-◌, ◌^◌, ◌<◌, ◌≤◌, length, refl, ap, arith, sym, ◌∙◌, subst, inl, inr, map, take, get_or}
-use Rattle.std.specs.Prelude.{IfOk, OnOk, Option, Some, None, Result, Ok, Err, replicate, slice_get, slice_index_or}
-use Rattle.std.proofs.Math.ListN.{set}
+use Rattle.std.proofs.Common.{◌≡◌, ◌∷◌, ◌++◌, ℕ, suc, List, [], ◌+◌, ◌-◌, ◌^◌, ◌<◌, ◌≤◌, length, refl, ap, arith, sym, ◌∙◌, subst, map, take, get_or}
+use Rattle.std.specs.Prelude.{slice_index_or}
 use Rattle.std.proofs.Math.Seq.{take-suc}
 use Rattle.std.proofs.lemmas.List.{length-append, length-map, map-append, append-nil, take_all}
 use Rattle.std.proofs.lemmas.List.Concat.{flat_map-append}
@@ -13,86 +12,40 @@ use Rattle.field_boxes.proofs.Prefixes.{whole_step_within}
 use Rattle.node_store.specs.Diagram.{Node, level_of}
 use Rattle.node_store.specs.Levels.{HasField, next as next_level, top_of}
 use Rattle.prefix_min.specs.declared.row.PrefixRow.{PrefixRow}
-use Rattle.table_compose.specs.declared.row.Row as plans
+use Rattle.table_compose.specs.declared.diagram_plans.Plans.{Plans}
+use Rattle.table_compose.specs.declared.row.Row as codes
 use Rattle.node_store.specs.Store.{IsStore}
 use Rattle.table_compose.specs.Composed.{HaveLists}
 use Rattle.table_compose.specs.Plans.{IsChild, width_of}
 use Rattle.table_compose.specs.Rows as plan_rows
+use Rattle.table_compose.specs.Rows.{rows_at}
 use Rattle.table_compose.proofs.Gaining.{all_row, lists_at}
 use Rattle.table_compose.proofs.Later.{child_older}
-use Rattle.field_sift.specs.Built.{field_of}
-use Rattle.field_sift.specs.Rows.{Row, in_front}
-use Rattle.field_sift.specs.Layers.{rows_of_runs}
+use Rattle.redundancy_laws.specs.Built.{field_of}
+use Rattle.redundancy_laws.specs.Rows.{Row, in_front}
+use Rattle.redundancy_laws.specs.Layers.{rows_of_runs}
 use Rattle.redundancy.specs.declared.block.Run.{Run}
 use Rattle.redundancy.specs.declared.blocks.Blocks.{Blocks}
 use Rattle.redundancy.specs.declared.known.Known.{Known}
 use Rattle.redundancy.specs.Blocks.{FitsRun, IsBlocks, rows_of, run_by}
 use Rattle.redundancy.specs.Built.{BlocksGrow, FitRuns, IsBuilt}
-use Rattle.redundancy.specs.Known.{AreKnown, IsBlockOf}
+use Rattle.redundancy.specs.Known.{AreKnown, HasPlans}
 use Rattle.redundancy.specs.NodeRows.{in_turn, node_rows}
 use Rattle.redundancy.proofs.Gathering.{all_more, blocks_same, blocks_then, built_grows, leads_stay, runs_agree, runs-append}
-use Rattle.redundancy.proofs.ListRows.{set_cases, some_known}
-
--- what is known of nodes stays where blocks are added
-pub known_over : (nodes : List Node) (lists : ℕ → List PrefixRow) (s0 s1 : List Node) (b0 b1 : Blocks) (known : Known) → BlocksGrow s0 s1 b0 b1 → AreKnown nodes lists b0 known → AreKnown nodes lists b1 known
-known_over nodes lists s0 s1 b0 b1 known g h id number e =
-    let k = h id number e in
-    let less = k.within in
-    record { within = omega (arith, less, g.count); level_is = ap (λ c. c.level.now) (g.covers_stay number less) ∙ k.level_is; rows_are = g.rows_stay number less ∙ k.rows_are }
-
-none_there : (n k number : ℕ) (X : Type 0) → slice_get (replicate n None) k ≡ Some (Some number) → X
-none_there zero k number X e = absurd (cc)
-none_there (suc n) zero number X e = absurd (cc)
-none_there (suc n) (suc k) number X e = none_there n k number X e
-
-pub none_known : (nodes : List Node) (lists : ℕ → List PrefixRow) (blocks : Blocks) (known : Known) (n : ℕ) → known.numbers.items ≡ replicate n None → AreKnown nodes lists blocks known
-none_known nodes lists blocks known n is id number e = none_there n id number (IsBlockOf nodes lists blocks id number) (ap (λ (ns : List (Option ℕ)). slice_get ns id) (sym is) ∙ e)
-
-pub known_more : (nodes : List Node) (lists : ℕ → List PrefixRow) (blocks : Blocks) (old : Known) (id number : ℕ) → AreKnown nodes lists blocks old → IsBlockOf nodes lists blocks id number →
-    (other found : ℕ) → slice_get (set old.numbers.items id (Some number)) other ≡ Some (Some found) → IsBlockOf nodes lists blocks other found
-known_more nodes lists blocks old id number h here other found e =
-    elim (set_cases old.numbers.items id (Some number) other (Some found) e) [
-      | inl before ↦ h other found before
-      | inr at ↦ subst (λ k. IsBlockOf nodes lists blocks k found) (sym at.0) (subst (λ n. IsBlockOf nodes lists blocks id n) (sym (some_known found number at.1)) here)
-    ]
-
--- a block that was there
-pub known_built : (nodes : List Node) (lists : ℕ → List PrefixRow) (s : List Node) (blocks : Blocks) (id : ℕ) (level : List ℕ) (number : ℕ) → IsBlocks s blocks → level_of nodes id ≡ level → IsBlockOf nodes lists blocks id number →
-    IsBuilt s s blocks blocks level (node_rows nodes lists level id) number
-known_built nodes lists s blocks id level number h at k =
-    let same = blocks_same s blocks h in
-    record {
-      grows = same.grows;
-      blocks = h;
-      count = same.count;
-      rows_stay = same.rows_stay;
-      covers_stay = same.covers_stay;
-      number_in = k.within;
-      level_is = k.level_is ∙ at;
-      rows_are = k.rows_are ∙ ap (λ n. node_rows nodes lists n id) at;
-    }
-
--- a block that was built is that of its node
-pub block_of : (nodes : List Node) (lists : ℕ → List PrefixRow) (s0 s1 : List Node) (b0 b1 : Blocks) (id : ℕ) (level : List ℕ) (number : ℕ) → level_of nodes id ≡ level →
-    IsBuilt s0 s1 b0 b1 level (node_rows nodes lists level id) number → IsBlockOf nodes lists b1 id number
-block_of nodes lists s0 s1 b0 b1 id level number at h = record {
-  within = h.number_in;
-  level_is = h.level_is ∙ sym at;
-  rows_are = h.rows_are ∙ ap (λ n. node_rows nodes lists n id) (sym at);
-}
+use Rattle.redundancy.proofs.NodePlans.{plans_below}
 
 -- so many runs have these rows, and lead on to blocks that are there
-pub record AreTurned (nodes : List Node) (lists : ℕ → List PrefixRow) (s0 s : List Node) (b0 b : Blocks) (numbers : Known) (level : List ℕ) (size : ℕ) (done : List Row) (runs : List Run) : Type 0 where
+pub record AreTurned (nodes : List Node) (plans : Plans) (s0 s : List Node) (b0 b : Blocks) (numbers : Known) (level : List ℕ) (size : ℕ) (done : List Row) (runs : List Run) : Type 0 where
   pub blocks : BlocksGrow s0 s b0 b
-  pub known : AreKnown nodes lists b numbers
+  pub known : AreKnown nodes plans b numbers
   pub count : length runs ≡ size
   pub runs_are : rows_of_runs (map (run_by (rows_of b.blocks.items)) runs) ≡ done
   pub leads : FitRuns b level runs
 
-pub turned_none : (nodes : List Node) (lists : ℕ → List PrefixRow) (s : List Node) (b : Blocks) (known : Known) (level : List ℕ) (runs : List Run) → IsBlocks s b → AreKnown nodes lists b known → runs ≡ [] →
-    AreTurned nodes lists s s b b known level 0 [] runs
-turned_none nodes lists s b known level runs h k is =
-    subst (λ (rs : List Run). AreTurned nodes lists s s b b known level 0 [] rs) (sym is)
+pub turned_none : (nodes : List Node) (plans : Plans) (s : List Node) (b : Blocks) (known : Known) (level : List ℕ) (runs : List Run) → IsBlocks s b → AreKnown nodes plans b known → runs ≡ [] →
+    AreTurned nodes plans s s b b known level 0 [] runs
+turned_none nodes plans s b known level runs h k is =
+    subst (λ (rs : List Run). AreTurned nodes plans s s b b known level 0 [] rs) (sym is)
     (record { blocks = blocks_same s b h; known = k; count = refl; runs_are = refl; leads = λ n d less. absurd (omega (arith, less)) })
 
 -- the last value of a prefix is within the field
@@ -107,14 +60,14 @@ inside [] r hi has fits is = absurd has
 inside (f ∷ level) r hi has fits is = inside_field f r hi fits is
 
 -- one row more
-turn_more : (f : ℕ) (tables : ℕ → List Row) (rows : List plans.Row) (i : ℕ) (r : plans.Row) → i < length rows → r ≡ get_or rows i r →
+turn_more : (f : ℕ) (tables : ℕ → List Row) (rows : List codes.Row) (i : ℕ) (r : codes.Row) → i < length rows → r ≡ get_or rows i r →
     in_turn f tables (plan_rows.rows_of (take (i + 1) rows)) ≡ in_turn f tables (plan_rows.rows_of (take i rows)) ++ map (in_front (prefix_interval (width f) r.prefix)) (tables r.to.0)
 turn_more f tables rows i r less is =
     let one : i + 1 ≡ suc i = omega arith in
     let table : PrefixRow → List Row = λ x. map (in_front (prefix_interval (width f) x.prefix)) (tables x.label) in
     ap (λ n. in_turn f tables (plan_rows.rows_of (take n rows))) one
-    ∙ ap (λ (rs : List plans.Row). in_turn f tables (plan_rows.rows_of rs)) (take-suc rows i r less)
-    ∙ ap (λ (x : plans.Row). in_turn f tables (plan_rows.rows_of (take i rows ++ x ∷ []))) (sym is)
+    ∙ ap (λ (rs : List codes.Row). in_turn f tables (plan_rows.rows_of rs)) (take-suc rows i r less)
+    ∙ ap (λ (x : codes.Row). in_turn f tables (plan_rows.rows_of (take i rows ++ x ∷ []))) (sym is)
     ∙ ap (λ (rs : List PrefixRow). in_turn f tables rs) (map-append plan_rows.row_of (take i rows) (r ∷ []))
     ∙ flat_map-append table (plan_rows.rows_of (take i rows)) (plan_rows.row_of r ∷ [])
     ∙ ap (λ (xs : List Row). in_turn f tables (plan_rows.rows_of (take i rows)) ++ xs) (append-nil (table (plan_rows.row_of r)))
@@ -124,12 +77,12 @@ field_width : (level : List ℕ) → HasField level → width_of level ≡ width
 field_width [] has = absurd has
 field_width (f ∷ level) has = refl
 
-pub turned_more : (nodes : List Node) (lists : ℕ → List PrefixRow) (s0 s1 s2 : List Node) (b0 b1 b2 : Blocks) (k1 k2 : Known) (level below : List ℕ) (i : ℕ) (tables : ℕ → List Row) (rows : List plans.Row) (r : plans.Row) (runs more : List Run) (run : Run) →
+pub turned_more : (nodes : List Node) (plans : Plans) (s0 s1 s2 : List Node) (b0 b1 b2 : Blocks) (k1 k2 : Known) (level below : List ℕ) (i : ℕ) (tables : ℕ → List Row) (rows : List codes.Row) (r : codes.Row) (runs more : List Run) (run : Run) →
     HasField level → below ≡ next_level level → i < length rows → r ≡ get_or rows i r → FitsWidth (width_of level) r.prefix →
-    AreTurned nodes lists s0 s1 b0 b1 k1 level i (in_turn (field_of level) tables (plan_rows.rows_of (take i rows))) runs → IsBuilt s1 s2 b1 b2 below (tables r.to.0) run.block → AreKnown nodes lists b2 k2 →
+    AreTurned nodes plans s0 s1 b0 b1 k1 level i (in_turn (field_of level) tables (plan_rows.rows_of (take i rows))) runs → IsBuilt s1 s2 b1 b2 below (tables r.to.0) run.block → AreKnown nodes plans b2 k2 →
     interval_of run.span ≡ prefix_interval (width_of level) r.prefix → more ≡ runs ++ run ∷ [] →
-    AreTurned nodes lists s0 s2 b0 b2 k2 level (i + 1) (in_turn (field_of level) tables (plan_rows.rows_of (take (i + 1) rows))) more
-turned_more nodes lists s0 s1 s2 b0 b1 b2 k1 k2 level below i tables rows r runs more run has one less is fits g built known span to =
+    AreTurned nodes plans s0 s2 b0 b2 k2 level (i + 1) (in_turn (field_of level) tables (plan_rows.rows_of (take (i + 1) rows))) more
+turned_more nodes plans s0 s1 s2 b0 b1 b2 k1 k2 level below i tables rows r runs more run has one less is fits g built known span to =
     let grown = built_grows s1 s2 b1 b2 below run.block (tables r.to.0) built in
     let rows2 : ℕ → List Row = rows_of b2.blocks.items in
     let done = in_turn (field_of level) tables (plan_rows.rows_of (take i rows)) in
@@ -153,13 +106,13 @@ rows_from nodes lists [] id has = absurd has
 rows_from nodes lists (f ∷ level) id has = refl
 
 -- the block of all runs is that of the node
-pub node_made : (nodes : List Node) (lists : ℕ → List PrefixRow) (s0 s1 s2 : List Node) (b0 b1 b2 : Blocks) (known : Known) (level : List ℕ) (id i number : ℕ) (items : List plans.Row) (runs seen : List Run) → HasField level →
-    lists id ≡ plan_rows.rows_of items → length items ≤ i →
-    AreTurned nodes lists s0 s1 b0 b1 known level i (in_turn (field_of level) (node_rows nodes lists (next_level level)) (plan_rows.rows_of (take i items))) runs → seen ≡ runs →
-    IsBuilt s1 s2 b1 b2 level (rows_of_runs (map (run_by (rows_of b1.blocks.items)) seen)) number → IsBuilt s0 s2 b0 b2 level (node_rows nodes lists level id) number
-node_made nodes lists s0 s1 s2 b0 b1 b2 known level id i number items runs seen has is past g same built =
+pub node_made : (nodes : List Node) (plans : Plans) (s0 s1 s2 : List Node) (b0 b1 b2 : Blocks) (known : Known) (level : List ℕ) (id i number : ℕ) (items : List codes.Row) (runs seen : List Run) → HasField level →
+    rows_at plans.lists.items id ≡ plan_rows.rows_of items → length items ≤ i →
+    AreTurned nodes plans s0 s1 b0 b1 known level i (in_turn (field_of level) (node_rows nodes (rows_at plans.lists.items) (next_level level)) (plan_rows.rows_of (take i items))) runs → seen ≡ runs →
+    IsBuilt s1 s2 b1 b2 level (rows_of_runs (map (run_by (rows_of b1.blocks.items)) seen)) number → IsBuilt s0 s2 b0 b2 level (node_rows nodes (rows_at plans.lists.items) level id) number
+node_made nodes plans s0 s1 s2 b0 b1 b2 known level id i number items runs seen has is past g same built =
     let b = blocks_then s0 s1 s2 b0 b1 b2 g.blocks (built_grows s1 s2 b1 b2 level number _ built) in
-    let tables = node_rows nodes lists (next_level level) in
+    let tables = node_rows nodes (rows_at plans.lists.items) (next_level level) in
     record {
       grows = b.grows;
       blocks = b.blocks;
@@ -171,19 +124,13 @@ node_made nodes lists s0 s1 s2 b0 b1 b2 known level id i number items runs seen 
       rows_are = built.rows_are
           ∙ ap (λ (rs : List Run). rows_of_runs (map (run_by (rows_of b1.blocks.items)) rs)) same
           ∙ g.runs_are
-          ∙ ap (λ (rs : List plans.Row). in_turn (field_of level) tables (plan_rows.rows_of rs)) (take_all i items past)
+          ∙ ap (λ (rs : List codes.Row). in_turn (field_of level) tables (plan_rows.rows_of rs)) (take_all i items past)
           ∙ ap (λ (rs : List PrefixRow). in_turn (field_of level) tables rs) (sym is)
-          ∙ rows_from nodes lists level id has;
+          ∙ rows_from nodes (rows_at plans.lists.items) level id has;
     }
 
--- what is known of nodes stays where a block was built
-pub still_known : {E : Type 0} (nodes : List Node) (lists : ℕ → List PrefixRow) (s1 s2 : List Node) (b1 b2 : Blocks) (known : Known) (level : List ℕ) (rows : List Row) (result : Result ℕ E) →
-    AreKnown nodes lists b1 known → IfOk result (λ number. IsBuilt s1 s2 b1 b2 level rows number) → OnOk result (AreKnown nodes lists b2 known)
-still_known nodes lists s1 s2 b1 b2 known level rows (Ok number) k h = known_over nodes lists s1 s2 b1 b2 known (built_grows s1 s2 b1 b2 level number rows h) k
-still_known nodes lists s1 s2 b1 b2 known level rows (Err e) k h = tt
-
 -- a run for each row
-pub some_turned : (rows : List PrefixRow) (items : List plans.Row) (runs : List Run) (i : ℕ) → rows ≡ plan_rows.rows_of items → 0 < length rows → length items ≤ i → length runs ≡ i → 0 < length runs
+pub some_turned : (rows : List PrefixRow) (items : List codes.Row) (runs : List Run) (i : ℕ) → rows ≡ plan_rows.rows_of items → 0 < length rows → length items ≤ i → length runs ≡ i → 0 < length runs
 some_turned rows items runs i is some past count = let n = length-map items plan_rows.row_of in omega (arith, ap (λ (rs : List PrefixRow). length rs) is, n, some, past, count)
 
 -- the field that the code reads is the level's first
@@ -196,19 +143,22 @@ first_below [] k d has at = absurd has
 first_below (f ∷ level) k d has at = subst (λ n. n < 5) (sym at) has.0.0
 
 -- what is asked of a row's node
-pub record IsBelow (nodes : List Node) (lists : ℕ → List PrefixRow) (level : List ℕ) (r : plans.Row) : Type 0 where
+pub record IsBelow (nodes : List Node) (plans : Plans) (level : List ℕ) (r : codes.Row) : Type 0 where
   pub at : level_of nodes r.to.0 ≡ next_level level
-  pub have : HaveLists nodes lists (next_level level) r.to.0
+  pub have : HaveLists nodes (rows_at plans.lists.items) (next_level level) r.to.0
+  pub planned : HasPlans plans (next_level level) r.to.0
   pub fit : FitsWidth (width_of level) r.prefix
 
-pub below_of : (nodes : List Node) (lists : ℕ → List PrefixRow) (level : List ℕ) (id : ℕ) (items : List plans.Row) (i : ℕ) (d : plans.Row) → IsStore nodes → HasField level → level_of nodes id ≡ level →
-    HaveLists nodes lists level id → lists id ≡ plan_rows.rows_of items → i < length items → IsBelow nodes lists level (slice_index_or items i d)
-below_of nodes lists level id items i d s has at have is less =
+pub below_of : (nodes : List Node) (plans : Plans) (level : List ℕ) (id : ℕ) (items : List codes.Row) (i : ℕ) (d : codes.Row) → IsStore nodes → HasField level → level_of nodes id ≡ level →
+    HaveLists nodes (rows_at plans.lists.items) level id → HasPlans plans level id → rows_at plans.lists.items id ≡ plan_rows.rows_of items → i < length items → IsBelow nodes plans level (slice_index_or items i d)
+below_of nodes plans level id items i d s has at have planned is less =
+    let lists = rows_at plans.lists.items in
     let l = lists_at nodes lists level id has have in
     let r = slice_index_or items i d in
     let child = child_older nodes id r.to.0 s (subst HasField (sym at) has) (all_row (λ x. IsChild nodes id x.label) (lists id) items i d is less l.0.children) in
     let fit = all_row (λ x. FitsWidth (width_of (level_of nodes id)) x.prefix) (lists id) items i d is less l.0.right.fits in record {
       at = child.1 ∙ ap next_level at;
       have = all_row (λ x. HaveLists nodes lists (next_level level) x.label) (lists id) items i d is less l.1;
+      planned = all_row (λ x. HasPlans plans (next_level level) x.label) (lists id) items i d is less (plans_below plans level id has planned);
       fit = subst (λ k. FitsWidth (width_of k) r.prefix) at fit;
     }

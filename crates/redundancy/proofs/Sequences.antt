@@ -7,9 +7,9 @@ use Rattle.std.proofs.lemmas.List.Concat.{flat_map-append}
 use Rattle.std.proofs.lemmas.List.Elements.{All-drop, All-head, All-push, All-tail, All-take, All-weaker}
 use Rattle.node_store.specs.Diagram.{Node}
 use Rattle.node_store.proofs.Growth.{twice}
-use Rattle.field_sift.specs.Rows.{Row}
-use Rattle.field_sift.specs.Layers.{rows_of_runs}
-use Rattle.field_sift.proofs.Apart.{rows-append}
+use Rattle.redundancy_laws.specs.Rows.{Row}
+use Rattle.redundancy_laws.specs.Layers.{rows_of_runs}
+use Rattle.redundancy_laws.proofs.Apart.{rows-append}
 use Rattle.redundancy.specs.declared.block.Cover.{Cover}
 use Rattle.redundancy.specs.declared.block.Run.{Run}
 use Rattle.redundancy.specs.declared.blocks.Blocks.{Blocks}

@@ -14,13 +14,13 @@ use Rattle.prefix_min.specs.declared.row.PrefixRow.{PrefixRow}
 use Rattle.table_compose.specs.Composed.{AreComposed, HaveCosts, HaveLists, IsAnswer, IsPlaced, boxes, decided, open_all}
 use Rattle.table_compose.proofs.Occurring.{entries_occur, occur_by}
 use Rattle.table_compose.proofs.Tables.{answers, counted}
-use Rattle.field_sift.specs.Built.{ArePrefixes}
-use Rattle.field_sift.specs.Entries.{IsPart, answer}
-use Rattle.field_sift.specs.Flags.{with_flags}
-use Rattle.field_sift.specs.Orders.{IsOrder, picked}
-use Rattle.field_sift.specs.Pass.{Keeps}
-use Rattle.field_sift.specs.Rows.{Row}
-use Rattle.field_sift.proofs.Chosen.{chosen}
+use Rattle.redundancy_laws.specs.Built.{ArePrefixes}
+use Rattle.redundancy_laws.specs.Entries.{IsPart, answer}
+use Rattle.redundancy_laws.specs.Flags.{with_flags}
+use Rattle.redundancy_laws.specs.Orders.{IsOrder, picked}
+use Rattle.redundancy_laws.specs.Pass.{Keeps}
+use Rattle.redundancy_laws.specs.Rows.{Row}
+use Rattle.redundancy_laws.proofs.Chosen.{chosen}
 use Rattle.redundancy.specs.Kept.{AreKeptOf, AreWholeFlags, GainsFlagged}
 use Rattle.redundancy.specs.NodeRows.{node_rows}
 use Rattle.redundancy.proofs.Fields.{distinct}

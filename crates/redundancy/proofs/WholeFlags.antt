@@ -5,20 +5,20 @@ use Rattle.std.proofs.lemmas.List.{length-map}
 use Rattle.field_boxes.specs.Fields.{AreValues}
 use Rattle.node_store.specs.Diagram.{Node, answer}
 use Rattle.ternary_words.specs.declared.entry.Entry.{Entry}
-use Rattle.field_sift.specs.declared.pair.Pair.{Pair}
-use Rattle.field_sift.specs.declared.sifted.Sifted.{Sifted}
-use Rattle.field_sift.specs.Built.{row_at}
-use Rattle.field_sift.specs.Contexts.{IsRight, whole}
-use Rattle.field_sift.specs.Flags.{AreRightFlags}
-use Rattle.field_sift.specs.Marks.{marked}
-use Rattle.field_sift.specs.Rows.{Row, matches}
-use Rattle.field_sift.specs.Sifted.{IsSifted, answers_of, contexts_of, is_in, pair_at}
-use Rattle.field_sift.proofs.Alike.{KeepSame, MatchAlike, right-alike}
-use Rattle.field_sift.proofs.Merged.{same-contexts}
+use Rattle.redundancy_laws.specs.declared.context.Context.{Context}
+use Rattle.redundancy_laws.specs.declared.sifted.Sifted.{Sifted}
+use Rattle.redundancy_laws.specs.Built.{row_at}
+use Rattle.redundancy_laws.specs.Contexts.{IsRight, whole}
+use Rattle.redundancy_laws.specs.Flags.{AreRightFlags}
+use Rattle.redundancy_laws.specs.Marks.{marked}
+use Rattle.redundancy_laws.specs.Rows.{Row, matches}
+use Rattle.redundancy_laws.specs.Sifted.{IsSifted, answers_of, contexts_of, is_in, context_at}
+use Rattle.redundancy_laws.proofs.Alike.{KeepSame, MatchAlike, right-alike}
+use Rattle.redundancy_laws.proofs.Merged.{same-contexts}
 use Rattle.redundancy.specs.Kept.{AreWholeFlags}
 
 -- what was kept of the rows for the one context that answers nothing
-pub flags_of_pair : (nodes : List Node) (order level : List ℕ) (rows : List Row) (pair : Pair) (s : Sifted) → level ≡ order →
+pub flags_of_pair : (nodes : List Node) (order level : List ℕ) (rows : List Row) (pair : Context) (s : Sifted) → level ≡ order →
     ((values : List ℕ) → AreValues order values → answer nodes pair.after.0 values ≡ 0) → ((values : List ℕ) → AreValues order values → answer nodes pair.met.0 values ≡ 0) →
     IsSifted nodes level rows (pair ∷ []) s → AreWholeFlags order rows s.kept.items
 flags_of_pair nodes order level rows pair s same after met sifted = record {
@@ -26,8 +26,8 @@ flags_of_pair nodes order level rows pair s same after met sifted = record {
   out = answers_of nodes s.after.items;
   right = same-contexts order whole (contexts_of nodes (pair ∷ [])) (marked rows s.kept.items) (answers_of nodes s.after.items) (answers_of nodes s.after.items) refl
       (λ c less. let z : c ≡ 0 = omega (arith, less) in record {
-        after = λ values ok. ap (λ k. answer nodes (pair_at (pair ∷ []) k).after.0 values) z ∙ after values ok;
-        met = λ values ok. ap (λ k. is_in nodes (pair_at (pair ∷ []) k).met.0 values) z ∙ ap (λ n. not (n == 0)) (met values ok);
+        after = λ values ok. ap (λ k. answer nodes (context_at (pair ∷ []) k).after.0 values) z ∙ after values ok;
+        met = λ values ok. ap (λ k. is_in nodes (context_at (pair ∷ []) k).met.0 values) z ∙ ap (λ n. not (n == 0)) (met values ok);
       })
       (subst (λ l. IsRight l (contexts_of nodes (pair ∷ [])) (marked rows s.kept.items) (answers_of nodes s.after.items)) same sifted.right) (λ c less values ok. refl);
 }

@@ -3,10 +3,10 @@ use Rattle.std.specs.Prelude.{◌≡◌, ℕ, zero, suc, ◌<◌, ◌≤◌, ◌
 use Rattle.node_store.specs.Levels.{HasField, IsLevel, next as next_level, top_of}
 use Rattle.field_boxes.specs.Spans.{interval_of}
 use Rattle.node_store.specs.Diagram.{Node, level_of}
-use Rattle.field_sift.specs.Rows.{Row, last_row}
-use Rattle.field_sift.specs.Layers as laws
-use Rattle.field_sift.specs.Layers.{AreApart, rows_of_runs}
-use Rattle.field_sift.specs.Sifted.{IsCover}
+use Rattle.redundancy_laws.specs.Rows.{Row, last_row}
+use Rattle.redundancy_laws.specs.Layers as laws
+use Rattle.redundancy_laws.specs.Layers.{AreApart, rows_of_runs}
+use Rattle.redundancy_laws.specs.Sifted.{IsCover}
 use Rattle.redundancy.specs.declared.block.Block.{Block}
 use Rattle.redundancy.specs.declared.block.Block.TheVariants.{Last, Layer, Two}
 use Rattle.redundancy.specs.declared.block.Cover.{Cover}

@@ -4,7 +4,7 @@ use Rattle.std.specs.List.{flat_map}
 use Rattle.node_store.specs.Diagram.{Node}
 use Rattle.node_store.specs.Store.{Grows}
 use Rattle.field_sets.specs.declared.placed.Placed.{Placed}
-use Rattle.field_sift.specs.Rows.{Row}
+use Rattle.redundancy_laws.specs.Rows.{Row}
 use Rattle.redundancy.specs.declared.block.Block.{Block}
 use Rattle.redundancy.specs.declared.block.Cover.{Cover}
 use Rattle.redundancy.specs.declared.block.Run.{Run}

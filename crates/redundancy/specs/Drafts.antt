@@ -8,13 +8,13 @@ use Rattle.node_store.specs.declared.edge.NodeId.{NodeId}
 use Rattle.node_store.specs.Diagram.{Node, edges_of}
 use Rattle.field_sets.specs.declared.placed.Placed.{Placed}
 use Rattle.field_sets.specs.Placed.{PlacedAt, RiseFrom, led}
-use Rattle.field_sift.specs.declared.pair.Pair.{Pair}
-use Rattle.field_sift.specs.declared.sifted.Sifted.{Sifted}
-use Rattle.field_sift.specs.Rows.{Row}
-use Rattle.field_sift.specs.Sifted.{pair_at, node_at, IsSoFar}
-use Rattle.redundancy.specs.declared.below.Stretch.{Stretch}
-use Rattle.redundancy.specs.declared.draft.Change.{Change}
-use Rattle.redundancy.specs.declared.draft.Draft.{Draft}
+use Rattle.redundancy_laws.specs.declared.context.Context.{Context}
+use Rattle.redundancy_laws.specs.declared.sifted.Sifted.{Sifted}
+use Rattle.redundancy_laws.specs.Rows.{Row}
+use Rattle.redundancy_laws.specs.Sifted.{context_at, node_at, IsSoFar}
+use Rattle.redundancy.specs.declared.run_contexts.Stretch.{Stretch}
+use Rattle.redundancy.specs.declared.layer_draft.Change.{Change}
+use Rattle.redundancy.specs.declared.layer_draft.Draft.{Draft}
 use Rattle.redundancy.specs.Stretches.{stretches_at}
 
 -- the stretch with what is answered at the place of its pair
@@ -35,8 +35,8 @@ placed_for [] c = []
 placed_for (change ∷ changes) c = placed_in change c ++ placed_for changes c
 
 -- where a context leads on with the changes
-abbrev pub leads_of : List Node → List Pair → List Change → ℕ → ℕ → ℕ
-leads_of nodes pairs changes c v = led (placed_for changes c) (edges_of nodes (pair_at pairs c).after.0) v
+abbrev pub leads_of : List Node → List Context → List Change → ℕ → ℕ → ℕ
+leads_of nodes pairs changes c v = led (placed_for changes c) (edges_of nodes (context_at pairs c).after.0) v
 
 -- the change says of each context that its stretches lead to what is answered at their places
 pub record IsChange (lists : List (SmallVec Stretch)) (places : List ℕ) (after : List NodeId) (change : Change) : Type 0 where
@@ -61,7 +61,7 @@ pub record AreChanges (nodes : List Node) (level : List ℕ) (count : ℕ) (chan
   pub children : (c : ℕ) → c < count → PlacedAt nodes (next_level level) (placed_for changes c)
 
 -- what was kept of the rows so far, whose spans end before the next value, where contexts led as in the base
-pub record IsDraft (base nodes : List Node) (level : List ℕ) (rows : List Row) (pairs : List Pair) (next : ℕ) (draft : Draft) : Type 0 where
+pub record IsDraft (base nodes : List Node) (level : List ℕ) (rows : List Row) (pairs : List Context) (next : ℕ) (draft : Draft) : Type 0 where
   pub so_far : IsSoFar nodes level rows pairs draft.kept.items (leads_of base pairs draft.changes.items)
   pub room : All (λ (change : Change). length change.placed.items ≡ length pairs) draft.changes.items
   pub rise : (c : ℕ) → c < length pairs → RiseUpTo 0 next (placed_for draft.changes.items c)

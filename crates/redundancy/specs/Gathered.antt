@@ -1,8 +1,8 @@
 -- The runs of a table that were gone through so far.
 use Rattle.std.specs.Prelude.{◌≡◌, ℕ, List, Option, length, map}
 use Rattle.node_store.specs.Diagram.{Node}
-use Rattle.field_sift.specs.Rows.{Row}
-use Rattle.field_sift.specs.Layers.{rows_of_runs}
+use Rattle.redundancy_laws.specs.Rows.{Row}
+use Rattle.redundancy_laws.specs.Layers.{rows_of_runs}
 use Rattle.redundancy.specs.declared.block.Run.{Run}
 use Rattle.redundancy.specs.declared.blocks.Blocks.{Blocks}
 use Rattle.redundancy.specs.declared.lists.Lists.{Lists}

@@ -5,11 +5,11 @@ use Rattle.field_boxes.specs.declared.prefix.Prefix.{Prefix}
 use Rattle.ternary_words.specs.declared.entry.Entry.{Entry}
 use Rattle.node_store.specs.Diagram.{Node}
 use Rattle.table_compose.specs.Composed.{AreComposed, Box, IsPlaced}
-use Rattle.field_sift.specs.Contexts.{IsRight, whole}
-use Rattle.field_sift.specs.Flags.{with_flags}
-use Rattle.field_sift.specs.Marks.{marked}
-use Rattle.field_sift.specs.Pass.{Keeps}
-use Rattle.field_sift.specs.Rows.{Row}
+use Rattle.redundancy_laws.specs.Contexts.{IsRight, whole}
+use Rattle.redundancy_laws.specs.Flags.{with_flags}
+use Rattle.redundancy_laws.specs.Marks.{marked}
+use Rattle.redundancy_laws.specs.Pass.{Keeps}
+use Rattle.redundancy_laws.specs.Rows.{Row}
 
 -- a flag for each row, and what they keep is right for the rows as a whole table, read in the order
 pub record AreWholeFlags (order : List ℕ) (rows : List Row) (flags : List Bool) : Type 0 where

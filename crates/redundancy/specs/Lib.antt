@@ -8,3 +8,4 @@ pub mod Drafts
 pub mod NodeRows
 pub mod Known
 pub mod Kept
+pub mod Removal

@@ -5,7 +5,7 @@ use Rattle.field_boxes.specs.Fields.{width}
 use Rattle.field_boxes.specs.Prefix.{prefix_interval}
 use Rattle.node_store.specs.Diagram.{Node, answer}
 use Rattle.prefix_min.specs.declared.row.PrefixRow.{PrefixRow}
-use Rattle.field_sift.specs.Rows.{Row, in_front, last_row}
+use Rattle.redundancy_laws.specs.Rows.{Row, in_front, last_row}
 
 -- for each row of a prefix list of the field, in their order, the rows of its child with its prefix in front
 abbrev pub in_turn : ℕ → (ℕ → List Row) → List PrefixRow → List Row

@@ -1,30 +1,31 @@
 -- What was worked out of blocks before.
-use Rattle.std.specs.Prelude.{◌≡◌, ℕ, ◌&&◌, nat_eq, Bool, List, Some}
+use Rattle.std.specs.Prelude.{◌≡◌, ℕ, ◌<◌, ◌&&◌, nat_eq, Bool, List, Some, length}
 use Rattle.std.specs.Cmp.Lexicographic.{pointwise}
 use Rattle.std.specs.HashMap.{get}
 use Rattle.node_store.specs.Levels.{IsLevel}
 use Rattle.node_store.specs.Diagram.{Node}
-use Rattle.field_sift.specs.declared.pair.Pair.{Pair}
-use Rattle.field_sift.specs.declared.sifted.Sifted.{Sifted}
-use Rattle.field_sift.specs.Sifted.{ArePairs, IsSifted}
+use Rattle.redundancy_laws.specs.declared.context.Context.{Context}
+use Rattle.redundancy_laws.specs.declared.sifted.Sifted.{Sifted}
+use Rattle.redundancy_laws.specs.Sifted.{AreContexts, IsSifted}
 use Rattle.redundancy.specs.declared.blocks.Blocks.{Blocks}
 use Rattle.redundancy.specs.declared.memo.Asked.{Asked}
 use Rattle.redundancy.specs.declared.memo.Memo.{Memo}
 use Rattle.redundancy.specs.Blocks.{rows_of, cover_at}
 
 -- the pairs are of the same nodes
-abbrev pub same_pair : Pair → Pair → Bool
-same_pair p q = nat_eq p.after.0 q.after.0 && nat_eq p.met.0 q.met.0
+abbrev pub same_context : Context → Context → Bool
+same_context p q = nat_eq p.after.0 q.after.0 && nat_eq p.met.0 q.met.0
 
--- the block under the number was gone through for these contexts
-pub record IsAnswered (nodes : List Node) (blocks : Blocks) (number : ℕ) (pairs : List Pair) (s : Sifted) : Type 0 where
+-- there is a block under the number, and it was gone through for these contexts
+pub record IsAnswered (nodes : List Node) (blocks : Blocks) (number : ℕ) (pairs : List Context) (s : Sifted) : Type 0 where
+  pub there : number < length blocks.blocks.items
   pub within : IsLevel (cover_at blocks.covers.items number).level.now
-  pub contexts : ArePairs nodes (cover_at blocks.covers.items number).level.now pairs
+  pub contexts : AreContexts nodes (cover_at blocks.covers.items number).level.now pairs
   pub sifted : IsSifted nodes (cover_at blocks.covers.items number).level.now (rows_of blocks.blocks.items number) pairs s
 
 -- the blocks are the same and the contexts too
 abbrev pub same_asked : Asked → Asked → Bool
-same_asked p q = nat_eq p.number q.number && pointwise same_pair p.contexts.items q.contexts.items
+same_asked p q = nat_eq p.number q.number && pointwise same_context p.contexts.items q.contexts.items
 
 -- what is kept was worked out
 abbrev pub IsMemo : List Node → Blocks → Memo → Type 0

@@ -1,5 +1,10 @@
 //! Blocks by number.
 
+mod building;
+mod nodes;
+mod sifting;
+mod tables;
+
 use crate::block::{Block, Cover};
 use std::alloc::Global;
 

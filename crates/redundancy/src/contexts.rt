@@ -1,7 +1,7 @@
 //! Lists of contexts.
 
-use field_sift::Pair;
+use redundancy_laws::Context;
 use smallvec::SmallVec;
 
 /// Contexts: below most runs there are one or two.
-pub(crate) type Contexts = SmallVec<Pair, 2>;
+pub(crate) type Contexts = SmallVec<Context, 2>;

@@ -1,11 +1,11 @@
 //! Contexts, each once.
 ghost use Rattle.std.specs.Prelude.{◌≡◌, ◌⊎◌, ◌∷◌, ◌++◌, [], true, Some, slice_get, IfOk, IfSome, OnOk};
-ghost use Rattle.field_sift.specs.Sifted.{AreDistinct};
+ghost use Rattle.redundancy_laws.specs.Sifted.{AreDistinct};
 
 use crate::contexts::Contexts;
-use field_sift::Pair;
 use indexmap::IndexSet;
 use razor_base::Memory;
+use redundancy_laws::Context;
 use smallvec::SmallVec;
 use std::alloc::Global;
 
@@ -21,7 +21,7 @@ pub(crate) struct Distinct {
 
 impl Distinct {
     /// The pairs in the order in which they come first.
-    pub fn of(alloc: Global, list: &[Pair]) -> Result<Distinct, Memory>
+    pub fn of(alloc: Global, list: &[Context]) -> Result<Distinct, Memory>
         ensures { IfOk result (λ d. AreDistinct list.now d.pairs.items d.places.items) }
     {
         if list.len() <= FEW {
@@ -34,7 +34,7 @@ impl Distinct {
     }
 
     /// The same of few pairs.
-    fn of_few(alloc: Global, list: &[Pair]) -> Result<Distinct, Memory>
+    fn of_few(alloc: Global, list: &[Context]) -> Result<Distinct, Memory>
         ensures { IfOk result (λ d. AreDistinct list.now d.pairs.items d.places.items) }
     {
         let mut pairs = SmallVec::new(alloc);
@@ -47,7 +47,7 @@ impl Distinct {
     }
 
     /// The same of many pairs.
-    fn of_many(alloc: Global, list: &[Pair]) -> Result<Distinct, Memory>
+    fn of_many(alloc: Global, list: &[Context]) -> Result<Distinct, Memory>
         ensures { IfOk result (λ d. AreDistinct list.now d.pairs.items d.places.items) }
     {
         let mut pairs = IndexSet::new(alloc);
@@ -62,7 +62,7 @@ impl Distinct {
 }
 
 /// The place of the pair, which the list gains where it isn't there.
-fn place_among(pairs: &mut Contexts, pair: Pair) -> Result<usize, Memory>
+fn place_among(pairs: &mut Contexts, pair: Context) -> Result<usize, Memory>
     ensures found { IfOk result (λ place. slice_get pairs.new.items place ≡ Some pair) }
     ensures keys { OnOk result ((pairs.new.items ≡ pairs.old.items) ⊎ (pairs.new.items ≡ pairs.old.items ++ pair ∷ [])) }
 {
@@ -77,7 +77,7 @@ fn place_among(pairs: &mut Contexts, pair: Pair) -> Result<usize, Memory>
 }
 
 /// Where the pair stands in the list.
-fn place_of(pairs: &[Pair], pair: Pair) -> Option<usize>
+fn place_of(pairs: &[Context], pair: Context) -> Option<usize>
     ensures { IfSome result (λ place. slice_get pairs.now place ≡ Some pair) }
 {
     for (place, own) in pairs.iter().enumerate() {
@@ -89,14 +89,14 @@ fn place_of(pairs: &[Pair], pair: Pair) -> Option<usize>
 }
 
 /// Whether the pairs are of the same nodes.
-fn same(pair: Pair, other: Pair) -> bool
+fn same(pair: Context, other: Context) -> bool
     ensures { result ≡ true → pair ≡ other }
 {
     pair.after.0 == other.after.0 && pair.met.0 == other.met.0
 }
 
 /// The place of the pair, which the set gains where it isn't there.
-fn place_in(pairs: &mut IndexSet<Pair>, pair: Pair) -> Result<usize, Memory>
+fn place_in(pairs: &mut IndexSet<Context>, pair: Context) -> Result<usize, Memory>
     ensures found { IfOk result (λ place. slice_get pairs.new.keys place ≡ Some pair) }
     ensures keys { OnOk result ((pairs.new.keys ≡ pairs.old.keys) ⊎ (pairs.new.keys ≡ pairs.old.keys ++ pair ∷ [])) }
 {

@@ -8,7 +8,7 @@ ghost use Rattle.table_compose.specs.Rows.{rows_at};
 ghost use Rattle.table_compose.specs.Composed.{HaveCosts, HaveLists, boxes};
 ghost use Rattle.redundancy.specs.Kept.{GainsFlagged};
 
-use crate::draft::is_some_kept;
+use crate::layer_draft::is_some_kept;
 use crate::level::after;
 use field_boxes::Prefix;
 use node_store::{NodeId, Store};

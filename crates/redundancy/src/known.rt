@@ -11,33 +11,41 @@ pub struct Known {
 }
 
 impl Known {
-    ghost use Rattle.std.specs.Prelude.{ℕ, List, IfOk, IfSome};
+    ghost use Rattle.std.specs.Prelude.{List, IfSome, OnOk};
     ghost use Rattle.node_store.specs.Diagram.{Node};
-    ghost use Rattle.prefix_min.specs.declared.row.PrefixRow.{PrefixRow};
+    ghost use Rattle.table_compose.specs.declared.diagram_plans.Plans.{Plans};
     ghost use Rattle.redundancy.specs.declared.blocks.Blocks.{Blocks};
     ghost use Rattle.redundancy.specs.Known.{AreKnown, IsBlockOf};
 
-    /// Nothing is known of so many nodes.
-    pub fn new(alloc: Global, count: usize) -> Result<Known, Memory>
-        ensures { (nodes : List Node) (lists : ℕ → List PrefixRow) (blocks : Blocks) → IfOk result (AreKnown nodes lists blocks) }
+    /// Nothing is known.
+    pub fn new(alloc: Global) -> Known
+        ensures { (nodes : List Node) (plans : Plans) (blocks : Blocks) → AreKnown nodes plans blocks result }
     {
-        let numbers = vec![in alloc; None; count]?;
-        Ok(Known { numbers })
+        let numbers = Vec::new(alloc);
+        Known { numbers }
+    }
+
+    /// Makes room for so many nodes, which are all of the store.
+    pub fn make_room(&mut self, count: usize) -> Result<(), Memory>
+        ensures { (nodes : List Node) (plans : Plans) (blocks : Blocks) → AreKnown nodes plans blocks self.old → OnOk result (AreKnown nodes plans blocks self.new) }
+    {
+        self.numbers.resize(count, None)?;
+        Ok(())
     }
 
     /// The block of the node, if it is known.
     pub fn get(&self, id: NodeId) -> Option<usize>
-        ensures { (nodes : List Node) (lists : ℕ → List PrefixRow) (blocks : Blocks) → AreKnown nodes lists blocks self.now →
-            IfSome result (IsBlockOf nodes lists blocks id.0) }
+        ensures { (nodes : List Node) (plans : Plans) (blocks : Blocks) → AreKnown nodes plans blocks self.now →
+            IfSome result (IsBlockOf nodes plans blocks id.0) }
     {
         let known = self.numbers.get(id.0)?;
         *known
     }
 
-    /// Keeps the block of the node.
+    /// Keeps the block of the node, where there is room for it.
     pub fn keep(&mut self, id: NodeId, number: usize)
-        ensures { (nodes : List Node) (lists : ℕ → List PrefixRow) (blocks : Blocks) → AreKnown nodes lists blocks self.old →
-            IsBlockOf nodes lists blocks id.0 number → AreKnown nodes lists blocks self.new }
+        ensures { (nodes : List Node) (plans : Plans) (blocks : Blocks) → AreKnown nodes plans blocks self.old →
+            IsBlockOf nodes plans blocks id.0 number → AreKnown nodes plans blocks self.new }
     {
         if id.0 < self.numbers.len() {
             self.numbers[id.0] = Some(number);

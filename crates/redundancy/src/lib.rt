@@ -6,7 +6,7 @@
 //! does the same in an order of the fields: what stays doesn't depend on it, but what it costs does.
 //!
 //! [`compose_tight`] keeps the same of the table that a diagram composes, in any order of its fields, and writes no
-//! entry that doesn't stay.
+//! entry that doesn't stay. [`Removal`] does so for one diagram after another, and keeps what it works out of their nodes.
 //!
 //! ```text
 //! let tight = remove(alloc, entries)?;
@@ -31,32 +31,31 @@
 //! value, so it has at most one layer a length. Entries in another order are right too, only slower.
 #![tactic(auto)]
 
-mod behind;
-mod below;
 mod block;
 mod blocks;
-mod building;
 mod contexts;
 mod diagrams;
 mod distinct;
-mod draft;
-mod finishing;
 mod keeping;
 mod known;
-mod last;
+mod last_entry;
+pub mod laws;
+mod layer_answers;
+mod layer_draft;
 mod layering;
 mod level;
 mod lists;
 mod memo;
-mod nodes;
 mod prefixes;
+mod removal;
 mod removing;
+mod run_contexts;
 mod runs;
+mod sequence_contexts;
 mod sets;
-mod sifting;
-mod tables;
 mod whole;
 
 pub use diagrams::{TightTable, compose_tight};
 pub use prefixes::are_prefixes;
+pub use removal::Removal;
 pub use removing::{remove, remove_in};

@@ -40,7 +40,7 @@ impl Lists {
     ghost use Rattle.std.specs.Prelude.{◌≡◌, ◌<◌, ◌++◌, ◌∷◌, [], true, false, Some, length, map, slice_get, IfOk, IfSome};
     ghost use Rattle.redundancy.specs.declared.blocks.Blocks.{Blocks};
     ghost use Rattle.redundancy.specs.Blocks.{rows_of};
-    ghost use Rattle.field_sift.specs.Built.{row_at};
+    ghost use Rattle.redundancy_laws.specs.Built.{row_at};
     ghost use Rattle.redundancy.specs.Lists.{AreLists, FitsItem, IsBefore, IsListed, ListsGrow, item_rows, list_rows};
 
     /// No lists.
@@ -121,8 +121,8 @@ impl Lists {
 }
 
 ghost use Rattle.std.specs.Prelude.{◌≡◌, []};
-ghost use Rattle.field_sift.specs.Built.{row_at};
-ghost use Rattle.field_sift.specs.Rows.{last_row};
+ghost use Rattle.redundancy_laws.specs.Built.{row_at};
+ghost use Rattle.redundancy_laws.specs.Rows.{last_row};
 
 /// The decision of an entry of which no field is left.
 pub(crate) fn decision_of(entry: &Entry) -> u32

@@ -1,8 +1,8 @@
 //! What was worked out of blocks before.
 
 use crate::contexts::Contexts;
-use field_sift::Sifted;
 use razor_base::Memory;
+use redundancy_laws::Sifted;
 use std::alloc::Global;
 use std::collections::HashMap;
 

@@ -2,7 +2,7 @@
 ghost use Rattle.std.specs.Prelude.{◌↔◌, IsTrue};
 ghost use Rattle.ternary_words.specs.Prefixes.{IsPrefixInEach};
 ghost use Rattle.ternary_words.specs.Views.{word_of};
-ghost use Rattle.field_sift.specs.Built.{ArePrefixes};
+ghost use Rattle.redundancy_laws.specs.Built.{ArePrefixes};
 
 use ternary_words::Entry;
 

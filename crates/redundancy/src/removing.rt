@@ -1,18 +1,18 @@
 //! Redundant entries removed.
 ghost use Rattle.std.specs.Prelude.{◌≡◌, ◌<◌, [], length, IfOk};
-ghost use Rattle.field_sift.specs.Built.{ArePrefixes};
-ghost use Rattle.field_sift.specs.Entries.{AnswerAlike, IsPart, IsTight};
-ghost use Rattle.field_sift.specs.Pass.{Keeps};
-ghost use Rattle.field_sift.specs.Flags.{AreRightFlags, with_flags};
-ghost use Rattle.field_sift.specs.Orders.{IsOrder};
+ghost use Rattle.redundancy_laws.specs.Built.{ArePrefixes};
+ghost use Rattle.redundancy_laws.specs.Entries.{AnswerAlike, IsPart, IsTight};
+ghost use Rattle.redundancy_laws.specs.Pass.{Keeps};
+ghost use Rattle.redundancy_laws.specs.Flags.{AreRightFlags, with_flags};
+ghost use Rattle.redundancy_laws.specs.Orders.{IsOrder};
 
 use crate::blocks::Blocks;
 use crate::lists::Lists;
 use crate::sets::Sets;
 use crate::whole::whole_flags;
-use field_sift::laws::{one_pass, orders, whole_table};
 use node_store::stated_order;
 use razor_base::Memory;
+use redundancy_laws::laws::{one_pass, orders, whole_table};
 use std::alloc::Global;
 use ternary_words::Entry;
 

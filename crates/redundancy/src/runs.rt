@@ -3,8 +3,8 @@ ghost use Rattle.std.specs.Prelude.{◌≡◌, ◌<◌, ◌≤◌, ◌+◌, ◌-
 ghost use Rattle.field_boxes.specs.Fields.{greatest_of};
 ghost use Rattle.node_store.specs.Levels.{HasField, next, top_of};
 ghost use Rattle.field_boxes.specs.Spans.{interval_of};
-ghost use Rattle.field_sift.specs.Built.{row_at, span_at};
-ghost use Rattle.field_sift.specs.Rows.{in_front};
+ghost use Rattle.redundancy_laws.specs.Built.{row_at, span_at};
+ghost use Rattle.redundancy_laws.specs.Rows.{in_front};
 
 use field_boxes::Span;
 use ternary_words::Entry;

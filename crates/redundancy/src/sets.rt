@@ -24,13 +24,13 @@ impl Model for Sets {
 }
 
 impl Sets {
-    ghost use Rattle.std.specs.Prelude.{◌≡◌, ◌≤◌, ℕ, List, [], ◌∷◌, true, map, IfOk};
+    ghost use Rattle.std.specs.Prelude.{◌≡◌, ◌≤◌, ℕ, List, [], ◌∷◌, true, length, map, IfOk};
     ghost use Rattle.field_boxes.specs.Fields.{AreValues};
     ghost use Rattle.node_store.specs.Levels.{HasField, IsLevel, next, top_of};
     ghost use Rattle.node_store.specs.Diagram.{answer, edges_of, level_of};
     ghost use Rattle.node_store.specs.Store.{Grows, IsStore, LeadTo};
     ghost use Rattle.node_store.specs.Split.{to_left, to_right};
-    ghost use Rattle.field_sift.specs.Sifted.{IsUnion, is_in};
+    ghost use Rattle.redundancy_laws.specs.Sifted.{IsUnion, is_in};
     ghost use Rattle.field_sets.specs.Parting.{IsSplitWithin};
     ghost use Rattle.field_sets.specs.Placed.{PlacedAt, RiseFrom, led};
 
@@ -42,6 +42,13 @@ impl Sets {
             alloc,
             sets: field_sets::Sets::new(alloc),
         }
+    }
+
+    /// How many nodes they have.
+    pub fn count(&self) -> usize
+        ensures { result ≡ length self.now }
+    {
+        self.sets.store().count()
     }
 
     /// What holds of every store: the call does nothing.

@@ -1,41 +1,7 @@
-use Rattle.std.proofs.Common.{◌∙◌, arith, subst, sym}
-use Rattle.table_compose.specs.Diagrams.{IsCostOf}
-use Rattle.table_compose.specs.Composed.{IsAnswer}
-use Rattle.ternary_words.specs.Prefixes.{IsPrefixInEach}
-use Rattle.ternary_words.specs.Views.{word_of}
-use Rattle.redundancy.specs.Kept.{AreKeptOf}
-use Rattle.redundancy.proofs.Tight.{all_of_part, part_few, table_answers, table_decides, table_prefixes}
 use Rattle.redundancy.proofs.diagrams.compose_tight.Goals as goal
 
-pub returns-clause-composed : goal.returns-clause-composed
-returns-clause-composed c = subst (λ n. IsCostOf c.args.store.now c.args.order.now c.args.root.0 n) (sym c.cost-composed.ensures) c.in_ok-plans.ensures.least
+pub compose_tight-requires-clause-plans : goal.compose_tight-requires-clause-plans
+compose_tight-requires-clause-plans c = c.new-plans.ensures c.args.store.now
 
-pub returns-clause-pass : goal.returns-clause-pass
-returns-clause-pass c = subst (λ n. AreKeptOf c.args.store.now c.args.order.now c.args.root.0 n c.in_ok-entries.entries.items) (sym c.cost-composed.ensures) c.in_ok-entries.ensures
-
-pub returns-clause-few : goal.returns-clause-few
-returns-clause-few c =
-    let k = c.in_ok-entries.ensures in
-    let kept = c.in_ok-entries.entries.items in
-    omega (arith, part_few kept k.all (c.one_pass.ensures.part k.all kept k.pass), k.many, c.cost-composed.ensures)
-
-pub returns-clause-tight : goal.returns-clause-tight
-returns-clause-tight c = let k = c.in_ok-entries.ensures in c.one_pass.ensures.tight k.all c.in_ok-entries.entries.items k.pass
-
-pub returns-clause-answers : goal.returns-clause-answers
-returns-clause-answers c =
-    let k = c.in_ok-entries.ensures in
-    λ header is. c.one_pass.ensures.alike k.all c.in_ok-entries.entries.items k.pass header is ∙ table_answers c.args.store.now c.args.order.now c.args.root.0 k.all c.same_answers.ensures.store c.requires.order c.requires.root k.composed header is
-
-pub returns-clause-decisions : goal.returns-clause-decisions
-returns-clause-decisions c =
-    let k = c.in_ok-entries.ensures in
-    let kept = c.in_ok-entries.entries.items in
-    all_of_part (λ e. IsAnswer c.args.store.now c.args.order.now c.args.root.0 e.decision) kept k.all (c.one_pass.ensures.part k.all kept k.pass)
-    (table_decides c.args.store.now c.args.order.now c.args.root.0 k.all c.same_answers.ensures.store c.requires.order c.requires.root k.composed)
-
-pub returns-clause-prefixes : goal.returns-clause-prefixes
-returns-clause-prefixes c =
-    let k = c.in_ok-entries.ensures in
-    let kept = c.in_ok-entries.entries.items in
-    all_of_part (λ e. IsPrefixInEach (word_of e.word)) kept k.all (c.one_pass.ensures.part k.all kept k.pass) (table_prefixes c.args.store.now c.args.order.now c.args.root.0 k.all k.composed)
+pub compose_tight-requires-clause-removal : goal.compose_tight-requires-clause-removal
+compose_tight-requires-clause-removal c = c.new-removal.ensures c.args.store.now c.new-plans.result

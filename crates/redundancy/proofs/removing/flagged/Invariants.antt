@@ -1,5 +1,5 @@
 use Rattle.std.proofs.Common.{◌≡◌, ◌++◌, drop}
-use Rattle.field_sift.specs.Flags.{with_flags}
+use Rattle.redundancy_laws.specs.Flags.{with_flags}
 use Rattle.redundancy.proofs.removing.flagged.Given as goal
 
 abbrev pub invariant-loop-place : goal.invariant-loop-place

@@ -1,8 +1,8 @@
 use Rattle.std.proofs.Common.{◌≡◌, map, take}
 use Rattle.field_boxes.specs.Spans.{interval_of}
 use Rattle.node_store.specs.Levels.{next}
-use Rattle.field_sift.specs.Built.{row_at}
-use Rattle.field_sift.specs.Rows.{in_front}
+use Rattle.redundancy_laws.specs.Built.{row_at}
+use Rattle.redundancy_laws.specs.Rows.{in_front}
 use Rattle.redundancy.proofs.runs.run_len.Given as goal
 
 abbrev pub invariant-loop-place : goal.invariant-loop-place

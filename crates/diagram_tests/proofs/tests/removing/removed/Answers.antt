@@ -1,5 +1,5 @@
 use Rattle.std.proofs.Common.{subst}
-use Rattle.field_sift.specs.Built.{ArePrefixes}
+use Rattle.redundancy_laws.specs.Built.{ArePrefixes}
 use Rattle.diagram_tests.proofs.tests.removing.removed.Goals as goal
 
 pub remove-requires : goal.remove-requires

@@ -1,8 +1,8 @@
 use Rattle.std.proofs.Common.{[], ◌++◌, List, ap, refl, sym, ◌∙◌, subst, append_assoc, length, map}
 use Rattle.field_boxes.specs.Spans.{interval_of}
-use Rattle.field_sift.specs.Built.{row_at}
-use Rattle.field_sift.specs.Rows.{Row, in_front}
-use Rattle.field_sift.specs.Layers.{rows_of_runs}
+use Rattle.redundancy_laws.specs.Built.{row_at}
+use Rattle.redundancy_laws.specs.Rows.{Row, in_front}
+use Rattle.redundancy_laws.specs.Layers.{rows_of_runs}
 use Rattle.redundancy.specs.declared.block.Run.{Run}
 use Rattle.redundancy.specs.Blocks.{rows_of, run_by}
 use Rattle.node_store.specs.Levels.{next}

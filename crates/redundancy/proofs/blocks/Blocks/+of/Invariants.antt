@@ -1,6 +1,6 @@
 use Rattle.std.proofs.Common.{◌≡◌, ◌+◌, ◌*◌, ◌++◌, List, length, map}
-use Rattle.field_sift.specs.Built.{row_at}
-use Rattle.field_sift.specs.Rows.{Row}
+use Rattle.redundancy_laws.specs.Built.{row_at}
+use Rattle.redundancy_laws.specs.Rows.{Row}
 use Rattle.redundancy.specs.Gathered.{AreGathered}
 use Rattle.redundancy.proofs.blocks.Blocks.+of.Given as goal
 

@@ -13,24 +13,26 @@ use Rattle.table_compose.proofs.Gaining.{list_there, lists_at}
 use Rattle.redundancy.specs.Built.{IsBuilt}
 use Rattle.redundancy.specs.NodeRows.{node_rows}
 use Rattle.redundancy.proofs.Costs.{one_less}
-use Rattle.redundancy.proofs.NodeRuns.{below_of, block_of, first_below, first_width, known_built, node_made, some_turned, still_known, turned_more, turned_none}
+use Rattle.redundancy.specs.Known.{HasPlans}
+use Rattle.redundancy.proofs.NodeBlocks.{block_of, known_built, still_known}
+use Rattle.redundancy.proofs.NodeRuns.{below_of, first_below, first_width, node_made, some_turned, turned_more, turned_none}
 use Rattle.redundancy.proofs.blocks.Blocks.+of_node.Goals as goal
 
 pub of_node-returns-in-Some-clause-built : goal.of_node-returns-in-Some-clause-built
 of_node-returns-in-Some-clause-built t c =
-    let lists = rows_at c.args.plans.now.lists.items in
-    known_built c.args.store.now lists c.args.sets.now c.args.self.now c.args.id.0 c.args.level.now c.in-Some.number c.requires.blocks c.requires.at
-    (c.in-Some.ensures c.args.store.now lists c.args.self.now c.requires.known)
+    let plans = c.args.plans.now in
+    known_built c.args.store.now plans c.args.sets.now c.args.self.now c.args.id.0 c.args.level.now c.in-Some.number c.requires.blocks c.requires.at
+    (c.in-Some.ensures c.args.store.now plans c.args.self.now c.requires.known)
 
 pub of_node-returns-clause-known : goal.of_node-returns-clause-known
 of_node-returns-clause-known t c =
-    let lists = rows_at c.args.plans.now.lists.items in
-    c.keep.ensures c.args.store.now lists c.made.new.self c.in_ok-number.ensures.known
-    (block_of c.args.store.now lists c.args.sets.now c.made.new.sets c.args.self.now c.made.new.self c.args.id.0 c.args.level.now c.in_ok-number.number c.requires.at c.in_ok-number.ensures.built)
+    let plans = c.args.plans.now in
+    c.keep.ensures c.args.store.now plans c.made.new.self c.in_ok-number.ensures.known
+    (block_of c.args.store.now plans c.args.sets.now c.made.new.sets c.args.self.now c.made.new.self c.args.id.0 c.args.level.now c.in_ok-number.number c.requires.at c.requires.planned c.in_ok-number.ensures.built)
 
 pub made-returns-then-is_empty-clause-known : goal.made-returns-then-is_empty-clause-known
 made-returns-then-is_empty-clause-known t c =
-    still_known c.args.store.now (rows_at c.args.plans.now.lists.items) c.args.sets.now c.of_leaf.new.sets c.args.self.now c.of_leaf.new.self c.args.known.now [] _ c.of_leaf.result c.requires.known c.of_leaf.ensures
+    still_known c.args.store.now c.args.plans.now c.args.sets.now c.of_leaf.new.sets c.args.self.now c.of_leaf.new.self c.args.known.now [] _ c.of_leaf.result c.requires.known c.of_leaf.ensures
 
 pub of_rows-width-bits-requires : goal.of_rows-width-bits-requires
 of_rows-width-bits-requires t c = first_below c.args.level.now c.from.result 0 c.requires.within c.from.ensures
@@ -42,7 +44,7 @@ of_rows-rows-rows-requires t c =
 
 pub of_rows-loop-row-init : goal.of_rows-loop-row-init
 of_rows-loop-row-init t c =
-    turned_none c.args.store.now (rows_at c.args.plans.now.lists.items) c.args.sets.now c.args.self.now c.args.known.now c.args.level.now c.in_ok-runs.runs.items c.requires.blocks c.requires.known c.in_ok-runs.ensures.items
+    turned_none c.args.store.now c.args.plans.now c.args.sets.now c.args.self.now c.args.known.now c.args.level.now c.in_ok-runs.runs.items c.requires.blocks c.requires.known c.in_ok-runs.ensures.items
 
 pub of_rows-of_node-requires : goal.of_rows-of_node-requires
 of_rows-of_node-requires t c =
@@ -51,7 +53,7 @@ of_rows-of_node-requires t c =
     let lists = rows_at c.args.plans.now.lists.items in
     let d : Row = record { prefix = record { value = 0; len = 0 }; to = record { 0 = 0 } } in
     let r = slice_index_or c.rows-rows.result.now l.row-index d in
-    let below = below_of nodes lists c.args.level.now c.args.id.0 c.rows-rows.result.now l.row-index d c.same_answers.ensures.store c.requires.within c.requires.at c.requires.lists c.rows-rows.ensures c.loop-row-test.true in
+    let below = below_of nodes c.args.plans.now c.args.level.now c.args.id.0 c.rows-rows.result.now l.row-index d c.same_answers.ensures.store c.requires.within c.requires.at c.requires.lists c.requires.planned c.rows-rows.ensures c.loop-row-test.true in
     let tail = sym c.after-below.ensures in (
       omega (arith, c.decreases, one_less c.args.level.now c.requires.within, ap length c.after-below.ensures),
       (
@@ -60,7 +62,10 @@ of_rows-of_node-requires t c =
           l.invariant.known,
           (
             subst IsLevel tail (is_next c.args.level.now c.requires.within),
-            (subst (λ k. level_of nodes r.to.0 ≡ k) tail below.at, subst (λ k. HaveLists nodes lists k r.to.0) tail below.have),
+            (
+              subst (λ k. level_of nodes r.to.0 ≡ k) tail below.at,
+              (subst (λ k. HaveLists nodes lists k r.to.0) tail below.have, subst (λ k. HasPlans c.args.plans.now k r.to.0) tail below.planned),
+            ),
           ),
         ),
       ),
@@ -70,7 +75,7 @@ pub of_rows-span-span-requires : goal.of_rows-span-span-requires
 of_rows-span-span-requires t c =
     let d : Row = record { prefix = record { value = 0; len = 0 }; to = record { 0 = 0 } } in
     let l = c.loop-row in
-    let below = below_of c.args.store.now (rows_at c.args.plans.now.lists.items) c.args.level.now c.args.id.0 c.rows-rows.result.now l.row-index d c.same_answers.ensures.store c.requires.within c.requires.at c.requires.lists c.rows-rows.ensures c.loop-row-test.true in
+    let below = below_of c.args.store.now c.args.plans.now c.args.level.now c.args.id.0 c.rows-rows.result.now l.row-index d c.same_answers.ensures.store c.requires.within c.requires.at c.requires.lists c.requires.planned c.rows-rows.ensures c.loop-row-test.true in
     subst (λ w. FitsWidth w (slice_index_or c.rows-rows.result.now l.row-index d).prefix) (sym (first_width c.args.level.now c.from.result c.width-bits.result 0 c.requires.within c.from.ensures c.width-bits.ensures)) below.fit
 
 pub of_rows-loop-row-preserved : goal.of_rows-loop-row-preserved
@@ -82,10 +87,10 @@ of_rows-loop-row-preserved t c =
     let d : Row = record { prefix = record { value = 0; len = 0 }; to = record { 0 = 0 } } in
     let items = c.rows-rows.result.now in
     let r = slice_index_or items l.row-index d in
-    let below = below_of nodes lists level c.args.id.0 items l.row-index d c.same_answers.ensures.store c.requires.within c.requires.at c.requires.lists c.rows-rows.ensures c.loop-row-test.true in
+    let below = below_of nodes c.args.plans.now level c.args.id.0 items l.row-index d c.same_answers.ensures.store c.requires.within c.requires.at c.requires.lists c.requires.planned c.rows-rows.ensures c.loop-row-test.true in
     let wide = first_width level c.from.result c.width-bits.result 0 c.requires.within c.from.ensures c.width-bits.ensures in
     let built = subst (λ k. IsBuilt l.sets c.of_node.new.sets l.self c.of_node.new.self c.after-below.result.now (node_rows nodes lists k r.to.0) c.in_ok-block.block) c.after-below.ensures c.in_ok-block.ensures.built in
-    turned_more nodes lists c.args.sets.now l.sets c.of_node.new.sets c.args.self.now l.self c.of_node.new.self l.known c.of_node.new.known level c.after-below.result.now l.row-index
+    turned_more nodes c.args.plans.now c.args.sets.now l.sets c.of_node.new.sets c.args.self.now l.self c.of_node.new.self l.known c.of_node.new.known level c.after-below.result.now l.row-index
     (node_rows nodes lists (next_level level)) items r l.runs.items c.push.new.self.items (record { span = c.span-span.result; block = c.in_ok-block.block }) c.requires.within c.after-below.ensures
     c.loop-row-test.true (get_or_default items l.row-index d r c.loop-row-test.true) below.fit l.invariant built c.in_ok-block.ensures.known
     (c.span-span.ensures ∙ ap (λ w. prefix_interval w r.prefix) wide) c.in_ok-push.ensures.items
@@ -100,10 +105,10 @@ of_rows-of_runs-requires-clause-some t c =
 pub of_rows-returns-clause-built : goal.of_rows-returns-clause-built
 of_rows-returns-clause-built t c =
     IfOk-weaker c.of_runs.result _ _
-    (λ number k. node_made c.args.store.now (rows_at c.args.plans.now.lists.items) c.args.sets.now c.loop-row.sets c.of_runs.new.sets c.args.self.now c.loop-row.self c.of_runs.new.self c.loop-row.known c.args.level.now c.args.id.0 c.loop-row.row-index number
+    (λ number k. node_made c.args.store.now c.args.plans.now c.args.sets.now c.loop-row.sets c.of_runs.new.sets c.args.self.now c.loop-row.self c.of_runs.new.self c.loop-row.known c.args.level.now c.args.id.0 c.loop-row.row-index number
     c.rows-rows.result.now c.loop-row.runs.items c.as_slice.result.now c.requires.within c.rows-rows.ensures c.loop-row-test.false c.loop-row.invariant c.as_slice.ensures.value k)
     c.of_runs.ensures
 
 pub of_rows-returns-clause-known : goal.of_rows-returns-clause-known
 of_rows-returns-clause-known t c =
-    still_known c.args.store.now (rows_at c.args.plans.now.lists.items) c.loop-row.sets c.of_runs.new.sets c.loop-row.self c.of_runs.new.self c.loop-row.known c.args.level.now _ c.of_runs.result c.loop-row.invariant.known c.of_runs.ensures
+    still_known c.args.store.now c.args.plans.now c.loop-row.sets c.of_runs.new.sets c.loop-row.self c.of_runs.new.self c.loop-row.known c.args.level.now _ c.of_runs.result c.loop-row.invariant.known c.of_runs.ensures

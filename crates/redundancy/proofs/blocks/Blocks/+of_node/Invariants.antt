@@ -1,7 +1,7 @@
 use Rattle.std.proofs.Common.{◌+◌, ◌*◌, length, take}
 use Rattle.node_store.specs.Levels.{next}
 use Rattle.table_compose.specs.Rows.{rows_at, rows_of}
-use Rattle.field_sift.specs.Built.{field_of}
+use Rattle.redundancy_laws.specs.Built.{field_of}
 use Rattle.redundancy.specs.NodeRows.{in_turn, node_rows}
 use Rattle.redundancy.proofs.NodeRuns.{AreTurned}
 use Rattle.redundancy.proofs.blocks.Blocks.+of_node.Given as goal
@@ -17,5 +17,5 @@ decreases-of_rows l = 3 * length l.level.now
 
 abbrev pub invariant-of_rows-loop-row : goal.invariant-of_rows-loop-row
 invariant-of_rows-loop-row l =
-    AreTurned l.store (rows_at l.plans.lists.items) l.initial.sets l.sets l.initial.self l.self l.known l.level l.row-index
+    AreTurned l.store l.plans l.initial.sets l.sets l.initial.self l.self l.known l.level l.row-index
     (in_turn (field_of l.level) (node_rows l.store (rows_at l.plans.lists.items) (next l.level)) (rows_of (take l.row-index l.rows))) l.runs.items

@@ -8,10 +8,10 @@ use Rattle.node_store.specs.Diagram.{level_of}
 use Rattle.node_store.specs.Levels.{HasField, IsLevel}
 use Rattle.node_store.proofs.Canonical.{is_level}
 use Rattle.node_store.proofs.Growth.{stays, twice}
-use Rattle.field_sift.specs.Rows.{last_row}
-use Rattle.field_sift.specs.Layers.{rows_of_runs, end_of}
-use Rattle.field_sift.specs.Sifted.{ArePairs, IsSifted, node_at}
-use Rattle.field_sift.proofs.Kept.{pairs-stay}
+use Rattle.redundancy_laws.specs.Rows.{last_row}
+use Rattle.redundancy_laws.specs.Layers.{rows_of_runs, end_of}
+use Rattle.redundancy_laws.specs.Sifted.{AreContexts, IsSifted, node_at}
+use Rattle.redundancy_laws.proofs.Kept.{pairs-stay}
 use Rattle.redundancy.specs.declared.block.Block.TheVariants.{Last, Layer, Two}
 use Rattle.redundancy.specs.declared.block.Cover.{Cover}
 use Rattle.redundancy.specs.Blocks.{FitsRun, RiseApart, rows_of, cover_at, run_by}
@@ -26,7 +26,7 @@ use Rattle.redundancy.proofs.blocks.Blocks.+sift.Goals as goal
 
 pub sift-last-requires : goal.sift-last-requires
 sift-last-requires t c =
-    subst (λ l. ArePairs c.args.sets.now l c.args.contexts.now) (c.requires.blocks.fits c.args.number (Last c.in-Last.decision) (c.block.ensures.found ∙ ap Some c.in-Last.is)) c.requires.contexts
+    subst (λ l. AreContexts c.args.sets.now l c.args.contexts.now) (c.requires.blocks.fits c.args.number (Last c.in-Last.decision) (c.block.ensures.found ∙ ap Some c.in-Last.is)) c.requires.contexts
 
 pub sift-sift_layer-requires : goal.sift-sift_layer-requires
 sift-sift_layer-requires t c =
@@ -44,7 +44,7 @@ sift-sift_layer-requires t c =
               c.requires.number,
               (
                 subst (All (FitsRun covers c.args.number c.cover.result.level.now)) (sym c.as_slice.ensures.value) (subst (λ (r : Cover). All (FitsRun covers c.args.number r.level.now) c.in-Layer.runs.items) e f.1),
-                (subst RiseApart (sym c.as_slice.ensures.value) f.2, subst (λ (r : Cover). ArePairs c.args.sets.now r.level.now c.args.contexts.now) e c.requires.contexts),
+                (subst RiseApart (sym c.as_slice.ensures.value) f.2, subst (λ (r : Cover). AreContexts c.args.sets.now r.level.now c.args.contexts.now) e c.requires.contexts),
               ),
             ),
           ),
@@ -62,7 +62,7 @@ sift-sift_two-requires t c =
           c.requires.memo,
           (
             omega (arith, f.0, c.requires.number),
-            (omega (arith, f.1, c.requires.number), (f.3 ∙ sym f.2, subst (λ l. ArePairs c.args.sets.now l c.args.contexts.now) (sym f.2) c.requires.contexts)),
+            (omega (arith, f.1, c.requires.number), (f.3 ∙ sym f.2, subst (λ l. AreContexts c.args.sets.now l c.args.contexts.now) (sym f.2) c.requires.contexts)),
           ),
         ),
       ),
@@ -242,6 +242,7 @@ sift_run-returns-clause-memo t c =
     c.requires.inside c.in_ok-below.ensures c.as_slice.ensures c.in_ok-distinct.ensures refl in
     c.keep.ensures c.sift.new.sets c.args.self.now c.in_ok-inner.ensures.memo
     (record {
+      there = c.requires.block;
       within = within;
       contexts = pairs-stay c.args.sets.now c.sift.new.sets level c.in_ok-distinct.distinct.pairs.items within c.in_ok-inner.ensures.grows asked;
       sifted = subst (λ ps. IsSifted c.sift.new.sets level rows ps c.in_ok-inner.inner) c.as_slice-2.ensures c.in_ok-inner.ensures.sifted;
@@ -255,7 +256,7 @@ sift_two-behind_cover-requires-clause-cover t c =
     subst (λ (r : Cover). level_of c.args.sets.now r.set.0 ≡ r.level.now) (sym c.cover.ensures) (c.requires.blocks.covered c.args.first c.requires.first).level
 
 pub sift_two-behind_cover-requires-clause-contexts : goal.sift_two-behind_cover-requires-clause-contexts
-sift_two-behind_cover-requires-clause-contexts t c = subst (λ (r : Cover). ArePairs c.args.sets.now r.level.now c.args.contexts.now) (sym c.cover.ensures) c.requires.contexts
+sift_two-behind_cover-requires-clause-contexts t c = subst (λ (r : Cover). AreContexts c.args.sets.now r.level.now c.args.contexts.now) (sym c.cover.ensures) c.requires.contexts
 
 pub sift_two-sift-requires : goal.sift_two-sift-requires
 sift_two-sift-requires t c =
@@ -268,8 +269,8 @@ sift_two-sift-requires t c =
           memo_stays c.args.sets.now nodes c.args.self.now (λ q. get same_asked c.args.memo.now.done q) g c.requires.memo,
           (
             c.requires.second,
-            subst (ArePairs nodes (cover_at c.args.self.now.covers.items c.args.second).level.now) (sym c.as_slice.ensures)
-                (subst (λ l. ArePairs nodes l c.in_ok-behind.behind.items) (ap (λ (r : Cover). r.level.now) c.cover.ensures ∙ sym c.requires.level) c.in_ok-behind.ensures.level),
+            subst (AreContexts nodes (cover_at c.args.self.now.covers.items c.args.second).level.now) (sym c.as_slice.ensures)
+                (subst (λ l. AreContexts nodes l c.in_ok-behind.behind.items) (ap (λ (r : Cover). r.level.now) c.cover.ensures ∙ sym c.requires.level) c.in_ok-behind.ensures.level),
           ),
         ),
       ),

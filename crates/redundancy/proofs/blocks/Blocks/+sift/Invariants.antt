@@ -1,7 +1,7 @@
 use Rattle.std.proofs.Common.{◌+◌, ◌*◌, max, take}
 use Rattle.std.specs.Prelude.{map}
 use Rattle.node_store.specs.Store.{Grows}
-use Rattle.field_sift.specs.Layers.{rows_of_runs, end_of}
+use Rattle.redundancy_laws.specs.Layers.{rows_of_runs, end_of}
 use Rattle.redundancy.specs.Blocks.{run_by, rows_of}
 use Rattle.redundancy.specs.Drafts.{IsDraft}
 use Rattle.redundancy.specs.Remembered.{IsMemo}

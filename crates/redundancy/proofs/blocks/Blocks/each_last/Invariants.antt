@@ -1,5 +1,5 @@
 use Rattle.std.proofs.Common.{◌≡◌, [], length, map, take}
-use Rattle.field_sift.specs.Built.{row_at}
+use Rattle.redundancy_laws.specs.Built.{row_at}
 use Rattle.redundancy.specs.Built.{AreBuilt}
 use Rattle.redundancy.proofs.blocks.Blocks.each_last.Given as goal
 

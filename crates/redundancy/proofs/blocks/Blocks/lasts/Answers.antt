@@ -1,7 +1,7 @@
 use Rattle.std.proofs.Common.{[], subst, map}
 use Rattle.std.specs.List.{flat_map}
 use Rattle.std.proofs.lemmas.Result.{IfOk-weaker}
-use Rattle.field_sift.specs.Built.{row_at}
+use Rattle.redundancy_laws.specs.Built.{row_at}
 use Rattle.redundancy.specs.Built.{IsBuilt}
 use Rattle.redundancy.specs.Blocks.{rows_of}
 use Rattle.redundancy.proofs.BlocksStay.{blocks_stay}

@@ -1,5 +1,5 @@
 use Rattle.std.proofs.Common.{[], refl, map}
-use Rattle.field_sift.specs.Built.{row_at}
+use Rattle.redundancy_laws.specs.Built.{row_at}
 use Rattle.redundancy.proofs.Gathering.{list_kept, listed_grows}
 use Rattle.redundancy.proofs.blocks.Blocks.of_lasts.Goals as goal
 

@@ -1,7 +1,7 @@
 use Rattle.std.proofs.Common.{subst}
 use Rattle.std.proofs.lemmas.Result.{IfOk-weaker}
 use Rattle.redundancy.specs.declared.block.Cover.{Cover}
-use Rattle.field_sift.specs.Sifted.{IsUnion}
+use Rattle.redundancy_laws.specs.Sifted.{IsUnion}
 use Rattle.redundancy.specs.Blocks.{cover_at}
 use Rattle.redundancy.proofs.Builds.{two_built}
 use Rattle.redundancy.proofs.blocks.Blocks.two.Goals as goal

@@ -1,7 +1,7 @@
 use Rattle.std.proofs.Common.{◌∷◌, [], List, Some, sym, subst, map, take}
 use Rattle.std.proofs.lemmas.List.{take_all}
-use Rattle.field_sift.specs.Built.{row_at}
-use Rattle.field_sift.specs.Rows.{Row, last_row}
+use Rattle.redundancy_laws.specs.Built.{row_at}
+use Rattle.redundancy_laws.specs.Rows.{Row, last_row}
 use Rattle.redundancy.specs.Lists.{IsListed}
 use Rattle.redundancy.proofs.Gathering.{listed_then, map_next}
 use Rattle.redundancy.proofs.ListRows.{none_listed}

@@ -1,5 +1,5 @@
 use Rattle.std.proofs.Common.{[], map, take}
-use Rattle.field_sift.specs.Built.{row_at}
+use Rattle.redundancy_laws.specs.Built.{row_at}
 use Rattle.redundancy.specs.declared.blocks.Blocks.{Blocks}
 use Rattle.redundancy.specs.Lists.{AreLists, IsListed}
 use Rattle.redundancy.proofs.lists.Lists.lasts.Given as goal

@@ -1,5 +1,0 @@
-use Rattle.field_sift.proofs.Below.{split-below, pairs-below, once-below}
-use Rattle.field_sift.proofs.laws.below.Goals as goal
-
-pub returns : goal.returns
-returns c = record { split = split-below; pairs = pairs-below; once = once-below }

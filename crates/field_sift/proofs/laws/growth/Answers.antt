@@ -1,5 +1,0 @@
-use Rattle.field_sift.proofs.Kept.{sifted-stays, so-far-stays, made-stays, below-stays, pairs-stay, nodes-stay, cover-stays, union-stays}
-use Rattle.field_sift.proofs.laws.growth.Goals as goal
-
-pub returns : goal.returns
-returns c = record { sifted = sifted-stays; so_far = so-far-stays; made = made-stays; below = below-stays; pairs = pairs-stay; numbers = nodes-stay; cover = cover-stays; union = union-stays }

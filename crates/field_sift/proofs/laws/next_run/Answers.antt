@@ -1,5 +1,0 @@
-use Rattle.field_sift.proofs.NextRun.{next_run, unchanged}
-use Rattle.field_sift.proofs.laws.next_run.Goals as goal
-
-pub returns : goal.returns
-returns c = record { right = next_run; unchanged = unchanged }

@@ -1,5 +1,0 @@
-use Rattle.field_sift.proofs.Sequence.{sequence}
-use Rattle.field_sift.proofs.laws.two.Goals as goal
-
-pub returns : goal.returns
-returns c = sequence

@@ -1,6 +1,0 @@
-use Rattle.field_boxes.specs.Spans.{interval_of}
-use Rattle.redundancy.specs.Stretches.{AreListed}
-use Rattle.redundancy.proofs.below.listed_below.Given as goal
-
-abbrev pub invariant-loop-pair : goal.invariant-loop-pair
-invariant-loop-pair l = AreListed l.sets (interval_of l.span) l.contexts l.pair-index l.pairs.items l.stretches.items

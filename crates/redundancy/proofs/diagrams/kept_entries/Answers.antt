@@ -1,8 +1,0 @@
-use Rattle.table_compose.specs.Rows.{rows_at}
-use Rattle.redundancy.proofs.Tight.{kept_of}
-use Rattle.redundancy.proofs.diagrams.kept_entries.Goals as goal
-
-pub returns : goal.returns
-returns c =
-    kept_of c.args.store.now (rows_at c.args.plans.now.lists.items) c.args.plans.now.costs.items c.args.order.now c.args.root.0 c.new-kept.result.items c.add_kept.new.entries.items c.in_ok-flags.flags.items c.as_slice.result.now
-    c.new-kept.ensures.items c.as_slice.ensures.value c.in_ok-flags.ensures c.requires.lists c.requires.costs c.in_ok-add_kept.ensures

@@ -1,7 +1,0 @@
-use Rattle.std.proofs.Common.{◌≡◌, take}
-use Rattle.std.specs.Prelude.{map}
-use Rattle.redundancy.specs.Drafts.{placed_by}
-use Rattle.redundancy.proofs.draft.placed_of.Given as goal
-
-abbrev pub invariant-loop-stretch : goal.invariant-loop-stretch
-invariant-loop-stretch l = l.placed.items ≡ map (placed_by l.places l.after) (take l.stretch-index l.stretches)

@@ -1,0 +1,91 @@
+//! What was kept of the first runs of a layer, and where the contexts lead on with them in front.
+ghost use Rattle.std.specs.Prelude.{◌≡◌, ◌<◌, ℕ, length, map, All, IfOk, OnOk};
+ghost use Rattle.std.specs.List.{list_any};
+ghost use Rattle.redundancy.specs.Drafts.{placed_by, IsChange, IsTakenIn, HaveRoom};
+
+use crate::run_contexts::{Stretch, Stretches};
+use field_sets::Placed;
+use node_store::NodeId;
+use razor_base::Memory;
+use redundancy_laws::Sifted;
+use std::alloc::Global;
+
+/// Where each context leads on inside a run of which something is kept.
+#[derive(Drop)]
+pub(crate) struct Change {
+    pub placed: Vec<Vec<Placed>>,
+}
+
+/// The flags of the rows so far, and the changes that they make, in the order of their spans.
+#[derive(Drop)]
+pub(crate) struct Draft {
+    pub kept: Vec<bool>,
+    pub changes: Vec<Change>,
+}
+
+/// Takes in what is kept of one run more: where that is nothing, no context leads on otherwise.
+pub(crate) fn take_in(
+    alloc: Global,
+    draft: &mut Draft,
+    stretches: &[Stretches],
+    places: &[usize],
+    inner: &Sifted,
+) -> Result<(), Memory>
+    requires stretches { HaveRoom (length places.now) stretches.now }
+    requires places { All (λ (p : ℕ). p < length inner.now.after.items) places.now }
+    ensures { OnOk result (IsTakenIn draft.old stretches.now places.now inner.now draft.new) }
+{
+    draft.kept.extend_from_slice(inner.kept.as_slice())?;
+    if is_some_kept(inner.kept.as_slice()) {
+        let change = change_of(alloc, stretches, places, inner.after.as_slice())?;
+        draft.changes.push(change)?;
+    }
+    Ok(())
+}
+
+/// Whether a flag is true.
+pub(crate) fn is_some_kept(kept: &[bool]) -> bool
+    ensures { result ≡ list_any (λ b. b) kept.now }
+{
+    kept.iter().any(|flag| *flag)
+}
+
+/// Where each context leads on inside a run: for its stretches what is answered at the places of their pairs.
+fn change_of(
+    alloc: Global,
+    stretches: &[Stretches],
+    places: &[usize],
+    after: &[NodeId],
+) -> Result<Change, Memory>
+    requires stretches { HaveRoom (length places.now) stretches.now }
+    requires places { All (λ (p : ℕ). p < length after.now) places.now }
+    ensures { IfOk result (λ change. IsChange stretches.now places.now after.now change) }
+{
+    let mut placed = Vec::with_capacity(alloc, stretches.len())?;
+    for own in stretches {
+        let placed_own = placed_of(alloc, own.as_slice(), places, after)?;
+        placed.push(placed_own)?;
+    }
+    Ok(Change { placed })
+}
+
+/// The same of one context.
+fn placed_of(
+    alloc: Global,
+    stretches: &[Stretch],
+    places: &[usize],
+    after: &[NodeId],
+) -> Result<Vec<Placed>, Memory>
+    requires stretches { All (λ s. s.place < length places.now) stretches.now }
+    requires places { All (λ (p : ℕ). p < length after.now) places.now }
+    ensures { IfOk result (λ placed. placed.items ≡ map (placed_by places.now after.now) stretches.now) }
+{
+    let mut placed = Vec::with_capacity(alloc, stretches.len())?;
+    for stretch in stretches {
+        placed.push(Placed {
+            span: stretch.span,
+            to: after[places[stretch.place]],
+        })?;
+    }
+    Ok(placed)
+}

@@ -1,0 +1,92 @@
+//! Contexts below a span of values: the pairs of nodes to which they lead.
+ghost use Rattle.std.specs.Prelude.{◌≡◌, ◌≤◌, ◌++◌, length, map, IfOk, OnOk};
+ghost use Rattle.node_store.specs.Levels.{HasField, top_of};
+ghost use Rattle.field_boxes.specs.Spans.{interval_of};
+ghost use Rattle.node_store.specs.Split.{to_left};
+ghost use Rattle.field_sets.specs.Fill.{Fill};
+ghost use Rattle.redundancy_laws.specs.Sifted.{AreContexts};
+ghost use Rattle.redundancy.specs.Stretches.{AreStretches, AreListed, context_of};
+
+use crate::contexts::Contexts;
+use crate::sets::Sets;
+use field_boxes::Span;
+use node_store::Part;
+use razor_base::Memory;
+use redundancy_laws::Context;
+use smallvec::SmallVec;
+use std::alloc::Global;
+
+/// Values of a field that lead to one pair of nodes, and the place of the pair in a list.
+#[derive(Clone, Copy, Debug, PartialEq, Eq)]
+pub(crate) struct Stretch {
+    pub span: Span,
+    pub place: usize,
+}
+
+impl Default for Stretch {
+    fn default() -> Self {
+        let span = Span { lo: 0, hi: 0 };
+        Stretch { span, place: 0 }
+    }
+}
+
+/// The stretches of one context.
+pub(crate) type Stretches = SmallVec<Stretch, 2>;
+
+/// The pairs to which the contexts lead inside a span, and for each context the stretches of the span.
+#[derive(Drop)]
+pub(crate) struct Below {
+    pub pairs: Contexts,
+    pub stretches: SmallVec<Stretches, 1>,
+}
+
+/// The pairs to which the contexts of the level lead inside the span.
+pub(crate) fn listed_below(
+    alloc: Global,
+    sets: &Sets,
+    level: &[u8],
+    span: Span,
+    contexts: &[Context],
+) -> Result<Below, Memory>
+    requires level { HasField level.now }
+    requires inside { span.hi ≤ top_of level.now }
+    requires contexts { AreContexts sets.now level.now contexts.now }
+    ensures { IfOk result (λ b. AreListed sets.now (interval_of span) contexts.now (length contexts.now) b.pairs.items b.stretches.items) }
+{
+    let _level = level;
+    let mut pairs = SmallVec::new(alloc);
+    let mut stretches = SmallVec::with_capacity(alloc, contexts.len())?;
+    for pair in contexts {
+        let parts = sets.parts(pair.after, pair.met, span)?;
+        let own = stretches_of(alloc, &mut pairs, span, parts.as_slice())?;
+        stretches.push(own)?;
+    }
+    Ok(Below { pairs, stretches })
+}
+
+/// The stretches of one context by the parts of the span; the list gains a pair for each.
+fn stretches_of(
+    alloc: Global,
+    pairs: &mut Contexts,
+    span: Span,
+    parts: &[Part],
+) -> Result<Stretches, Memory>
+    requires { Fill span.lo span.hi (map to_left parts.now) }
+    ensures stretches { IfOk result (λ own. AreStretches span.lo (length pairs.old.items) parts.now own.items) }
+    ensures pairs { OnOk result (pairs.new.items ≡ pairs.old.items ++ map context_of parts.now) }
+{
+    let mut own = SmallVec::with_capacity(alloc, parts.len())?;
+    let mut lo = span.lo;
+    for part in parts {
+        own.push(Stretch {
+            span: Span { lo, hi: part.hi },
+            place: pairs.len(),
+        })?;
+        pairs.push(Context {
+            after: part.left,
+            met: part.right,
+        })?;
+        lo = part.hi.saturating_add(1);
+    }
+    Ok(own)
+}
