@@ -6,6 +6,7 @@ use crate::refusal::{CommitRefusal, NoPlace, PlaceRefusal, commit_answer};
 use bank_update::{Idle, Stage, StepRefusal};
 use field_boxes::{Decisions, Header, Rule};
 use filter_reader::RuleList;
+use rule_compilation::Compiler;
 use std::alloc::Global;
 use std::marker::Model;
 use tcam_sim::Device;
@@ -22,6 +23,7 @@ use ternary_words::Table;
 pub struct Editor<V: Device> {
     alloc: Global,
     list: Listing,
+    compiler: Compiler,
     swapper: ListSwapper<V>,
     slot: u16,
     limit: u32,
@@ -69,6 +71,7 @@ impl<V: Device> Editor<V> {
         Editor {
             alloc,
             list: Listing::of(list),
+            compiler: Compiler::new(alloc),
             swapper: ListSwapper::new(alloc, device),
             slot,
             limit,
@@ -130,7 +133,7 @@ impl<V: Device> Editor<V> {
     }
 
     /// Compiles the list as it is now and begins a swap to its table. Answers how many writes the swap has; one
-    /// without any is over at once.
+    /// without any is over at once. What earlier commits worked out is kept, so few edits take little time.
     ///
     /// After a refusal all is as it was.
     pub fn commit(&mut self) -> Result<u64, CommitRefusal>
@@ -141,7 +144,7 @@ impl<V: Device> Editor<V> {
         if self.swapper.stage().is_some() {
             return Err(CommitRefusal::Busy);
         }
-        let table = compiled(self.alloc, &self.list, self.slot, self.limit)?;
+        let table = compiled(&mut self.compiler, &self.list, self.slot, self.limit)?;
         let copy = self.list.copy(self.alloc)?;
         self.begin(table, copy)
     }

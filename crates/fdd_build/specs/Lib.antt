@@ -3,3 +3,4 @@ pub mod Sets
 pub mod Overlay
 pub mod Nothing
 pub mod Lasting
+pub mod Builders

@@ -6,14 +6,12 @@ ghost use Rattle.node_store.specs.Levels.{IsLevel};
 ghost use Rattle.node_store.specs.Diagram.{level_of, answer};
 ghost use Rattle.node_store.specs.Store.{Grows};
 ghost use Rattle.fdd_build.specs.Nothing.{AreNothing};
-ghost use Rattle.fdd_build.specs.declared.overlay.Overlay.TheVariants.{Answer};
+ghost use Rattle.fdd_build.specs.Builders.{IsBuilderOf};
 ghost use Rattle.fdd_build.specs.Rules.{decided, hides};
 
 use crate::boxes::boxed;
+use crate::builder::Builder;
 use crate::change::over_sets;
-use crate::laying::Laying;
-use crate::nothing::nothing_from;
-use crate::overlay::Overlay;
 use field_boxes::Rule;
 use node_store::{NodeId, Store};
 use razor_base::Memory;
@@ -37,40 +35,36 @@ pub fn build(
     ensures answers { IfOk result (λ id. (values : List ℕ) → AreValues order.now values → answer store.new id.0 values ≡ decided order.now rules.now values) }
     ensures grows { Grows store.old store.new }
 {
-    let nothing = nothing_from(alloc, store, order)?;
-    let laying = Laying {
-        overlay: Overlay::Answer,
-        nothing,
-    };
-    let id = halved(alloc, &laying, store, order, rules)?;
+    let mut builder = Builder::once(alloc, store, order)?;
+    let id = builder.build(alloc, store, order, rules)?;
     Ok(id)
 }
 
-/// The same, over the halves of the list.
-fn halved(
+/// The same, from the diagrams of the list's halves.
+pub(crate) fn halved(
     alloc: Global,
-    laying: &Laying,
+    builder: &mut Builder,
     store: &mut Store,
     order: &[u8],
     rules: &[Rule],
 ) -> Result<NodeId, Memory>
     requires order { IsLevel order.now }
-    requires nothing { AreNothing store.old order.now laying.now.nothing.items }
-    requires overlay { laying.now.overlay ≡ Answer }
+    requires builder { IsBuilderOf store.old order.now builder.old }
     ensures level { IfOk result (λ id. level_of store.new id.0 ≡ order.now) }
     ensures answers { IfOk result (λ id. (values : List ℕ) → AreValues order.now values → answer store.new id.0 values ≡ decided order.now rules.now values) }
+    ensures builder { IsBuilderOf store.new order.now builder.new }
     ensures grows { Grows store.old store.new }
 {
-    let nothing = laying.nothing.as_slice();
+    let nothing = builder.laying.nothing.as_slice();
     match rules {
         [] => Ok(nothing[0]),
         [rule] => one_rule(alloc, store, order, nothing, rule),
         _ => {
             let (first, second) = rules.split_at(rules.len() / 2);
-            let upper = halved(alloc, laying, store, order, first)?;
-            let lower = halved(alloc, laying, store, order, second)?;
+            let upper = halved(alloc, builder, store, order, first)?;
+            let lower = halved(alloc, builder, store, order, second)?;
             let lower = hidden(alloc, store, order, first, lower)?;
-            let id = laying.lay(alloc, store, order, upper, lower)?;
+            let id = builder.lay(alloc, store, order, upper, lower)?;
             Ok(id)
         }
     }

@@ -9,7 +9,9 @@
 //! Laying is one walk over pairs of nodes of one level, by [`fdd_apply::apply`], where a pair of which one
 //! node answers 0 everywhere is known at sight. So the cost of a walk goes by the pairs of nodes that meet,
 //! and not by the paths, of which there may be far more. `build` halves the list and lays the first half over the
-//! second, since each laying touches all that the two halves share, however small one of them is.
+//! second, since each laying touches all that the two halves share, however small one of them is. A [`Builder`] builds the
+//! diagrams of lists one after another in one store, and keeps what pairs came to: a list that differs in a rule from
+//! an earlier one costs the pairs that are new.
 //!
 //! ```text
 //! let listed = build(alloc, &mut store, &stated_order(), &rules)?;
@@ -22,6 +24,7 @@
 #![tactic(auto)]
 
 mod boxes;
+mod builder;
 mod change;
 mod filling;
 mod fork;
@@ -30,5 +33,6 @@ mod laying;
 mod nothing;
 mod overlay;
 
+pub use builder::Builder;
 pub use change::{over, under, under_rule};
 pub use halving::build;

@@ -18,10 +18,10 @@ use Rattle.table_compose.specs.Diagrams.{DecideAs, IsCostOf, NamesApart}
 use Rattle.table_compose.specs.Composed.{IsAnswer, IsRefusal}
 use Rattle.table_compose.specs.declared.composition.ComposeError.{ComposeError}
 use Rattle.table_compose.specs.declared.composition.ComposeError.TheVariants.{TooMany, Memory}
-use Rattle.field_sift.specs.Built.{ArePrefixes}
-use Rattle.field_sift.specs.Entries.{IsTight, answer as number_answer}
-use Rattle.field_sift.specs.Orders.{IsOrder, picked}
-use Rattle.field_sift.proofs.Orders.{picked_values}
+use Rattle.redundancy_laws.specs.Built.{ArePrefixes}
+use Rattle.redundancy_laws.specs.Entries.{IsTight, answer as number_answer}
+use Rattle.redundancy_laws.specs.Orders.{IsOrder, picked}
+use Rattle.redundancy_laws.proofs.Orders.{picked_values}
 use Rattle.rule_compilation.specs.Compiled.{IsRefusedIn}
 use Rattle.redundancy.specs.declared.diagrams.TightTable.{TightTable}
 use Rattle.redundancy.specs.Kept.{AreKeptOf}

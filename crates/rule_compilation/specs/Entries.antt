@@ -9,9 +9,9 @@ use Rattle.ternary_words.specs.Table.{answer}
 use Rattle.ternary_words.specs.Views.{entry_of}
 use Rattle.table_compose.specs.Composed.{decided}
 use Rattle.table_compose.specs.LeastCost.{IsLeastCost}
-use Rattle.field_sift.specs.Built.{ArePrefixes}
-use Rattle.field_sift.specs.Entries.{IsTight}
-use Rattle.field_sift.specs.Pass.{Keeps}
+use Rattle.redundancy_laws.specs.Built.{ArePrefixes}
+use Rattle.redundancy_laws.specs.Entries.{IsTight}
+use Rattle.redundancy_laws.specs.Pass.{Keeps}
 use Rattle.rule_compilation.specs.Pass.{AreComposedOf}
 
 -- the entries are the table of the rules' diagram in the order, as many as the rules' least cost, with words that are prefixes

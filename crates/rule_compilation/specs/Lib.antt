@@ -1,3 +1,4 @@
 pub mod Compiled
 pub mod Entries
 pub mod Pass
+pub mod Kept

@@ -4,18 +4,18 @@ ghost use Rattle.field_boxes.specs.Fields.{stated};
 ghost use Rattle.field_boxes.specs.NamedRules.{IsNumberedBy, named_rules};
 ghost use Rattle.ternary_words.specs.Limits.{IsSlotWidth};
 ghost use Rattle.ternary_words.specs.Views.{table_of};
-ghost use Rattle.field_sift.specs.Orders.{IsOrder};
+ghost use Rattle.redundancy_laws.specs.Orders.{IsOrder};
 ghost use Rattle.table_compose.specs.LeastCost.{IsLeastCost};
 ghost use Rattle.rule_compilation.specs.Compiled.{IsCompiled, IsCompiledIn, IsRefused, IsRefusedIn};
-ghost use Rattle.rule_compilation.specs.Entries.{AreEntriesOf, AreTightOf};
+ghost use Rattle.rule_compilation.specs.Entries.{AreEntriesOf};
 
+use crate::kept::Kept;
 use fdd_build::build;
 use field_boxes::{Decisions, Rule};
-use field_sift::laws::orders;
 use node_store::{Store, stated_order};
-use redundancy::{TightTable, compose_tight};
+use redundancy_laws::laws::orders;
 use std::alloc::Global;
-use table_compose::laws::{distinct_names_tell_apart, one_least_cost};
+use table_compose::laws::distinct_names_tell_apart;
 use table_compose::{ComposeError, compose};
 use ternary_words::{Entry, Table};
 
@@ -65,16 +65,8 @@ pub fn compile_in(
     ensures names { IfOk result (λ table. table.names ≡ names.now) }
     ensures room { IfOk result (λ table. (needed : ℕ) → IsLeastCost order.now (named_rules names.now rules.now) needed → needed ≤ limit) }
 {
-    one_least_cost();
-    names.are_names();
-    let TightTable { composed, entries } = tight_table(alloc, order, rules, names, limit)?;
-    let names = names.copy(alloc)?;
-    Ok(Table {
-        slot,
-        composed,
-        entries,
-        names,
-    })
+    let mut kept = Kept::once(alloc, order)?;
+    kept.compile(alloc, order, rules, names, limit, slot)
 }
 
 /// The table that is composed in the order, whole: as many entries as the least cost, of which many may be left out.
@@ -99,27 +91,4 @@ pub fn compose_in(
     let root = build(alloc, &mut store, order, rules)?;
     store.same_answers();
     compose(alloc, &store, order, root, limit)
-}
-
-/// What stays of the table that is composed in the order, which has as many entries as the least cost.
-fn tight_table(
-    alloc: Global,
-    order: &[u8],
-    rules: &[Rule],
-    names: &Decisions,
-    limit: u32,
-) -> Result<TightTable, ComposeError>
-    requires order { IsOrder order.now }
-    requires numbered { All (IsNumberedBy names.now) rules.now }
-    ensures table { MatchResult result
-        (λ table. AreTightOf order.now names.now (named_rules names.now rules.now) table.composed table.entries.items)
-        (λ e. IsRefusedIn order.now (named_rules names.now rules.now) limit e) }
-    ensures within { IfOk result (λ table. table.composed ≤ limit) }
-{
-    names.are_names();
-    distinct_names_tell_apart();
-    let mut store = Store::new(alloc);
-    let root = build(alloc, &mut store, order, rules)?;
-    store.same_answers();
-    compose_tight(alloc, &store, order, root, limit)
 }

@@ -8,11 +8,15 @@
 //! ```
 //!
 //! [`compile_in`] reads the fields in another order, in which the least cost may be another, and [`compose_in`] gives the
-//! composed table whole.
+//! composed table whole. A [`Compiler`] compiles lists one after another and keeps what it works out, so a list that an
+//! edit changed takes little time.
 //!
 //! `specs/Compiled.antt` says what the table is; it stands on rules, headers and plans, and on no diagram.
 #![tactic(auto)]
 
+mod compiler;
 mod compiling;
+mod kept;
 
+pub use compiler::Compiler;
 pub use compiling::{compile, compile_in, compose_in};

@@ -14,11 +14,10 @@ use Rattle.node_store.proofs.Growth as growth
 use Rattle.fdd_build.proofs.Stays as stays
 use Rattle.fdd_build.proofs.halving.+halved.Goals as goal
 
-pub lay-requires-clause-nothing : goal.lay-requires-clause-nothing
-lay-requires-clause-nothing t c =
-    let grown = growth.twice c.args.store.now c.halved.new.store c.hidden.new.store c.in_ok-upper-in_default.ensures.grows
-    (growth.twice c.halved.new.store c.halved-in_default.new.store c.hidden.new.store c.in_ok-lower-in_default.ensures.grows c.in_ok-lower-in_default-2.ensures.grows) in
-    stays.all_nothing c.args.store.now c.hidden.new.store c.args.order.now c.args.laying.now.nothing.items grown c.requires.order c.requires.nothing
+pub lay-requires-clause-builder : goal.lay-requires-clause-builder
+lay-requires-clause-builder t c =
+    stays.builder c.halved-in_default.new.store c.hidden.new.store c.args.order.now c.halved-in_default.new.builder c.in_ok-lower-in_default-2.ensures.grows c.requires.order
+    c.in_ok-lower-in_default.ensures.builder
 
 pub lay-requires-clause-upper : goal.lay-requires-clause-upper
 lay-requires-clause-upper t c =
@@ -30,7 +29,7 @@ lay-requires-clause-upper t c =
 pub returns-in-empty-clause-answers : goal.returns-in-empty-clause-answers
 returns-in-empty-clause-answers t c = λ header h.
     ap (λ (ids : List NodeId). answer c.args.store.now (slice_index_or ids 0 (record { 0 = 0 })).0 header) c.as_slice-nothing.ensures
-    ∙ (head c.args.store.now c.args.order.now c.args.laying.now.nothing.items (record { 0 = 0 }) c.requires.nothing).zero header h
+    ∙ (head c.args.store.now c.args.order.now c.args.builder.now.laying.nothing.items (record { 0 = 0 }) c.requires.builder.nothing).zero header h
     ∙ sym (decides_none c.args.order.now header c.args.rules.now (omega (arith, c.in-empty.len_below)))
 
 pub returns-in_ok-id-in_default-clause-answers : goal.returns-in_ok-id-in_default-clause-answers
@@ -46,7 +45,6 @@ returns-in_ok-id-in_default-clause-answers t c = λ header h.
     let back = drop (length rules / 2) rules in
     let later = growth.twice first second third lower.ensures.grows shown_lower.ensures.grows in
     c.in_ok-id-in_default.ensures.answers header h
-    ∙ ap (λ o. shown o (answer third upper.upper.0 header) (answer third shown_lower.lower.0 header)) c.requires.overlay
     ∙ ap (λ n. shown Answer n (answer third shown_lower.lower.0 header))
     (later.answers upper.upper.0 header (in_use first upper.upper.0 _ c.requires.order upper.ensures.level) ∙ upper.ensures.answers header h ∙ ap (λ rs. decided c.args.order.now rs header) c.split_at.ensures.front)
     ∙ ap (λ n. shown Answer (decided c.args.order.now front header) n)
@@ -57,7 +55,13 @@ returns-in_ok-id-in_default-clause-answers t c = λ header h.
     ∙ ap (λ rs. decided c.args.order.now rs header) (take-append-drop (length rules / 2) rules)
 
 pub halved-requires-in_default : goal.halved-requires-in_default
-halved-requires-in_default t c = (
-  omega (arith, c.decreases, c.in_default.len_at_least, ap length c.split_at.ensures.back, c.split_at.ensures.back_len),
-  (c.requires.order, (stays.all_nothing c.args.store.now c.halved.new.store c.args.order.now c.args.laying.now.nothing.items c.in_ok-upper-in_default.ensures.grows c.requires.order c.requires.nothing, c.requires.overlay)),
-)
+halved-requires-in_default t c =
+    (omega (arith, c.decreases, c.in_default.len_at_least, ap length c.split_at.ensures.back, c.split_at.ensures.back_len), (c.requires.order, c.in_ok-upper-in_default.ensures.builder))
+
+pub returns-in_err-lower-in_default-2-clause-builder : goal.returns-in_err-lower-in_default-2-clause-builder
+returns-in_err-lower-in_default-2-clause-builder t c =
+    stays.builder c.halved-in_default.new.store c.hidden.new.store c.args.order.now c.halved-in_default.new.builder c.in_err-lower-in_default-2.ensures.grows c.requires.order
+    c.in_ok-lower-in_default.ensures.builder
+
+pub returns-in-len1-clause-builder : goal.returns-in-len1-clause-builder
+returns-in-len1-clause-builder t c = stays.builder c.args.store.now c.one_rule.new.store c.args.order.now c.args.builder.now c.one_rule.ensures.grows c.requires.order c.requires.builder

@@ -1,10 +1,20 @@
 use Rattle.std.proofs.lemmas.List.Elements.{recursion_from_All}
 use Rattle.field_boxes.specs.NamedRules.{IsNumberedBy}
 use Rattle.rule_compilation.proofs.Composed.{IsBuiltOf, compiled}
-use Rattle.rule_compilation.proofs.compiling.tight_table.Goals as goal
+use Rattle.rule_compilation.proofs.Unless.{weaker}
+use Rattle.rule_compilation.proofs.kept.Kept.tight_table.Goals as goal
 
-pub build-requires : goal.build-requires
-build-requires c = c.requires.order.level
+pub build-requires-clause-order : goal.build-requires-clause-order
+build-requires-clause-order c = c.requires.order.level
+
+pub compose_tight-requires-clause-plans : goal.compose_tight-requires-clause-plans
+compose_tight-requires-clause-plans c =
+    c.plans_last.ensures c.args.self.now.store c.build.new.store c.args.self.now.plans c.in_ok-root.ensures.grows c.requires.kept.plans
+
+pub compose_tight-requires-clause-removal : goal.compose_tight-requires-clause-removal
+compose_tight-requires-clause-removal c =
+    let k = c.args.self.now in
+    c.removal_lasts.ensures k.store c.build.new.store k.plans k.removal c.in_ok-root.ensures.grows c.requires.kept.plans c.requires.kept.removal
 
 pub returns-clause-table : goal.returns-clause-table
 returns-clause-table c =
@@ -24,3 +34,7 @@ returns-clause-table c =
     } in
     let tight = c.compose_tight.ensures in
     compiled order names rules nodes root c.args.limit c.compose_tight.result built tight.composed tight.pass tight.few tight.tight tight.answers tight.decisions tight.prefixes tight.refusal
+
+pub returns-clause-kept : goal.returns-clause-kept
+returns-clause-kept c =
+    weaker c.compose_tight.result (λ removal. record { builder = c.in_ok-root.ensures.builder; plans = c.compose_tight.ensures.plans; removal = removal }) c.compose_tight.ensures.removal
