@@ -1,5 +1,5 @@
-//! Tests of traces and of scripts that replace a table, over devices, inputs and sinks that fail, and the random
-//! numbers that they draw.
+//! Tests of traces, of scripts that replace a table and of editing sessions, over devices, inputs and sinks that fail,
+//! and the random numbers that they draw.
 #![tactic(auto)]
 
 mod draw;

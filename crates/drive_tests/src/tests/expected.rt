@@ -84,7 +84,7 @@ impl Expected {
     }
 
     /// Begins a swap to a table of so many entries.
-    fn begin(&mut self, table: usize, count: u32) -> Answer {
+    pub(super) fn begin(&mut self, table: usize, count: u32) -> Answer {
         if self.swap.is_some() {
             return Answer::Busy;
         }

@@ -1,4 +1,7 @@
 //! Running a script over a device of which some writes fail.
+ghost use Rattle.std.specs.Prelude.{◌≡◌, None, IfOk, length, replicate};
+ghost use Rattle.tcam_sim.specs.FaultyBank.{faulty_slots};
+
 use bank_update::{DriveError, Swapper, drive_on, read_script};
 use razor_base::MemSink;
 use std::alloc::Global;
@@ -7,14 +10,15 @@ use std::test::Fail;
 use tcam_sim::FaultyBank;
 use ternary_words::Table;
 
-/// A swapper over an empty device with 1 to 9 slots, whose writes of these numbers fail. The first write has
-/// number 1.
-pub(super) fn swapper(
+/// An empty device with 1 to 9 slots, whose writes of these numbers fail. The first write has number 1.
+pub(super) fn bank(
     rt: &impl Abort,
     alloc: Global,
     slots: u32,
     failing: [u64; 4],
-) -> Result<Swapper<FaultyBank>, Fail> {
+) -> Result<FaultyBank, Fail>
+    ensures { IfOk result (λ bank. faulty_slots bank ≡ replicate (length (faulty_slots bank)) None) }
+{
     assert!(rt; 1 <= slots);
     assert!(rt; slots <= 9);
     let mut bank = FaultyBank::new(alloc, slots)?;
@@ -22,11 +26,21 @@ pub(super) fn swapper(
     bank.fail_at(failing[1])?;
     bank.fail_at(failing[2])?;
     bank.fail_at(failing[3])?;
-    Ok(Swapper::new(bank))
+    Ok(bank)
+}
+
+/// A swapper over such a device.
+pub(super) fn swapper(
+    rt: &impl Abort,
+    alloc: Global,
+    slots: u32,
+    failing: [u64; 4],
+) -> Result<Swapper<FaultyBank>, Fail> {
+    Ok(Swapper::new(bank(rt, alloc, slots, failing)?))
 }
 
 /// How many commands ran; none where a write failed.
-fn ran(ended: Result<u64, DriveError>) -> Result<Option<u64>, Fail> {
+pub(super) fn ran(ended: Result<u64, DriveError>) -> Result<Option<u64>, Fail> {
     match ended {
         Ok(count) => Ok(Some(count)),
         Err(DriveError::WriteFault) => Ok(None),
