@@ -70,6 +70,15 @@ class Builds:
         return both - read, self.start + read
 
 
+def plain(folder, name):
+    """The path of a program of bench/plain, the same work in plain Rust."""
+    if shutil.which("rustc") is None:
+        fail("rustc is missing: apt-get install rustc")
+    path = f"{folder}/{name}"
+    subprocess.run(["rustc", "--edition", "2021", "-O", "-o", path, ROOT / f"bench/plain/{name}.rs"], check=True)
+    return path
+
+
 def drawn_list(folder, kind, rules):
     """The path of a list of bench/rule-list."""
     path = pathlib.Path(f"{folder}/{kind}, {rules:,}")

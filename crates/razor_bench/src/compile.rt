@@ -6,12 +6,12 @@ ghost use Rattle.node_store.specs.Diagram.{level_of};
 use crate::input::{MOST_LIST_BYTES, input, list_of};
 use anyhow::{Result, bail};
 use fdd_build::build;
-use field_sift::laws::orders;
 use node_store::{NodeId, Store, stated_order};
 use redundancy::{TightTable, compose_tight};
+use redundancy_laws::laws::orders;
 use std::alloc::Global;
 use std::fs::Files;
-use table_compose::{compose, cost};
+use table_compose::{Plans, Row, compose, cost};
 use ternary_words::Entry;
 
 /// How far a list is compiled.
@@ -19,8 +19,10 @@ use ternary_words::Entry;
 pub enum Step {
     /// To its diagram.
     Diagram,
-    /// To the cheapest prefix lists of the nodes, and what the diagram costs.
+    /// To what the diagram costs.
     Cost,
+    /// To the cheapest prefix lists of its nodes.
+    Lists,
     /// To the entries of its composed table.
     Table,
     /// To those that stay.
@@ -49,6 +51,10 @@ fn finish(rt: &(impl Print + AllocGlobal), step: Step, store: &Store, root: Node
     match step {
         Step::Diagram => println!(rt; "nodes {}", store.count())?,
         Step::Cost => println!(rt; "cost {}", cost(rt.alloc(), store, root)?)?,
+        Step::Lists => {
+            let RowTally { rows, sum } = planned(rt.alloc(), store, root)?;
+            println!(rt; "rows {rows} checksum {sum}")?;
+        }
         Step::Table => {
             let entries = composed(rt.alloc(), store, root)?;
             println!(rt; "entries {}", entries.len())?;
@@ -59,6 +65,48 @@ fn finish(rt: &(impl Print + AllocGlobal), step: Step, store: &Store, root: Node
         }
     }
     Ok(())
+}
+
+/// The rows of prefix lists in numbers, for a comparison with another program.
+#[derive(Clone, Copy, Debug, Default, PartialEq, Eq)]
+struct RowTally {
+    rows: u64,
+    sum: u64,
+}
+
+impl RowTally {
+    /// The numbers with the rows of one more list.
+    fn with(self, list: &[Row]) -> RowTally {
+        let mut sum = self.sum;
+        for row in list {
+            let word = u64::from(row.prefix.value) * 64;
+            sum = sum
+                .wrapping_add(word)
+                .wrapping_add(u64::from(row.prefix.len));
+        }
+        RowTally {
+            rows: self.rows.wrapping_add(list.len() as u64),
+            sum,
+        }
+    }
+}
+
+/// The rows of the cheapest prefix lists of the diagram's nodes.
+fn planned(alloc: Global, store: &Store, root: NodeId) -> Result<RowTally>
+    requires { level_of store.now root.0 ≡ stated }
+{
+    let mut plans = Plans::new(alloc);
+    if plans
+        .learn(alloc, store, &stated_order(), root, MOST_ENTRIES)
+        .is_err()
+    {
+        bail!("no table is composed");
+    }
+    let mut tally = RowTally::default();
+    for list in &plans.lists {
+        tally = tally.with(list.as_slice());
+    }
+    Ok(tally)
 }
 
 /// The entries of the composed table.

@@ -1,6 +1,6 @@
 //! The program `razor_bench`: does the work that its words name and prints what came of it.
 //!
-//! It measures nothing: the scripts under `bench/` time it from outside.
+//! It measures nothing but commits: the scripts under `bench/` time it from outside.
 //!
 //! ```text
 //! razor_bench nodes 1000000
@@ -11,14 +11,19 @@
 //! razor_bench read 20 < LIST
 //! razor_bench diagram 20 < LIST
 //! razor_bench cost 20 < LIST
+//! razor_bench lists 20 < LIST
 //! razor_bench compose 20 < LIST
 //! razor_bench remove 20 < LIST
 //! razor_bench tables 20 < TABLE
+//! razor_bench session 1 1000 < LIST
+//! razor_bench anew 1 100 < LIST
+//! razor_bench both 1 100 < LIST
 //! ```
 #![tactic(auto)]
 
 mod access;
 mod build;
+mod commits;
 mod compile;
 mod crossed;
 mod input;
@@ -44,5 +49,10 @@ fn main(rt: HostRuntime) -> anyhow::Result<()> {
         Work::Read(times) => read::run(&rt, times),
         Work::Tables(times) => tables::run(&rt, times),
         Work::Compile { step, times } => compile::run(&rt, step, times),
+        Work::Commits {
+            way,
+            edits,
+            commits,
+        } => commits::run(&rt, way, edits, commits),
     }
 }

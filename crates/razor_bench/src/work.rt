@@ -1,5 +1,6 @@
 //! What the words ask for.
 
+use crate::commits::Way;
 use crate::compile::Step;
 use crate::lists::RuleList;
 use anyhow::{Context, Result, bail};
@@ -21,10 +22,12 @@ pub enum Work {
     Tables(u32),
     /// Compile the filter list on standard input so far, so often.
     Compile { step: Step, times: u32 },
+    /// Edit the filter list on standard input and commit it, so many edits a commit, so often.
+    Commits { way: Way, edits: u32, commits: u32 },
 }
 
 impl Work {
-    /// The work with the name and the size; how often it is done counts for diagrams alone.
+    /// The work with the name and the size; how often it is done counts for diagrams and commits alone.
     pub fn of(name: &str, size: u32, times: u32) -> Result<Work> {
         match name {
             "nodes" => Ok(Work::Nodes(size)),
@@ -45,8 +48,12 @@ impl Work {
             "tables" => Ok(Work::Tables(size)),
             "diagram" => Ok(Work::compile(Step::Diagram, size)),
             "cost" => Ok(Work::compile(Step::Cost, size)),
+            "lists" => Ok(Work::compile(Step::Lists, size)),
             "compose" => Ok(Work::compile(Step::Table, size)),
             "remove" => Ok(Work::compile(Step::Removal, size)),
+            "session" => Ok(Work::commits(Way::Session, size, times)),
+            "anew" => Ok(Work::commits(Way::Anew, size, times)),
+            "both" => Ok(Work::commits(Way::Both, size, times)),
             _ => bail!("no work is named {name:?}"),
         }
     }
@@ -55,11 +62,19 @@ impl Work {
         Work::Compile { step, times }
     }
 
+    fn commits(way: Way, edits: u32, commits: u32) -> Work {
+        Work::Commits {
+            way,
+            edits,
+            commits,
+        }
+    }
+
     /// The work that the words after the program's name ask for: a name, a size, and how often, or once.
     pub fn of_words(rt: &(impl Env + AllocGlobal)) -> Result<Work> {
         let mut words = env::args(rt)?.skip(1);
         let name = words.next().context(
-            "nodes, minimise, build, unions, crossed, read, tables, diagram, cost, compose or remove, and a size",
+            "nodes, minimise, build, unions, crossed, read, tables, diagram, cost, lists, compose, remove, session, anew or both, and a size",
         )?;
         let size = words.next().context("a size")?;
         let times = match words.next() {

@@ -1,0 +1,197 @@
+//! Commits of an editing session.
+ghost use Rattle.std.specs.Prelude.{◌≡◌, ◌<◌, All, IfOk};
+ghost use Rattle.filter_reader.specs.FilterRules.{IsFilterRule};
+ghost use Rattle.edit_session.specs.Lists.{IsEditable};
+
+use crate::input::{MOST_LIST_BYTES, input, list_of};
+use crate::numbers::Numbers;
+use crate::tables::checksum;
+use anyhow::{Result, anyhow, ensure};
+use edit_session::Editor;
+use field_boxes::{Rule, decision_word};
+use filter_reader::RuleList;
+use rule_compilation::{Compiler, compile};
+use std::alloc::Global;
+use std::fs::Files;
+use std::time::CpuClock;
+use tcam_sim::Bank;
+use ternary_words::Table;
+
+/// What compiles the list at a commit.
+#[derive(Clone, Copy, Debug, PartialEq, Eq)]
+pub enum Way {
+    /// The session, which may keep what it worked out.
+    Session,
+    /// `compile`, each time anew.
+    Anew,
+    /// Both, one after the other: a compiler that keeps what it worked out must give the table of `compile`.
+    Both,
+}
+
+/// As many slots as the memory has.
+const SLOTS: u32 = 65_536;
+
+/// As many entries as a table may have.
+const MOST_ENTRIES: u32 = 262_144;
+
+const SLOT: u16 = 144;
+
+const NAMES: [&str; 2] = ["accept", "deny"];
+
+/// The edits of a list with an open rule at its end. At the first place, in the middle, and at the last place in front of
+/// the open rule, in turn, a rule is taken out and another one put there.
+#[derive(Clone, Copy)]
+struct Edits {
+    numbers: Numbers,
+    turn: u32,
+}
+
+/// Reads the list on standard input, commits it, and so often does so many edits and commits it again. Prints how many
+/// entries each table has, and how long it took to be made; the swap to it is aborted.
+pub fn run(
+    rt: &(impl Files + Input + Print + CpuClock + AllocGlobal),
+    way: Way,
+    edits: u32,
+    commits: u32,
+) -> Result<()> {
+    let bytes = input(rt, MOST_LIST_BYTES)?;
+    let list = list_of(rt.alloc(), &bytes)?;
+    let mut editor = session(rt.alloc(), list, SLOTS)?;
+    commit_often(rt, way, &mut editor, edits, commits)
+}
+
+/// Commits the list, and so often does so many edits and commits it again.
+fn commit_often(
+    rt: &(impl Print + CpuClock + AllocGlobal),
+    way: Way,
+    editor: &mut Editor<Bank>,
+    edits: u32,
+    commits: u32,
+) -> Result<()> {
+    let mut compiler = Compiler::new(rt.alloc());
+    let mut drawn = Edits {
+        numbers: Numbers::new(20),
+        turn: 0,
+    };
+    commit(rt, way, &mut compiler, editor)?;
+    for _commit in 0..commits {
+        edit_often(editor, &mut drawn, edits)?;
+        commit(rt, way, &mut compiler, editor)?;
+    }
+    Ok(())
+}
+
+/// A session over the list and an empty memory of so many slots.
+fn session(alloc: Global, list: RuleList, slots: u32) -> Result<Editor<Bank>> {
+    ensure!(1 <= slots, "no slots");
+    ensure!(slots <= MOST_ENTRIES, "too many slots");
+    let bank = Bank::new(alloc, slots)?;
+    Ok(Editor::new(alloc, list, SLOT, MOST_ENTRIES, bank))
+}
+
+/// Commits the list, and prints how many entries its table has and how long it took to be made.
+fn commit(
+    rt: &(impl Print + CpuClock + AllocGlobal),
+    way: Way,
+    compiler: &mut Compiler,
+    editor: &mut Editor<Bank>,
+) -> Result<()> {
+    let start = rt.thread_cpu_time()?;
+    let entries = match way {
+        Way::Session => editor.commit()?,
+        Way::Anew => table_of(rt.alloc(), editor)?.entries.len() as u64,
+        Way::Both => both(rt.alloc(), compiler, editor)?,
+    };
+    let time = rt.thread_cpu_time()?.saturating_sub(start);
+    let _stage = editor.abort().ok();
+    println!(rt;
+        "rules {} entries {entries} nanoseconds {}",
+        editor.rules().len(),
+        time.as_nanos()
+    )?;
+    Ok(())
+}
+
+/// The table of the list, compiled anew.
+fn table_of(alloc: Global, editor: &Editor<Bank>) -> Result<Table> {
+    compile(alloc, editor.rules(), editor.names(), MOST_ENTRIES, SLOT).map_err(|_refused| anyhow!(
+        "no table is composed"
+    ))
+}
+
+/// The table of the list, over what the compiler kept.
+fn kept_table(compiler: &mut Compiler, editor: &Editor<Bank>) -> Result<Table> {
+    compiler
+        .compile(editor.rules(), editor.names(), MOST_ENTRIES, SLOT)
+        .map_err(|_refused| anyhow!("no table is composed"))
+}
+
+/// How many entries both tables of the list have, which must be the same.
+fn both(alloc: Global, compiler: &mut Compiler, editor: &Editor<Bank>) -> Result<u64> {
+    let anew = table_of(alloc, editor)?;
+    let kept = kept_table(compiler, editor)?;
+    ensure!(anew.composed == kept.composed, "the costs differ");
+    ensure!(
+        checksum(&anew.entries) == checksum(&kept.entries),
+        "the entries differ"
+    );
+    Ok(anew.entries.len() as u64)
+}
+
+/// Does so many edits.
+fn edit_often(editor: &mut Editor<Bank>, drawn: &mut Edits, edits: u32) -> Result<()> {
+    for _edit in 0..edits {
+        edit(editor, drawn)?;
+    }
+    Ok(())
+}
+
+/// Does the next edit.
+fn edit(editor: &mut Editor<Bank>, drawn: &mut Edits) -> Result<()> {
+    let turn = drawn.turn;
+    drawn.turn = turn.wrapping_add(1) % 6;
+    let place = place_of(turn / 2, editor.rules().len() as u32);
+    if turn % 2 == 0 {
+        let _left = editor.take_out(place)?;
+        return Ok(());
+    }
+    add(editor, drawn, place)
+}
+
+/// The first place of a list of so many rules, the one in the middle, or the last one in front of its last rule.
+fn place_of(which: u32, rules: u32) -> u32 {
+    match which {
+        0 => 1,
+        1 => rules / 2,
+        _ => rules.saturating_sub(1),
+    }
+}
+
+/// Puts a rule at the place that has its columns from rules of the list.
+fn add(editor: &mut Editor<Bank>, drawn: &mut Edits, place: u32) -> Result<()> {
+    let rule = rule_of_list(editor.rules(), &mut drawn.numbers)?;
+    let name = NAMES[drawn.numbers.below(2) as usize];
+    ensure!(decision_word(name.as_bytes()), "{name} is no decision");
+    ensure!(editor.names().count() < 1000, "too many names");
+    let _rules = editor.add(place, &rule, name)?;
+    Ok(())
+}
+
+/// A rule with the source of a rule of the list, the destination of another one, and the ports and protocol of a third.
+fn rule_of_list(rules: &[Rule], numbers: &mut Numbers) -> Result<Rule>
+    requires { All IsFilterRule rules.now }
+    ensures { IfOk result IsEditable }
+{
+    let count = u32::try_from(rules.len())?;
+    ensure!(0 < count, "no rules");
+    let source = numbers.below(count) as usize;
+    let destination = numbers.below(count) as usize;
+    let ports = numbers.below(count) as usize;
+    Ok(Rule {
+        source: rules[source].source,
+        destination: rules[destination].destination,
+        ports: rules[ports].ports,
+        protocol: rules[ports].protocol,
+        decision: 0,
+    })
+}
