@@ -1,13 +1,12 @@
 -- A loop that adds what two halves save.
 use Rattle.std.proofs.Common.{◌≡◌, ◌≢◌, ◌∷◌, ◌++◌, ℕ, List, [], ◌+◌, ◌-◌, ◌<◌, ◌≤◌, Bool, true, false, refl, ap, arith, sym, ◌∙◌, inl, inr, eq-eqb, ne_eqb, subst}
 use Rattle.std.specs.Prelude.{◌⊎◌, cond, ◌==◌, nat_lt, slice_index}
-use Rattle.std.proofs.lemmas.Bool.{eqb-true, false≢true, ltb-true, ltb-false}
+use Rattle.std.proofs.lemmas.Bool.{eqb-true, false≢true, ltb-true, ltb-false, cases_eq}
 use Rattle.prefix_min.specs.declared.savings.LabelCost.{LabelCost}
 use Rattle.prefix_min.specs.declared.savings.Gain.{Gain}
 use Rattle.prefix_min.specs.Costs.{IsHead, Lists, RisesFrom, after, cost_in}
-use Rattle.prefix_min.specs.Savings.{AreSums, IsGain, raised, saved}
+use Rattle.prefix_min.specs.Savings.{AreSums, raised, saved}
 use Rattle.prefix_min.proofs.Listed.{Rises, above_all, after-cost, after-lists, after-rises, below_all, cost-push, head-listed, lists_push, push_lists, rises-from, rises_push}
-use Rattle.prefix_min.proofs.Lower.{same_or_not}
 
 -- the greatest gain of the sums
 pub record IsBest (weights : List ℕ) (sums : List LabelCost) (next : ℕ) (g : Gain) : Type 0 where
@@ -60,19 +59,19 @@ head_from next x [] r h = absurd h
 head_from next x (e ∷ es) r h = omega (arith, r.0, h)
 
 -- the next label is one of a half
-pub listed-head : (low high sums from above : List LabelCost) (next x : ℕ) → IsAdding low high sums from above next → IsHead from x ⊎ IsHead above x → Lists low x ⊎ Lists high x
-listed-head low high sums from above next x a head = elim head [ inl h ↦ inl (a.left_low x (head-listed from x h)) | inr h ↦ inr (a.left_high x (head-listed above x h)) ]
+pub listed-head : {low high sums from above : List LabelCost} {next : ℕ} (x : ℕ) → IsAdding low high sums from above next → IsHead from x ⊎ IsHead above x →
+    Lists low x ⊎ Lists high x
+listed-head {from = from} {above = above} x a head =
+    elim head [ inl h ↦ inl (a.left_low x (head-listed from x h)) | inr h ↦ inr (a.left_high x (head-listed above x h)) ]
 
-module _ (low high sums from above : List LabelCost) (next x : ℕ) (e : LabelCost) (a : IsAdding low high sums from above next) (l : e.label ≡ x) (c : e.cost ≡ saved from x + saved above x)
+module _ {low high sums from above : List LabelCost} {next : ℕ} (x : ℕ) (e : LabelCost) (a : IsAdding low high sums from above next) (l : e.label ≡ x)
+    (c : e.cost ≡ saved from x + saved above x)
     (fr : RisesFrom x from) (ar : RisesFrom x above) (head : IsHead from x ⊎ IsHead above x) where
   pub next-from : next ≤ x
   next-from = elim head [ inl h ↦ head_from next x from a.low_rises h | inr h ↦ head_from next x above a.high_rises h ]
 
   none_yet : saved sums x ≡ 0
   none_yet = above_all 0 next x 0 sums a.rise next-from
-
-  pub next-sum : e.cost ≡ saved low x + saved high x
-  next-sum = omega (arith, c, a.saves x, none_yet)
 
   pub pushed : (d : ℕ) → saved (sums ++ e ∷ []) d ≡ saved sums d + cond (x == d) e.cost 0
   pushed d = saved_push (e.label == d) sums e next d a.rise (omega (arith, next-from, l)) refl ∙ ap (λ y. saved sums d + cond (y == d) e.cost 0) l
@@ -87,12 +86,12 @@ module _ (low high sums from above : List LabelCost) (next x : ℕ) (e : LabelCo
     low_rises = after-rises x from fr;
     high_rises = after-rises x above ar;
     saves = λ d. omega (arith, pushed d, here_sum d (x == d), saved_after (x == d) x from d fr refl, saved_after (x == d) x above d ar refl, a.saves d);
-    lists = λ d h. elim (lists_push sums e d h) [ inl k ↦ a.lists d k | inr k ↦ subst (λ y. Lists low y ⊎ Lists high y) (sym l ∙ k) (listed-head low high sums from above next x a head) ];
+    lists = λ d h. elim (lists_push sums e d h) [ inl k ↦ a.lists d k | inr k ↦ subst (λ y. Lists low y ⊎ Lists high y) (sym l ∙ k) (listed-head x a head) ];
     left_low = λ d h. a.left_low d (after-lists x from d h);
     left_high = λ d h. a.left_high d (after-lists x above d h);
   }
 
-  module _ (weights : List ℕ) (g : Gain) (b : IsBest weights sums next g) where
+  module _ {weights : List ℕ} {g : Gain} (b : IsBest weights sums next g) where
     pushed_here : saved (sums ++ e ∷ []) x ≡ e.cost
     pushed_here = pushed x ∙ omega (arith, none_yet, ap (λ t. cond t e.cost 0) (eq-eqb x x refl))
 
@@ -108,7 +107,7 @@ module _ (low high sums from above : List LabelCost) (next x : ℕ) (e : LabelCo
     raised_step true t =
         let more = ltb-true g.gain (e.cost - slice_index weights x) t in
         record {
-          most = λ d. all_most (e.cost - slice_index weights x) (omega (arith, more)) (omega arith) d (same_or_not x d);
+          most = λ d. all_most (e.cost - slice_index weights x) (omega (arith, more)) (omega arith) d (cases_eq x d);
           below = λ some. omega arith;
           listed = λ some. push_lists sums e x (inr l);
           whole = λ some. omega (arith, pushed_here, more);
@@ -117,7 +116,7 @@ module _ (low high sums from above : List LabelCost) (next x : ℕ) (e : LabelCo
     raised_step false t =
         let no = ltb-false g.gain (e.cost - slice_index weights x) t in
         record {
-          most = λ d. all_most g.gain (omega arith) (omega (arith, no)) d (same_or_not x d);
+          most = λ d. all_most g.gain (omega arith) (omega (arith, no)) d (cases_eq x d);
           below = λ some. omega (arith, b.below some, next-from);
           listed = λ some. push_lists sums e g.best (inl (b.listed some));
           whole = λ some. omega (arith, pushed_else g.best (λ s. omega (arith, s, b.below some, next-from)), b.whole some);
@@ -127,31 +126,10 @@ module _ (low high sums from above : List LabelCost) (next x : ℕ) (e : LabelCo
     pub add-step : AreAdded weights low high (sums ++ e ∷ []) (after x from) (after x above) (raised g x e.cost (slice_index weights x))
     add-step = record { next = x + 1; adding = added; best = raised_step (nat_lt g.gain (e.cost - slice_index weights x)) refl }
 
--- nothing is added yet
-pub add-none : (weights : List ℕ) (low high : List LabelCost) (g : Gain) → RisesFrom 0 low → RisesFrom 0 high → g.gain ≡ 0 → AreAdded weights low high [] low high g
-add-none weights low high g lr hr none = record {
-  next = 0;
-  adding = record { rise = omega arith; low_rises = lr; high_rises = hr; saves = λ d. omega arith; lists = λ d h. absurd h; left_low = λ d h. h; left_high = λ d h. h };
-  best = record {
-    most = λ d. omega arith;
-    below = λ some. absurd (omega (arith, some, none));
-    listed = λ some. absurd (omega (arith, some, none));
-    whole = λ some. absurd (omega (arith, some, none));
-    first = λ some. absurd (omega (arith, some, none));
-  };
-}
-
-module _ (weights : List ℕ) (low high sums from above : List LabelCost) (g : Gain) (a : AreAdded weights low high sums from above g) (e : from ≡ []) (f : above ≡ []) where
+module _ {weights : List ℕ} {low high sums from above : List LabelCost} {g : Gain} (a : AreAdded weights low high sums from above g) (e : from ≡ [])
+    (f : above ≡ []) where
   all_saved : (d : ℕ) → saved sums d ≡ saved low d + saved high d
   all_saved d = omega (arith, a.adding.saves d, ap (λ es. saved es d) e, ap (λ es. saved es d) f)
 
   pub all-sums : AreSums low high sums
   all-sums = record { rise = rises-from 0 a.next sums a.adding.rise; saves = all_saved; lists = a.adding.lists }
-
-  pub all-gain : IsGain weights low high g.gain g.best
-  all-gain = record {
-    most = λ d. omega (arith, all_saved d, a.best.most d);
-    listed = λ some. a.adding.lists g.best (a.best.listed some);
-    whole = λ some. omega (arith, all_saved g.best, a.best.whole some);
-    first = λ some d lt. omega (arith, all_saved d, a.best.first some d lt);
-  }

@@ -1,8 +1,8 @@
 -- Parts of the field that lie in one another.
-use Rattle.std.proofs.Common.{◌≡◌, ℕ, zero, suc, ◌+◌, ◌-◌, ◌*◌, ◌/◌, ◌%◌, ◌^◌, ◌<◌, ◌≤◌, arith, ap, sym, ◌∙◌, inl, inr, subst}
+use Rattle.std.proofs.Common.{◌≡◌, ℕ, zero, suc, ◌+◌, ◌-◌, ◌*◌, ◌/◌, ◌%◌, ◌^◌, ◌<◌, ◌≤◌, arith, ap, sym, ◌∙◌, inl, inr}
 use Rattle.std.specs.Prelude.{◌⊎◌}
-use Rattle.std.proofs.Math.Nat.{add-mod_right, mul-mod_right, zero-mod}
-use Rattle.std.proofs.Math.Pow.{mod-mod-pow, pow_mono}
+use Rattle.std.proofs.Math.Nat.{add-mod_right, zero-mod}
+use Rattle.std.proofs.Math.Pow.{mod-mod-pow}
 use Rattle.std.proofs.lemmas.Bool.{cases_lt}
 use Rattle.std.proofs.lemmas.Nat.{div-add-mod', mod-pow-add, mod_below, pow_pos, mul-le}
 use Rattle.std.proofs.Math.Nat.{suc-mul, mul-mod_left}
@@ -62,17 +62,6 @@ about-ends k v w h e = elim (sides k v w h e) [
   | inl same ↦ omega (arith, same, double-one k)
   | inr half ↦ omega (arith, half, double-one k)
 ]
-
--- a part lies about itself
-pub about-self : (low bits most limit : ℕ) (p : Part) → p.low ≡ low → p.bits ≡ bits → bits ≤ most → low % 2 ^ bits ≡ 0 → low + 2 ^ bits ≤ limit → IsAbout low bits most limit p
-about-self low bits most limit p l b le h ends = record {
-  from = omega (arith, l);
-  to = omega (arith, l, ap (λ k. 2 ^ k) b);
-  less = omega (arith, b);
-  short = omega (arith, b, le);
-  aligned = subst (λ v. v % 2 ^ p.bits ≡ 0) (sym l) (subst (λ k. low % 2 ^ k ≡ 0) (sym b) h);
-  ends = omega (arith, l, ap (λ k. 2 ^ k) b, ends);
-}
 
 -- and so does a greater one that holds its low value
 pub about-around : (low bits most limit : ℕ) (p : Part) → p.low ≡ low - low % 2 ^ p.bits → bits ≤ p.bits → p.bits ≤ most → low % 2 ^ bits ≡ 0 → p.low + 2 ^ p.bits ≤ limit → IsAbout low bits most limit p

@@ -1,11 +1,11 @@
 -- Which rows are worth their weight, from the parts of the field up.
 use Rattle.std.proofs.Common.{◌≡◌, ◌≢◌, ◌∷◌, ◌++◌, ℕ, suc, List, [], ◌+◌, ◌-◌, ◌^◌, ◌<◌, ◌≤◌, Bool, true, false, refl, ap, arith, sym, ◌∙◌, inl, inr, subst}
-use Rattle.std.specs.Prelude.{◌&&◌, not, filter, nat_le, unwrap_or, slice_index, if◌then◌else◌}
+use Rattle.std.specs.Prelude.{◌⊎◌, ◌&&◌, not, filter, nat_le, unwrap_or, slice_index, if◌then◌else◌, None}
 use Rattle.std.specs.List.{AllByRecursion}
 use Rattle.std.proofs.Math.Bool.{and-false}
 use Rattle.std.proofs.lemmas.Bool.{le-leb, lt-leb}
 use Rattle.std.proofs.lemmas.List.{append-nil}
-use Rattle.std.proofs.lemmas.List.Elements.{filter-append}
+use Rattle.std.proofs.lemmas.List.Elements.{filter-append, All-filter, All-from_recursion, recursion_from_All}
 use Rattle.std.proofs.lemmas.List.Sums.{sum_by-append}
 use Rattle.std.proofs.lemmas.Nat.{pow_pos}
 use Rattle.field_boxes.specs.Prefix.{prefix_holds}
@@ -19,7 +19,7 @@ use Rattle.prefix_min.specs.Trie.{GivesAll, StandsFor, costs_of}
 use Rattle.prefix_min.proofs.Below.{below}
 use Rattle.prefix_min.proofs.Lower.{decide}
 use Rattle.prefix_min.proofs.Rootless.{constant-bound, halves-bound}
-use Rattle.prefix_min.proofs.Rows.{front-append, front-outside, front_one, held_within, row-holds}
+use Rattle.prefix_min.proofs.Rows.{AreApart, front-append, front-outside, front_head, held_within, row-holds, not_true}
 use Rattle.prefix_min.proofs.Whole.{IsFresh}
 
 own_answers : (f : ℕ → ℕ) (width bits low label : ℕ) (inherited : ℕ → ℕ) (others : List PrefixRow) → IsPart width bits low → AnswerIn f width (row_of width bits low label) inherited others →
@@ -80,17 +80,8 @@ all_kept : (p : PrefixRow → Bool) (Q : PrefixRow → Type 0) (rows : List Pref
 all_kept p Q [] h f = refl
 all_kept p Q (s ∷ rows) h f = kept_step (p s) s (filter p rows) (f s h.0) ∙ ap (λ xs. s ∷ xs) (all_kept p Q rows h.1 f)
 
-all_step : (Q : PrefixRow → Type 0) (t : Bool) (r : PrefixRow) (rows : List PrefixRow) → Q r → AllByRecursion Q rows → AllByRecursion Q (if t then r ∷ rows else rows)
-all_step Q true r rows h g = (h, g)
-all_step Q false r rows h g = g
-
 pub all_filter : (Q : PrefixRow → Type 0) (p : PrefixRow → Bool) (rows : List PrefixRow) → AllByRecursion Q rows → AllByRecursion Q (filter p rows)
-all_filter Q p [] h = tt
-all_filter Q p (r ∷ rows) h = all_step Q (p r) r (filter p rows) h.0 (all_filter Q p rows h.1)
-
-not_true : (b : Bool) → (b ≡ true → ⊥) → b ≡ false
-not_true true h = absurd (h refl)
-not_true false h = refl
+all_filter Q p rows h = recursion_from_All Q (filter p rows) (All-filter p Q rows (All-from_recursion Q rows h))
 
 lies_apart : (width : ℕ) (r s : PrefixRow) → (prefix_holds width r.prefix s.prefix.value ≡ true → ⊥) → lies_in width r s ≡ false
 lies_apart width r s h = ap (λ t. nat_le r.prefix.len s.prefix.len && t) (not_true (prefix_holds width r.prefix s.prefix.value) h) ∙ and-false (nat_le r.prefix.len s.prefix.len)
@@ -98,77 +89,54 @@ lies_apart width r s h = ap (λ t. nat_le r.prefix.len s.prefix.len && t) (not_t
 lies_over : (width : ℕ) (r s : PrefixRow) → s.prefix.len < r.prefix.len → lies_in width r s ≡ false
 lies_over width r s h = ap (λ t. t && prefix_holds width r.prefix s.prefix.value) (lt-leb r.prefix.len s.prefix.len h)
 
--- rows of different halves don't lie in each other
-low_high : (width n low : ℕ) (r s : PrefixRow) → IsInside width n low r → IsInside width n (low + 2 ^ n) s → lies_in width r s ≡ false
-low_high width n low r s i j = lies_apart width r s (λ h. let w = held_within width r s.prefix.value i.fits h in omega (arith, w.1, i.below, j.from))
+-- rows of parts that are apart don't lie in each other
+lies_none : (width n one two : ℕ) (r s : PrefixRow) → AreApart n one two → IsInside width n one r → IsInside width n two s → lies_in width r s ≡ false
+lies_none width n one two r s away i j =
+    let some = pow_pos (width - s.prefix.len) in
+    lies_apart width r s (λ h.
+    let w = held_within width r s.prefix.value i.fits h in
+    elim away [ inl le ↦ omega (arith, w.1, i.below, j.from, le) | inr le ↦ omega (arith, w.0, i.from, j.below, le) ])
 
-high_low : (width n low : ℕ) (r s : PrefixRow) → IsInside width n (low + 2 ^ n) r → IsInside width n low s → lies_in width r s ≡ false
-high_low width n low r s i j =
-    lies_apart width r s (λ h. let w = held_within width r s.prefix.value i.fits h in let some = pow_pos (width - s.prefix.len) in omega (arith, w.0, i.from, j.below))
+held_outside : (width n one two v : ℕ) (r : PrefixRow) → AreApart n one two → IsInside width n one r → prefix_holds width r.prefix v ≡ true →
+    (v < two) ⊎ (two + 2 ^ n ≤ v)
+held_outside width n one two v r away i held =
+    let w = held_within width r v i.fits held in
+    elim away [ inl le ↦ inl (omega (arith, w.1, i.below, le)) | inr le ↦ inr (omega (arith, w.0, i.from, le)) ]
 
-beside_all : (width : ℕ) (r s : PrefixRow) → lies_in width r s ≡ false → not (lies_in width r s) ≡ true
-beside_all width r s e = ap not e
+-- a row stays worth its weight beside the rows of a part that is apart
+module _ (weights : List ℕ) (f : ℕ → ℕ) (width n d one two : ℕ) (xs ys : List PrefixRow) (r : PrefixRow) where
+  abbrev here : PrefixRow → Bool
+  here s = lies_in width r s
 
-pub low-worth : (weights : List ℕ) (f : ℕ → ℕ) (width n low d : ℕ) (xs ys : List PrefixRow) (r : PrefixRow) → AllByRecursion (IsInside width n (low + 2 ^ n)) ys → IsInside width n low r →
-    IsWorthIn weights f width d xs r → IsWorthIn weights f width d (xs ++ ys) r
-low-worth weights f width n low d xs ys r upper inside h = λ weighs.
-    let here : PrefixRow → Bool = λ s. lies_in width r s in
-    let there : PrefixRow → Bool = λ s. not (lies_in width r s) in
-    let none = none_kept here (IsInside width n (low + 2 ^ n)) ys upper (λ s j. low_high width n low r s inside j) in
-    let whole : within width r xs ≡ within width r (xs ++ ys) = sym (filter-append here xs ys ∙ ap (λ zs. within width r xs ++ zs) none ∙ append-nil (within width r xs)) in
-    worth_same weights f width r _ _ _ _ (h weighs) (ap (weight weights) whole) (λ v small held.
-    let w = held_within width r v inside.fits held in
-    let out = front-outside width n (low + 2 ^ n) v (beside width r ys) (all_filter (IsInside width n (low + 2 ^ n)) there ys upper) (inl (omega (arith, w.1, inside.below))) in
-    sym
-    (ap (λ zs. unwrap_or (front width zs v) d) (filter-append there xs ys)
-    ∙ front-append width (beside width r xs) (beside width r ys) v d
-    ∙ ap (λ o. unwrap_or (front width (beside width r xs) v) (unwrap_or o d)) out))
+  abbrev there : PrefixRow → Bool
+  there s = not (lies_in width r s)
 
-pub high-worth : (weights : List ℕ) (f : ℕ → ℕ) (width n low d : ℕ) (xs ys : List PrefixRow) (r : PrefixRow) → AllByRecursion (IsInside width n low) xs → IsInside width n (low + 2 ^ n) r →
-    IsWorthIn weights f width d ys r → IsWorthIn weights f width d (xs ++ ys) r
-high-worth weights f width n low d xs ys r lower inside h = λ weighs.
-    let here : PrefixRow → Bool = λ s. lies_in width r s in
-    let there : PrefixRow → Bool = λ s. not (lies_in width r s) in
-    let none = none_kept here (IsInside width n low) xs lower (λ s j. high_low width n low r s inside j) in
-    let whole : within width r ys ≡ within width r (xs ++ ys) = sym (filter-append here xs ys ∙ ap (λ zs. zs ++ within width r ys) none) in
-    worth_same weights f width r _ _ _ _ (h weighs) (ap (weight weights) whole) (λ v small held.
-    let w = held_within width r v inside.fits held in
-    let out = front-outside width n low v (beside width r xs) (all_filter (IsInside width n low) there xs lower) (inr (omega (arith, w.0, inside.from))) in
-    sym
-    (ap (λ zs. unwrap_or (front width zs v) d) (filter-append there xs ys)
-    ∙ front-append width (beside width r xs) (beside width r ys) v d
-    ∙ ap (λ o. unwrap_or o (unwrap_or (front width (beside width r ys) v) d)) out))
+  pub first-worth : AreApart n one two → AllByRecursion (IsInside width n two) ys → IsInside width n one r → IsWorthIn weights f width d xs r →
+      IsWorthIn weights f width d (xs ++ ys) r
+  first-worth away other inside h = λ weighs.
+      let none = none_kept here (IsInside width n two) ys other (λ s j. lies_none width n one two r s away inside j) in
+      let whole : within width r xs ≡ within width r (xs ++ ys) = sym (filter-append here xs ys ∙ ap (λ zs. within width r xs ++ zs) none ∙ append-nil (within width r xs)) in
+      worth_same weights f width r _ _ _ _ (h weighs) (ap (weight weights) whole) (λ v small held.
+      let out = front-outside width n two v (beside width r ys) (all_filter (IsInside width n two) there ys other)
+      (held_outside width n one two v r away inside held) in
+      sym
+      (ap (λ zs. unwrap_or (front width zs v) d) (filter-append there xs ys)
+      ∙ front-append width (beside width r xs) (beside width r ys) v d
+      ∙ ap (λ o. unwrap_or (front width (beside width r xs) v) (unwrap_or o d)) out))
 
--- the same where the rows of the upper half come first
-pub high-first : (weights : List ℕ) (f : ℕ → ℕ) (width n low d : ℕ) (xs ys : List PrefixRow) (r : PrefixRow) → AllByRecursion (IsInside width n low) xs → IsInside width n (low + 2 ^ n) r →
-    IsWorthIn weights f width d ys r → IsWorthIn weights f width d (ys ++ xs) r
-high-first weights f width n low d xs ys r lower inside h = λ weighs.
-    let here : PrefixRow → Bool = λ s. lies_in width r s in
-    let there : PrefixRow → Bool = λ s. not (lies_in width r s) in
-    let none = none_kept here (IsInside width n low) xs lower (λ s j. high_low width n low r s inside j) in
-    let whole : within width r ys ≡ within width r (ys ++ xs) = sym (filter-append here ys xs ∙ ap (λ zs. within width r ys ++ zs) none ∙ append-nil (within width r ys)) in
-    worth_same weights f width r _ _ _ _ (h weighs) (ap (weight weights) whole) (λ v small held.
-    let w = held_within width r v inside.fits held in
-    let out = front-outside width n low v (beside width r xs) (all_filter (IsInside width n low) there xs lower) (inr (omega (arith, w.0, inside.from))) in
-    sym
-    (ap (λ zs. unwrap_or (front width zs v) d) (filter-append there ys xs)
-    ∙ front-append width (beside width r ys) (beside width r xs) v d
-    ∙ ap (λ o. unwrap_or (front width (beside width r ys) v) (unwrap_or o d)) out))
-
-pub low-second : (weights : List ℕ) (f : ℕ → ℕ) (width n low d : ℕ) (xs ys : List PrefixRow) (r : PrefixRow) → AllByRecursion (IsInside width n (low + 2 ^ n)) ys → IsInside width n low r →
-    IsWorthIn weights f width d xs r → IsWorthIn weights f width d (ys ++ xs) r
-low-second weights f width n low d xs ys r upper inside h = λ weighs.
-    let here : PrefixRow → Bool = λ s. lies_in width r s in
-    let there : PrefixRow → Bool = λ s. not (lies_in width r s) in
-    let none = none_kept here (IsInside width n (low + 2 ^ n)) ys upper (λ s j. low_high width n low r s inside j) in
-    let whole : within width r xs ≡ within width r (ys ++ xs) = sym (filter-append here ys xs ∙ ap (λ zs. zs ++ within width r xs) none) in
-    worth_same weights f width r _ _ _ _ (h weighs) (ap (weight weights) whole) (λ v small held.
-    let w = held_within width r v inside.fits held in
-    let out = front-outside width n (low + 2 ^ n) v (beside width r ys) (all_filter (IsInside width n (low + 2 ^ n)) there ys upper) (inl (omega (arith, w.1, inside.below))) in
-    sym
-    (ap (λ zs. unwrap_or (front width zs v) d) (filter-append there ys xs)
-    ∙ front-append width (beside width r ys) (beside width r xs) v d
-    ∙ ap (λ o. unwrap_or o (unwrap_or (front width (beside width r xs) v) d)) out))
+  pub second-worth : AreApart n one two → AllByRecursion (IsInside width n one) xs → IsInside width n two r → IsWorthIn weights f width d ys r →
+      IsWorthIn weights f width d (xs ++ ys) r
+  second-worth away other inside h = λ weighs.
+      let turned : AreApart n two one = elim away [ inl le ↦ inr le | inr le ↦ inl le ] in
+      let none = none_kept here (IsInside width n one) xs other (λ s j. lies_none width n two one r s turned inside j) in
+      let whole : within width r ys ≡ within width r (xs ++ ys) = sym (filter-append here xs ys ∙ ap (λ zs. zs ++ within width r ys) none) in
+      worth_same weights f width r _ _ _ _ (h weighs) (ap (weight weights) whole) (λ v small held.
+      let out = front-outside width n one v (beside width r xs) (all_filter (IsInside width n one) there xs other)
+      (held_outside width n two one v r turned inside held) in
+      sym
+      (ap (λ zs. unwrap_or (front width zs v) d) (filter-append there xs ys)
+      ∙ front-append width (beside width r xs) (beside width r ys) v d
+      ∙ ap (λ o. unwrap_or o (unwrap_or (front width (beside width r ys) v) d)) out))
 
 -- rows of a part, once the part has a row of its own
 pub under-worth : (weights : List ℕ) (f : ℕ → ℕ) (width bits low label d : ℕ) (rows : List PrefixRow) (r : PrefixRow) → IsPart width bits low → IsInside width bits low r → width < bits + r.prefix.len →
@@ -188,7 +156,7 @@ under-worth weights f width bits low label d rows r p inside longer h = λ weigh
     sym
     (ap (λ zs. unwrap_or (front width zs v) d) (filter-append there rows (own ∷ []) ∙ ap (λ zs. beside width r rows ++ zs) kept)
     ∙ front-append width (beside width r rows) (own ∷ []) v d
-    ∙ ap (unwrap_or (front width (beside width r rows) v)) (front_one (prefix_holds width own.prefix v) own d held_too)))
+    ∙ ap (unwrap_or (front width (beside width r rows) v)) (front_head (prefix_holds width own.prefix v) own None d held_too)))
 
 own_has : (width bits low label : ℕ) (s : PrefixRow) → IsPart width bits low → IsInside width bits low s → lies_in width (row_of width bits low label) s ≡ true
 own_has width bits low label s p inside =

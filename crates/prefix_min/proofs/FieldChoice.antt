@@ -1,7 +1,7 @@
 -- Which list of the field is chosen.
-use Rattle.std.proofs.Common.{◌≡◌, ◌∷◌, ◌++◌, ℕ, List, [], ◌+◌, ◌<◌, ◌≤◌, Bool, true, false, refl, ap, arith, sym, ◌∙◌, get_or}
-use Rattle.std.specs.Prelude.{cond, find, not, Option, Some, option_map, unwrap_or, slice_index, IsPermutation}
-use Rattle.std.specs.List.{All, AllByRecursion}
+use Rattle.std.proofs.Common.{◌≡◌, ◌∷◌, ◌++◌, ℕ, List, [], ◌+◌, ◌<◌, ◌≤◌, refl, ap, arith, sym, ◌∙◌, get_or}
+use Rattle.std.specs.Prelude.{find, not, unwrap_or, slice_index, IsPermutation}
+use Rattle.std.specs.List.{All}
 use Rattle.std.specs.List.Sorted.{IsNonDecreasingBy}
 use Rattle.std.proofs.lemmas.List.Elements.{All-cons, All-from_recursion, All-head, All-nil, All-tail}
 use Rattle.std.proofs.lemmas.List.Filters.{sum_by-filter_both}
@@ -11,28 +11,23 @@ use Rattle.field_boxes.specs.Prefix.{FitsWidth, prefix_holds}
 use Rattle.prefix_min.specs.declared.row.PrefixRow.{PrefixRow}
 use Rattle.prefix_min.specs.Choice.{AnswerIn, IsChosen, IsLonger, IsWorth, IsWorthIn, beside, lies_in, relabelled, within}
 use Rattle.prefix_min.specs.PrefixList.{IsRight, front, weight}
-use Rattle.prefix_min.specs.Rows.{AreFieldRows, IsInside}
+use Rattle.prefix_min.specs.Rows.{AreFieldRows}
+use Rattle.prefix_min.proofs.FieldRows.{field-right}
 use Rattle.prefix_min.proofs.Ordered.{short}
-use Rattle.prefix_min.proofs.Rows.{all_weaker, front-append}
+use Rattle.prefix_min.proofs.Rows.{front-append, front_head}
 use Rattle.prefix_min.proofs.Sifted.{sifted_front, sifted_weight}
 
 all_left : (P : PrefixRow → Type 0) (xs ys : List PrefixRow) → All P (xs ++ ys) → All P xs
 all_left P [] ys h = All-nil P
 all_left P (x ∷ xs) ys h = All-cons P x xs (All-head P x (xs ++ ys) h) (all_left P xs ys (All-tail P x (xs ++ ys) h))
 
-front_head : (t : Bool) (r : PrefixRow) (o : Option PrefixRow) (d : ℕ) → t ≡ true → unwrap_or (option_map (λ x. x.label) (cond t (Some r) o)) d ≡ r.label
-front_head true r o d h = refl
-front_head false r o d h = cc
-
-module _ (weights : List ℕ) (f : ℕ → ℕ) (width cost : ℕ) (rows sorted : List PrefixRow) (are : AreFieldRows weights f width cost rows) (wide : width ≤ 32)
+module _ {weights : List ℕ} {f : ℕ → ℕ} {width cost : ℕ} {rows : List PrefixRow} (sorted : List PrefixRow) (are : AreFieldRows weights f width cost rows)
+    (wide : width ≤ 32)
     (perm : IsPermutation rows sorted) (order : IsNonDecreasingBy short sorted) where
-  fits_rows : AllByRecursion (λ r. FitsWidth width r.prefix) rows
-  fits_rows = all_weaker (IsInside width width 0) (λ r. FitsWidth width r.prefix) rows (λ r i. i.fits) (are.part 0).inside
-
   inherits : (r : PrefixRow) (v : ℕ) → front width (beside width r sorted) v ≡ front width (beside width r rows) v
   inherits r v =
       sifted_front width v (λ s. not (lies_in width r s)) rows sorted (are.part 0).nested perm order
-      (λ k d lt. let fit = All-from_recursion (λ s. FitsWidth width s.prefix) rows fits_rows k d lt in omega (arith, fit.len, wide))
+      (λ k d lt. let fit = (field-right are).fits k d lt in omega (arith, fit.len, wide))
 
   weighs_apart : (r : PrefixRow) → weight weights (within width r rows) + weight weights (beside width r sorted) ≡ weight weights sorted
   weighs_apart r =

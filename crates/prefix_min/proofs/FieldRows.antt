@@ -1,5 +1,5 @@
 -- The rows of the field, put into order.
-use Rattle.std.proofs.Common.{◌≡◌, ◌∷◌, ℕ, zero, suc, List, [], ◌+◌, ◌-◌, ◌<◌, ◌≤◌, refl, ap, arith, sym, ◌∙◌, inl, inr, subst, length, get_or}
+use Rattle.std.proofs.Common.{◌≡◌, ℕ, List, ◌+◌, ◌-◌, ◌<◌, ◌≤◌, refl, ap, arith, sym, ◌∙◌, inl, inr, subst, length, get_or}
 use Rattle.std.specs.Prelude.{slice_index, cond, IsPermutation}
 use Rattle.std.specs.List.{All, AllPairs, AllByRecursion, HoldsAt}
 use Rattle.std.specs.List.Sorted.{IsNonDecreasingBy}
@@ -13,25 +13,30 @@ use Rattle.prefix_min.specs.Order.{ComesBefore, InOrder, TiesRise}
 use Rattle.prefix_min.specs.Rows.{AreFieldRows, IsInside, row_of}
 use Rattle.prefix_min.proofs.Rows.{all_weaker}
 use Rattle.prefix_min.proofs.Ordered.{short, same, parts_same, always, front_kept, one_counted, two_counted, values_rise}
+use Rattle.std.proofs.lemmas.List.{get_or_default}
 
 strictly : (a b : ℕ) → a ≤ b → (a ≡ b → ⊥) → a < b
 strictly a b le ne = elim (cases_lt a b) [ inl lt ↦ lt | inr ge ↦ absurd (ne (omega (arith, le, ge))) ]
 
-same_row : (rows : List PrefixRow) (i : ℕ) (d e : PrefixRow) → i < length rows → get_or rows i d ≡ get_or rows i e
-same_row [] i d e h = absurd (omega (arith, h))
-same_row (r ∷ rows) zero d e h = refl
-same_row (r ∷ rows) (suc i) d e h = same_row rows i d e (omega (arith, h))
-
 none_left : (width : ℕ) → width - width ≡ 0
 none_left width = omega arith
 
-module _ (weights : List ℕ) (f : ℕ → ℕ) (width cost : ℕ) (rows sorted : List PrefixRow) (are : AreFieldRows weights f width cost rows) (wide : width ≤ 32)
-    (perm : IsPermutation rows sorted) (order : IsNonDecreasingBy short sorted) (ties : TiesRise sorted) where
-  fits_rows : AllByRecursion (λ r. FitsWidth width r.prefix) rows
-  fits_rows = all_weaker (IsInside width width 0) (λ r. FitsWidth width r.prefix) rows (λ r i. i.fits) (are.part 0).inside
+-- rows of the field fit it, and give each value its label
+pub fits-rows : {weights : List ℕ} {f : ℕ → ℕ} {width cost : ℕ} {rows : List PrefixRow} → AreFieldRows weights f width cost rows →
+    AllByRecursion (λ r. FitsWidth width r.prefix) rows
+fits-rows {width = width} {rows = rows} are = all_weaker (IsInside width width 0) (λ r. FitsWidth width r.prefix) rows (λ r i. i.fits) (are.part 0).inside
 
+pub field-right : {weights : List ℕ} {f : ℕ → ℕ} {width cost : ℕ} {rows : List PrefixRow} → AreFieldRows weights f width cost rows → IsRight width f rows
+field-right {f = f} {width = width} {rows = rows} are = record {
+  fits = All-from_recursion (λ r. FitsWidth width r.prefix) rows (fits-rows are);
+  answers = λ v below. always (front width rows v) (f v) (λ d. (are.part d).answers v (omega arith) (omega (arith, below)));
+}
+
+module _ {weights : List ℕ} {f : ℕ → ℕ} {width cost : ℕ} {rows : List PrefixRow} (sorted : List PrefixRow) (are : AreFieldRows weights f width cost rows)
+    (wide : width ≤ 32)
+    (perm : IsPermutation rows sorted) (order : IsNonDecreasingBy short sorted) (ties : TiesRise sorted) where
   fits_sorted : All (λ r. FitsWidth width r.prefix) sorted
-  fits_sorted = All-permutation (λ r. FitsWidth width r.prefix) rows sorted perm (All-from_recursion (λ r. FitsWidth width r.prefix) rows fits_rows)
+  fits_sorted = All-permutation (λ r. FitsWidth width r.prefix) rows sorted perm (field-right are).fits
 
   pub labels : All (λ r. r.label < length weights) sorted
   labels = All-permutation (λ r. r.label < length weights) rows sorted perm (All-from_recursion (λ r. r.label < length weights) rows (are.part 0).labels)
@@ -40,8 +45,7 @@ module _ (weights : List ℕ) (f : ℕ → ℕ) (width cost : ℕ) (rows sorted 
   right = record {
     fits = fits_sorted;
     answers = λ v below. front_kept width v (f v) rows sorted (are.part 0).nested perm order
-        (λ k d lt. let fit = All-from_recursion (λ r. FitsWidth width r.prefix) rows fits_rows k d lt in omega (arith, fit.len, wide))
-        (always (front width rows v) (f v) (λ d. (are.part d).answers v (omega arith) (omega (arith, below))));
+        (λ k d lt. let fit = (field-right are).fits k d lt in omega (arith, fit.len, wide)) ((field-right are).answers v below);
   }
 
   pub weighs : weight weights sorted ≡ cost
@@ -52,7 +56,7 @@ module _ (weights : List ℕ) (f : ℕ → ℕ) (width cost : ℕ) (rows sorted 
       let p = get_or sorted k d in
       let twice = two_counted p sorted j k d less lt (parts_same p (get_or sorted j d) (sym e) (sym g)) (parts_same p p refl refl) in
       let kept = sum_by-IsPermutation (λ x. cond (same p x) 1 0) rows sorted perm in
-      omega (arith, twice, kept, one_counted width p rows fits_rows (are.part 0).nested)
+      omega (arith, twice, kept, one_counted width p rows (fits-rows are) (are.part 0).nested)
 
   rising : (j k : ℕ) (d : PrefixRow) → j < k → k < length sorted → (get_or sorted j d).prefix.len ≡ (get_or sorted k d).prefix.len → (get_or sorted j d).prefix.value < (get_or sorted k d).prefix.value
   rising j k d less lt e =
@@ -78,7 +82,7 @@ module _ (weights : List ℕ) (f : ℕ → ℕ) (width cost : ℕ) (rows sorted 
       let own = row_of width width 0 are.label in
       let h = Contains-permutation rows sorted own perm are.whole in
       let down = order h.0 (length sorted - 1) d (omega (arith, h.1)) (omega (arith, h.1)) in
-      let whole : (get_or sorted h.0 d).prefix.len ≡ 0 = ap (λ r. r.prefix.len) (same_row sorted h.0 d own h.1 ∙ h.2) ∙ none_left width in
+      let whole : (get_or sorted h.0 d).prefix.len ≡ 0 = ap (λ r. r.prefix.len) (get_or_default sorted h.0 d own h.1 ∙ h.2) ∙ none_left width in
       omega (arith, down, whole, (fits_sorted (length sorted - 1) d (omega (arith, h.1))).len, wide)
 
   pub in-order : InOrder sorted

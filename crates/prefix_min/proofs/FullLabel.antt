@@ -1,7 +1,7 @@
 -- The least label that saves all that it weighs.
 use Rattle.std.proofs.Common.{◌≡◌, ◌≢◌, ◌∷◌, ℕ, zero, suc, List, [], ◌+◌, ◌<◌, ◌≤◌, refl, ap, arith, sym, ◌∙◌, length, get_or, below_more, subst, inl, inr}
 use Rattle.std.specs.Prelude.{◌⊎◌, Option, Some, None, cond, min, slice_index, unwrap_or}
-use Rattle.std.proofs.lemmas.Bool.{cases_lt}
+use Rattle.std.proofs.lemmas.Bool.{cases_lt, cases_eq}
 use Rattle.std.proofs.lemmas.Bool.{le-leb, lt-leb}
 use Rattle.prefix_min.specs.declared.piece.Piece.{Piece}
 use Rattle.prefix_min.specs.declared.savings.LabelCost.{LabelCost}
@@ -11,7 +11,6 @@ use Rattle.prefix_min.specs.Pieces.{Follow, label_at, reach}
 use Rattle.prefix_min.specs.Costs.{Lists, RisesFrom}
 use Rattle.prefix_min.specs.Savings.{saved}
 use Rattle.prefix_min.proofs.Listed.{cost-at, label_least, listed-at, place_of, unlisted}
-use Rattle.prefix_min.proofs.Lower.{same_or_not}
 use Rattle.prefix_min.proofs.PieceWeights.{starts}
 
 reach_from : (places start : ℕ) (pieces : List Piece) → Follow places start pieces → start ≤ reach start pieces
@@ -32,16 +31,20 @@ label-at-end places start (suc k) d (p ∷ pieces) f h =
     let later : p.hi < v = omega (arith, starts places (p.hi + 1) k d pieces f.2 (omega (arith, h))) in
     ap (λ t. cond t p.label (label_at pieces v)) (lt-leb v p.hi later) ∙ label-at-end places (p.hi + 1) k d pieces f.2 (omega (arith, h))
 
-abbrev pub FirstFull : List ℕ → List LabelCost → Option ℕ → Type 0
-FirstFull weights savings None = (d : ℕ) → Lists savings d → IsFull weights savings d → ⊥
-FirstFull weights savings (Some y) = IsLeastFull weights savings y
-
 decide_listed : (xs : List LabelCost) (d : ℕ) → Lists xs d ⊎ (Lists xs d → ⊥)
 decide_listed [] d = inr (λ h. h)
-decide_listed (x ∷ xs) d = elim (same_or_not x.label d) [
+decide_listed (x ∷ xs) d = elim (cases_eq x.label d) [
   | inl s ↦ inl (inl s)
   | inr n ↦ elim (decide_listed xs d) [ inl k ↦ inl (inr k) | inr k ↦ inr (λ a. elim a [ inl t ↦ n t | inr t ↦ k t ]) ]
 ]
+
+-- the entry of a listed label that saves all that it weighs
+full_entry : (weights : List ℕ) (savings : List LabelCost) (d : LabelCost) (x : ℕ) → RisesFrom 0 savings → Lists savings x → IsFull weights savings x →
+    (k : ℕ) × (k < length savings) × ((get_or savings k d).label ≡ x) × ((get_or savings k d).cost ≡ slice_index weights (get_or savings k d).label)
+full_entry weights savings d x rise l f =
+    let p = place_of savings x l in
+    let same : (get_or savings p.0 d).label ≡ x = p.2 d in
+    (p.0, p.1, same, sym (cost-at 0 p.0 0 d savings rise p.1) ∙ ap (saved savings) same ∙ f ∙ ap (slice_index weights) (sym same))
 
 pub first-found : (weights : List ℕ) (savings : List LabelCost) (i : ℕ) (d : LabelCost) → RisesFrom 0 savings → i < length savings →
     ((k : ℕ) → k < i → (get_or savings k d).cost ≢ slice_index weights (get_or savings k d).label) → (get_or savings i d).cost ≡ slice_index weights (get_or savings i d).label →
@@ -50,20 +53,13 @@ first-found weights savings i d rise inside none full = record {
   listed = listed-at i d savings inside;
   full = cost-at 0 i 0 d savings rise inside ∙ full;
   least = λ x l f.
-      let p = place_of savings x l in
-      let same : (get_or savings p.0 d).label ≡ x = p.2 d in
-      elim (cases_lt p.0 i) [
-        | inl lt ↦ absurd (none p.0 lt (sym (cost-at 0 p.0 0 d savings rise p.1) ∙ ap (saved savings) same ∙ f ∙ ap (slice_index weights) (sym same)))
-        | inr ge ↦ omega (arith, label_least 0 i p.0 d savings rise ge p.1, same)
-      ];
+      let p = full_entry weights savings d x rise l f in
+      elim (cases_lt p.0 i) [ inl lt ↦ absurd (none p.0 lt p.3) | inr ge ↦ omega (arith, label_least 0 i p.0 d savings rise ge p.1, p.2) ];
 }
 
 pub none-found : (weights : List ℕ) (savings : List LabelCost) (d : LabelCost) → RisesFrom 0 savings →
     ((k : ℕ) → k < length savings → (get_or savings k d).cost ≢ slice_index weights (get_or savings k d).label) → (x : ℕ) → Lists savings x → IsFull weights savings x → ⊥
-none-found weights savings d rise none x l f =
-    let p = place_of savings x l in
-    let same : (get_or savings p.0 d).label ≡ x = p.2 d in
-    none p.0 p.1 (sym (cost-at 0 p.0 0 d savings rise p.1) ∙ ap (saved savings) same ∙ f ∙ ap (slice_index weights) (sym same))
+none-found weights savings d rise none x l f = let p = full_entry weights savings d x rise l f in none p.0 p.1 p.3
 
 module _ (weights : List ℕ) (savings : List LabelCost) (pieces : List Piece) (most : (d : ℕ) → saved savings d ≤ slice_index weights d) where
   abbrev label_of : ℕ → ℕ
@@ -115,11 +111,6 @@ module _ (weights : List ℕ) (savings : List LabelCost) (pieces : List Piece) (
   pub full-end : (best : Option ℕ) → SomeFull weights savings pieces → IsLeastSoFar weights savings pieces (length pieces) best → IsFullLabel weights savings pieces (length pieces) (unwrap_or best 0)
   full-end None some h = elim (full_or_none some.0 some.2) [ inl z ↦ absurd (h.1 some.0 some.1 z) | inr l ↦ absurd (h.0 (label_of some.0) l some.2) ]
   full-end (Some b) some h = h
-
-  -- no piece yet
-  pub full-start : (best : Option ℕ) → FirstFull weights savings best → IsLeastSoFar weights savings pieces 0 best
-  full-start None h = (h, λ k lt f. absurd (omega (arith, lt)))
-  full-start (Some b) h = record { full = h.full; from = inl h.listed; least = h.least; least_piece = λ k lt f. absurd (omega (arith, lt)) }
 
 pub first-next : (pieces : List Piece) → IsNext pieces 0 0
 first-next pieces = record { before = λ k d lt. absurd (omega (arith, lt)); here = λ d inside. omega arith }

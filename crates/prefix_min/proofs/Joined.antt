@@ -4,7 +4,7 @@ use Rattle.std.specs.Prelude.{◌⊎◌, ◌==◌, cond, nat_lt, slice_index}
 use Rattle.std.specs.List.{insert}
 use Rattle.std.proofs.Math.Seq.{take-append_seam, take-length, drop-append_seam}
 use Rattle.std.proofs.lemmas.Bool.{cases_eq, cases_lt, eqb-true, false≢true, ltb-true, ltb-false}
-use Rattle.std.proofs.lemmas.List.{drop-take, get_or-drop, get_or_default, length-append, length-drop, length-take-le, set-append_right, take-append-drop, take-take}
+use Rattle.std.proofs.lemmas.List.{drop-take, get_or-drop, get_or_default, length-drop, length-take-le, set-append_right, take-append-drop, take-take}
 use Rattle.std.proofs.lemmas.List.Edits.{insert-append_right}
 use Rattle.prefix_min.specs.declared.savings.Gain.{Gain}
 use Rattle.prefix_min.specs.declared.savings.LabelCost.{LabelCost}
@@ -175,7 +175,11 @@ module _ (x : LabelCost) where
   count_le (e ∷ es) = count_step (nat_lt e.label x.label) es (count_le es)
 
   -- where it is put, in what stands from a place on
-  module _ (es : List LabelCost) (start place : ℕ) (le : start ≤ length es) (is : place ≡ start + count_below x.label (drop start es)) where
+  pub record IsPlaceOf (es : List LabelCost) (start place : ℕ) : Type 0 where
+    pub le : start ≤ length es
+    pub is : place ≡ start + count_below x.label (drop start es)
+
+  module _ {es : List LabelCost} {start place : ℕ} (at : IsPlaceOf es start place) where
     abbrev count : ℕ
     count = count_below x.label (drop start es)
 
@@ -183,39 +187,49 @@ module _ (x : LabelCost) where
     left = length-drop start es
 
     front : length (take start es) ≡ start
-    front = length-take-le start es le
+    front = length-take-le start es at.le
 
     behind : place - start ≡ count
-    behind = omega (arith, is)
+    behind = omega (arith, at.is)
 
     all : es ≡ take start es ++ drop start es
     all = sym (take-append-drop start es)
 
     there : StandsAt es place x.label → StandsAt (drop start es) count x.label
-    there h = (omega (arith, is, left, h.0), ap (λ e. e.label) (get_or-drop start es count no_entry) ∙ ap (λ k. (get_or es k no_entry).label) (sym is) ∙ h.1)
+    there h = (
+      omega (arith, at.is, left, h.0),
+      ap (λ e. e.label) (get_or-drop start es count no_entry) ∙ ap (λ k. (get_or es k no_entry).label) (sym at.is)
+          ∙ h.1,
+    )
 
     back : StandsAt (drop start es) count x.label → StandsAt es place x.label
-    back h = (omega (arith, is, left, h.0), ap (λ k. (get_or es k no_entry).label) is ∙ sym (ap (λ e. e.label) (get_or-drop start es count no_entry)) ∙ h.1)
+    back h = (
+      omega (arith, at.is, left, h.0),
+      ap (λ k. (get_or es k no_entry).label) at.is ∙ sym (ap (λ e. e.label) (get_or-drop start es count no_entry))
+          ∙ h.1,
+    )
 
     pub place-le : place ≤ length es
-    place-le = omega (arith, is, le, left, count_le (drop start es))
+    place-le = omega (arith, at.is, at.le, left, count_le (drop start es))
 
     pub merged-in : (StandsAt es place x.label → ⊥) → insert es place x ≡ take start es ++ merged x (drop start es)
     merged-in none =
-        ap (λ zs. insert zs place x) all ∙ insert-append_right (take start es) (drop start es) start place x front (omega (arith, is)) ∙ ap (λ k. take start es ++ insert (drop start es) k x) behind
+        ap (λ zs. insert zs place x) all ∙ insert-append_right (take start es) (drop start es) start place x front (omega (arith, at.is))
+        ∙ ap (λ k. take start es ++ insert (drop start es) k x) behind
         ∙ ap (λ zs. take start es ++ zs) (put_in (drop start es) (λ h. none (back h)))
 
     pub merged-none : (weight : ℕ) → RisesFrom 0 (drop start es) → x.cost ≤ weight → (StandsAt es place x.label → ⊥) → 0 ≡ saved (drop start es) x.label + x.cost - weight
     merged-none weight r light none = omega (arith, light, saves_none 0 (drop start es) r (λ h. none (back h)))
 
     cost_there : (get_or (drop start es) count no_entry).cost ≡ (get_or es place no_entry).cost
-    cost_there = ap (λ e. e.cost) (get_or-drop start es count no_entry) ∙ ap (λ k. (get_or es k no_entry).cost) (sym is)
+    cost_there = ap (λ e. e.cost) (get_or-drop start es count no_entry) ∙ ap (λ k. (get_or es k no_entry).cost) (sym at.is)
 
     pub merged-to : (cost : ℕ) → StandsAt es place x.label → cost ≡ (get_or es place no_entry).cost + x.cost → set es place (record { label = x.label; cost = cost }) ≡ take start es ++ merged x (drop start es)
     merged-to cost h c =
         let e : LabelCost = record { label = x.label; cost = cost } in
         let sum : cost ≡ (get_or (drop start es) count no_entry).cost + x.cost = omega (arith, c, cost_there) in
-        ap (λ zs. set zs place e) all ∙ set-append_right (take start es) (drop start es) start place e front (omega (arith, is)) ∙ ap (λ k. take start es ++ set (drop start es) k e) behind
+        ap (λ zs. set zs place e) all ∙ set-append_right (take start es) (drop start es) start place e front (omega (arith, at.is))
+        ∙ ap (λ k. take start es ++ set (drop start es) k e) behind
         ∙ ap (λ n. take start es ++ set (drop start es) count (record { label = x.label; cost = n })) sum ∙ ap (λ zs. take start es ++ zs) (added_to (drop start es) (there h))
 
     pub merged-cost : StandsAt es place x.label → saved (drop start es) x.label ≡ (get_or es place no_entry).cost
@@ -225,12 +239,14 @@ rest_all : (start : ℕ) (es : List LabelCost) → take (length es - start) (dro
 rest_all start es = ap (λ k. take k (drop start es)) (sym (length-drop start es)) ∙ take-length (drop start es)
 
 -- the place that was found in what is left of a list
-pub place-is : (label start n : ℕ) (zs es : List LabelCost) → n ≡ count_below label (take (length zs - start) (drop start zs)) → zs ≡ es → start + n ≡ start + count_below label (drop start es)
-place-is label start n zs es h e = ap (λ k. start + k) (h ∙ ap (count_below label) (rest_all start zs) ∙ ap (λ ys. count_below label (drop start ys)) e)
+pub place-of : {es zs : List LabelCost} {start n : ℕ} (x : LabelCost) → start ≤ length es →
+    n ≡ count_below x.label (take (length zs - start) (drop start zs)) → zs ≡ es → IsPlaceOf x es start (start + n)
+place-of {zs = zs} {start = start} x le h e =
+    record { le = le; is = ap (λ k. start + k) (h ∙ ap (count_below x.label) (rest_all start zs) ∙ ap (λ ys. count_below x.label (drop start ys)) e) }
 
 -- an entry that was read
-pub read-at : (es : List LabelCost) (place : ℕ) (e : LabelCost) → place < length es → e ≡ get_or es place e → e.cost ≡ (get_or es place no_entry).cost
-read-at es place e within is = ap (λ r. r.cost) (is ∙ get_or_default es place e no_entry within)
+pub read-at : {e : LabelCost} (es : List LabelCost) (place : ℕ) → place < length es → e ≡ get_or es place e → e.cost ≡ (get_or es place no_entry).cost
+read-at {e = e} es place within is = ap (λ r. r.cost) (is ∙ get_or_default es place e no_entry within)
 
 kept_step : (t : Bool) (e : LabelCost) (es : List LabelCost) → nat_lt 0 e.cost ≡ t → 0 < e.cost → lowered 0 es ≡ es → cond t (less 0 e ∷ lowered 0 es) (lowered 0 es) ≡ e ∷ es
 kept_step true e es t some h = ap (λ n. (record { label = e.label; cost = n }) ∷ lowered 0 es) (let same : e.cost - 0 ≡ e.cost = omega arith in same) ∙ ap (λ zs. e ∷ zs) h
@@ -255,62 +271,55 @@ settled-none start gain es none a =
     sym (take-append-drop start es) ∙ ap (λ zs. take start es ++ zs) (sym (lowered_none (drop start es) a)) ∙ ap (λ k. take start es ++ lowered k (drop start es)) (sym none)
 
 -- one label is put in, and the gain is taken off
-module _ (weights : List ℕ) (old mid new : List LabelCost) (start : ℕ) (x : LabelCost) (le : start ≤ length old) (list : AreKept weights (drop start old)) (one : AreKept weights (x ∷ [])) (put : mid ≡ take start old ++ merged x (drop start old)) where
-  light : x.cost ≤ slice_index weights x.label
-  light = omega (arith, one.most x.label, ap (λ t. cond t x.cost 0) (eq-eqb x.label x.label refl))
-
+module _ {weights : List ℕ} {mid : List LabelCost} {x : LabelCost} (old : List LabelCost) (start : ℕ) (le : start ≤ length old)
+    (list : AreKept weights (drop start old)) (one : AreKept weights (x ∷ [])) (put : mid ≡ take start old ++ merged x (drop start old)) where
   taken : length (take start old) ≡ start
   taken = length-take-le start old le
 
-  pub mid-front : take start mid ≡ take start old
-  mid-front = ap (take start) put ∙ ap (λ k. take k (take start old ++ merged x (drop start old))) (sym taken) ∙ take-append_seam (take start old) (merged x (drop start old))
+  mid_front : take start mid ≡ take start old
+  mid_front = ap (take start) put ∙ ap (λ k. take k (take start old ++ merged x (drop start old))) (sym taken)
+      ∙ take-append_seam (take start old) (merged x (drop start old))
 
-  pub mid-left : drop start mid ≡ merged x (drop start old)
-  mid-left = ap (drop start) put ∙ ap (λ k. drop k (take start old ++ merged x (drop start old))) (sym taken) ∙ drop-append_seam (take start old) (merged x (drop start old))
-
-  pub mid-long : start ≤ length mid
-  mid-long = omega (arith, taken, ap length put, length-append (take start old) (merged x (drop start old)))
+  mid_left : drop start mid ≡ merged x (drop start old)
+  mid_left = ap (drop start) put ∙ ap (λ k. drop k (take start old ++ merged x (drop start old))) (sym taken)
+      ∙ drop-append_seam (take start old) (merged x (drop start old))
 
   pub mid-above : AreAbove (drop start mid)
-  mid-above = subst AreAbove (sym mid-left) (merged-above x (drop start old) one.above.0 list.above)
+  mid-above = subst AreAbove (sym mid_left) (merged-above x (drop start old) one.above.0 list.above)
 
-  pub joined-one : (g : Gain) (al0 al1 : List ℕ) → g.best ≡ x.label → g.gain ≡ saved (drop start old) x.label + x.cost - slice_index weights x.label →
+  pub joined-one : {new : List LabelCost} {al0 al1 : List ℕ} (g : Gain) → g.best ≡ x.label →
+      g.gain ≡ saved (drop start old) x.label + x.cost - slice_index weights x.label →
       new ≡ take start mid ++ lowered g.gain (drop start mid) → al1 ≡ al0 ++ more_labels g (drop start mid) → IsJoined weights (drop start old) (x ∷ []) (take start old) new al0 al1 g
-  joined-one g al0 al1 best gain is labels = record {
+  joined-one {al0 = al0} g best gain is labels = record {
     sums = merged x (drop start old);
     are = merged_sums x (drop start old) list.rise;
-    gain = subst (λ y. IsGain weights (drop start old) (x ∷ []) g.gain y) (sym best) (subst (λ n. IsGain weights (drop start old) (x ∷ []) n x.label) (sym gain) (merged_gain x weights (drop start old) list.most light));
-    savings = is ∙ ap (λ zs. zs ++ lowered g.gain (drop start mid)) mid-front ∙ ap (λ zs. take start old ++ lowered g.gain zs) mid-left;
-    also = labels ∙ ap (λ zs. al0 ++ more_labels g zs) mid-left;
+    gain = subst (λ y. IsGain weights (drop start old) (x ∷ []) g.gain y) (sym best) (subst (λ n. IsGain weights (drop start old) (x ∷ []) n x.label) (sym gain)
+        (merged_gain x weights (drop start old) list.most (omega (arith, one.most x.label, ap (λ t. cond t x.cost 0) (eq-eqb x.label x.label refl)))));
+    savings = is ∙ ap (λ zs. zs ++ lowered g.gain (drop start mid)) mid_front ∙ ap (λ zs. take start old ++ lowered g.gain zs) mid_left;
+    also = labels ∙ ap (λ zs. al0 ++ more_labels g zs) mid_left;
   }
 
 -- what stands before the middle, once the other part is cut off
-module _ (weights : List ℕ) (old cut : List LabelCost) (start middle : ℕ) (le : start ≤ middle) (is : cut ≡ take middle old) where
-  pub cut-left : drop start cut ≡ take (middle - start) (drop start old)
-  cut-left =
+module _ {cut : List LabelCost} (old : List LabelCost) (start middle : ℕ) (le : start ≤ middle) (is : cut ≡ take middle old) where
+  cut_left : drop start cut ≡ take (middle - start) (drop start old)
+  cut_left =
       let all : middle ≡ start + (middle - start) = omega (arith, le) in
       ap (drop start) is ∙ ap (λ k. drop start (take k old)) all ∙ drop-take start (middle - start) old
 
-  cut_front : take start cut ≡ take start old
-  cut_front = ap (take start) is ∙ take-take start middle old le
+  pub cut-kept : {weights : List ℕ} → AreKept weights (take (middle - start) (drop start old)) → AreKept weights (drop start cut)
+  cut-kept {weights = weights} k = subst (AreKept weights) (sym cut_left) k
 
-  pub cut-long : middle ≤ length old → start ≤ length cut
-  cut-long within = omega (arith, le, ap length is, length-take-le middle old within)
-
-  module _ (x : LabelCost) (one : drop middle old ≡ x ∷ []) where
-    pub cut-kept : AreKept weights (take (middle - start) (drop start old)) → AreKept weights (drop start cut)
-    cut-kept k = subst (AreKept weights) (sym cut-left) k
-
-    pub cut-one : AreKept weights (drop middle old) → AreKept weights (x ∷ [])
-    cut-one k = subst (AreKept weights) one k
-
+  module _ {x : LabelCost} (one : drop middle old ≡ x ∷ []) where
     pub cut-room : ((d : ℕ) → saved (take (middle - start) (drop start old)) d + saved (drop middle old) d < 2 ^ 128) → saved (drop start cut) x.label + x.cost < 2 ^ 128
     cut-room h =
         let own : saved (drop middle old) x.label ≡ x.cost = ap (λ ys. saved ys x.label) one ∙ ap (λ t. cond t x.cost 0) (eq-eqb x.label x.label refl) in
-        omega (arith, h x.label, own, ap (λ xs. saved xs x.label) cut-left)
+        omega (arith, h x.label, own, ap (λ xs. saved xs x.label) cut_left)
 
-    pub joined-cut : (new : List LabelCost) (al0 al1 : List ℕ) (g : Gain) → IsJoined weights (drop start cut) (x ∷ []) (take start cut) new al0 al1 g →
+    pub joined-cut : {weights : List ℕ} {new : List LabelCost} {al0 al1 : List ℕ} {g : Gain} →
+        IsJoined weights (drop start cut) (x ∷ []) (take start cut) new al0 al1 g →
         IsJoined weights (take (middle - start) (drop start old)) (drop middle old) (take start old) new al0 al1 g
-    joined-cut new al0 al1 g j =
+    joined-cut {weights = weights} {new = new} {al0 = al0} {al1 = al1} {g = g} j =
+        let front : take start cut ≡ take start old = ap (take start) is ∙ take-take start middle old le in
         subst (λ ys. IsJoined weights (take (middle - start) (drop start old)) ys (take start old) new al0 al1 g) (sym one)
-        (subst (λ xs. IsJoined weights xs (x ∷ []) (take start old) new al0 al1 g) cut-left (subst (λ fs. IsJoined weights (drop start cut) (x ∷ []) fs new al0 al1 g) cut_front j))
+        (subst (λ xs. IsJoined weights xs (x ∷ []) (take start old) new al0 al1 g) cut_left
+        (subst (λ fs. IsJoined weights (drop start cut) (x ∷ []) fs new al0 al1 g) front j))

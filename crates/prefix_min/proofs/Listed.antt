@@ -1,13 +1,10 @@
 -- Costs that are listed by rising label.
 use Rattle.std.proofs.Common.{◌≡◌, ◌≢◌, ◌∷◌, ◌++◌, ℕ, zero, suc, List, [], ◌+◌, ◌<◌, ◌≤◌, Bool, true, false, refl, ap, arith, sym, ◌∙◌, inl, inr, eq-eqb, length, get_or}
 use Rattle.std.specs.Prelude.{◌⊎◌, cond, ◌==◌}
-use Rattle.std.proofs.lemmas.Bool.{false≢true}
+use Rattle.std.proofs.lemmas.Bool.{false≢true, ne_eqb}
 use Rattle.std.proofs.lemmas.Bool.Decides.{eqb_tells}
 use Rattle.prefix_min.specs.declared.savings.LabelCost.{LabelCost}
 use Rattle.prefix_min.specs.Costs.{Lists, RisesFrom, IsHead, cost_in, after}
-
-ne_eqb : (a b : ℕ) → a ≢ b → a == b ≡ false
-ne_eqb a b h = elim (eqb_tells a b) [ inl t ↦ absurd (h t.1) | inr t ↦ t.0 ]
 
 pub rises_later : (low k : ℕ) (es : List LabelCost) → k ≤ low → RisesFrom low es → RisesFrom k es
 rises_later low k [] le h = tt
@@ -96,17 +93,6 @@ after_lists false e es d x h = h
 pub after-lists : (d : ℕ) (es : List LabelCost) (x : ℕ) → Lists (after d es) x → Lists es x
 after-lists d [] x h = h
 after-lists d (e ∷ es) x h = after_lists (e.label == d) e es d x h
-
-lists_after_step : (t : Bool) (e : LabelCost) (es : List LabelCost) (d x : ℕ) → (e.label == d) ≡ t → Lists (e ∷ es) x → Lists (cond t es (e ∷ es)) x ⊎ (d ≡ x)
-lists_after_step false e es d x s h = inl h
-lists_after_step true e es d x s (inr h) = inl h
-lists_after_step true e es d x s (inl h) =
-    let same : e.label ≡ d = elim (eqb_tells e.label d) [ inl q ↦ q.1 | inr q ↦ absurd (false≢true (sym q.0 ∙ s)) ] in
-    inr (sym same ∙ h)
-
-pub lists_after : (d : ℕ) (es : List LabelCost) (x : ℕ) → Lists es x → Lists (after d es) x ⊎ (d ≡ x)
-lists_after d [] x h = absurd h
-lists_after d (e ∷ es) x h = lists_after_step (e.label == d) e es d x refl h
 
 pub head-listed : (es : List LabelCost) (d : ℕ) → IsHead es d → Lists es d
 head-listed [] d h = absurd h

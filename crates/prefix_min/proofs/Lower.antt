@@ -1,13 +1,14 @@
 -- No right list below a prefix weighs less than the least cost of its part of the trie.
-use Rattle.std.proofs.Common.{◌≡◌, ◌∷◌, ℕ, List, [], ◌+◌, ◌^◌, ◌≤◌, Bool, true, false, refl, ap, arith, sym, ◌∙◌, inl, inr, eq-eqb, subst, length}
-use Rattle.std.specs.Prelude.{◌≢◌, ◌⊎◌, cond, Option, Some, None, unwrap_or, suc, zero, ◌==◌, slice_index}
-use Rattle.std.proofs.lemmas.Bool.Decides.{eqb_tells}
+use Rattle.std.proofs.Common.{◌≡◌, ◌∷◌, ℕ, List, [], ◌+◌, ◌^◌, ◌≤◌, Bool, true, false, refl, ap, arith, sym, ◌∙◌, inl, inr, eq-eqb, subst, length, ◌<◌}
+use Rattle.std.specs.Prelude.{◌≢◌, ◌⊎◌, cond, Option, Some, None, unwrap_or, suc, zero, slice_index}
 use Rattle.field_boxes.proofs.Halves.{Row, front, half, IsRootless, front-half, weight-halves}
 use Rattle.prefix_min.specs.Trie.{Node, Constant, Halves}
 use Rattle.prefix_min.specs.Costs.{Costs, Has, IsConstant, least_cost, without_row}
 use Rattle.prefix_min.specs.Trie.{costs_of, StandsFor}
 use Rattle.prefix_min.proofs.Values.{value, value-low, value-high}
 use Rattle.prefix_min.proofs.Root.{weigh, before, root, before-rootless, before-none, front-root, weight-root, weight-before, weight-front}
+use Rattle.std.proofs.lemmas.Bool.{cases_eq, ne_eqb, cases_lt}
+use Rattle.field_boxes.proofs.Powers.{double}
 
 -- the weight of a label
 abbrev pub weight_of : List ℕ → ℕ → ℕ
@@ -24,9 +25,6 @@ right_low n low f d rows rootless h b at = ap (λ o. unwrap_or o d) (sym (front-
 pub right_high : (n low : ℕ) (f : ℕ → ℕ) (d : ℕ) (rows : List (Row ℕ)) → IsRootless rows → IsRightWith (suc n) low f d rows → IsRightWith n (low + 2 ^ n) f d (half true rows)
 right_high n low f d rows rootless h b at = ap (λ o. unwrap_or o d) (sym (front-half true b rows rootless)) ∙ h (true ∷ b) (ap suc at)
 
-pub same_or_not : (e x : ℕ) → (e ≡ x) ⊎ (e ≢ x)
-same_or_not e x = elim (eqb_tells e x) [ inl t ↦ inl t.1 | inr t ↦ inr t.1 ]
-
 decide_step : (x : ℕ) (xs : List ℕ) (d : ℕ) → Has xs d ⊎ (Has xs d → ⊥) → ((x ≡ d) ⊎ (x ≢ d)) → Has (x ∷ xs) d ⊎ (Has (x ∷ xs) d → ⊥)
 decide_step x xs d (inl k) s = inl (inr k)
 decide_step x xs d (inr k) (inl s) = inl (inl s)
@@ -34,19 +32,18 @@ decide_step x xs d (inr k) (inr s) = inr (λ a. elim a [ inl t ↦ s t | inr t �
 
 pub decide : (xs : List ℕ) (d : ℕ) → Has xs d ⊎ (Has xs d → ⊥)
 decide [] d = inr (λ h. h)
-decide (x ∷ xs) d = decide_step x xs d (decide xs d) (same_or_not x d)
+decide (x ∷ xs) d = decide_step x xs d (decide xs d) (cases_eq x d)
 
--- the label of each value of the part is listed
-pub value-listed : (weights : List ℕ) (f : ℕ → ℕ) (n low : ℕ) (part : Node) → StandsFor weights f n low part →
-    (b : List Bool) → length b ≡ n → Has (costs_of part).labels (f (value n low b))
-value-listed weights f n low (Constant c) h b at =
-    subst (λ x. Has c.labels x) (sym (h.1 (value n low b) (value-low n low b) (value-high n low b))) h.0.listed
-value-listed weights f zero low (Halves c lower upper) h b at = absurd h
-value-listed weights f (suc n) low (Halves c lower upper) h [] at = absurd (omega (arith, at))
-value-listed weights f (suc n) low (Halves c lower upper) h (false ∷ b) at =
-    h.0.lists_low (f (value n low b)) (value-listed weights f n low lower h.1 b (omega (arith, at)))
-value-listed weights f (suc n) low (Halves c lower upper) h (true ∷ b) at =
-    h.0.lists_high (f (value n (low + 2 ^ n) b)) (value-listed weights f n (low + 2 ^ n) upper h.2 b (omega (arith, at)))
+-- the label of each value of a part is listed
+pub label-listed : (weights : List ℕ) (f : ℕ → ℕ) (n low : ℕ) (part : Node) → StandsFor weights f n low part → (v : ℕ) → low ≤ v → v < low + 2 ^ n → Has (costs_of part).labels (f v)
+label-listed weights f n low (Constant c) h v from to = rw (h.1 v from to) h.0.listed
+label-listed weights f zero low (Halves c lo hi) h v from to = absurd h
+label-listed weights f (suc n) low (Halves c lo hi) h v from to =
+    let twice = double n in
+    elim (cases_lt v (low + 2 ^ n)) [
+      | inl below ↦ h.0.lists_low (f v) (label-listed weights f n low lo h.1 v from below)
+      | inr above ↦ h.0.lists_high (f v) (label-listed weights f n (low + 2 ^ n) hi h.2 v above (omega arith))
+    ]
 
 -- the bits of the least value of a part
 abbrev zeros : ℕ → List Bool
@@ -57,15 +54,20 @@ length-zeros : (n : ℕ) → length (zeros n) ≡ n
 length-zeros zero = refl
 length-zeros (suc n) = ap suc (length-zeros n)
 
-same_label : (weights : List ℕ) (c : Costs) (d : ℕ) → IsConstant weights c → d ≡ c.label → least_cost c d ≤ 0
-same_label weights c d k e =
-    let same : c.label == d ≡ true = eq-eqb c.label d (sym e) in
-    let free : without_row c d ≡ 0 = k.without d ∙ ap (λ t. cond t 0 (slice_index weights c.label)) same in
+-- what a part of one label costs where a label is inherited
+pub constant-free : {weights : List ℕ} {c : Costs} {d : ℕ} → IsConstant weights c → c.label ≡ d → least_cost c d ≡ 0
+constant-free {weights = weights} {c = c} {d = d} k e =
+    let free : without_row c d ≡ 0 = k.without d ∙ ap (λ t. cond t 0 (slice_index weights c.label)) (eq-eqb c.label d e) in
     omega arith
+
+pub constant-full : {weights : List ℕ} {c : Costs} {d : ℕ} → IsConstant weights c → c.label ≢ d → least_cost c d ≡ slice_index weights c.label
+constant-full {weights = weights} {c = c} {d = d} k e =
+    let full : without_row c d ≡ slice_index weights c.label = k.without d ∙ ap (λ t. cond t 0 (slice_index weights c.label)) (ne_eqb c.label d e) in
+    omega (arith, k.with_row)
 
 constant_step : (weights : List ℕ) (c : Costs) (d : ℕ) (rows : List (Row ℕ)) (b : List Bool) → IsConstant weights c →
     (o : Option ℕ) → front rows b ≡ o → unwrap_or o d ≡ c.label → least_cost c d ≤ weigh (weight_of weights) rows
-constant_step weights c d rows b k None h e = omega (arith, same_label weights c d k e)
+constant_step weights c d rows b k None h e = omega (arith, constant-free k (sym e))
 constant_step weights c d rows b k (Some x) h e =
     let held = subst (λ y. weight_of weights y ≤ weigh (weight_of weights) rows) e (weight-front (weight_of weights) rows b x h) in
     omega (arith, k.with_row, held)
@@ -115,7 +117,7 @@ lower weights f n low (Constant c) h d rows right =
 lower weights f zero low (Halves c lo hi) h d rows right = absurd h
 lower weights f (suc n) low (Halves c lo hi) h d rows right =
     split_step weights f n low c h.0.cheapest
-    (λ b at. value-listed weights f (suc n) low (Halves c lo hi) h b at)
+    (λ b at. label-listed weights f (suc n) low (Halves c lo hi) h (value (suc n) low b) (value-low (suc n) low b) (value-high (suc n) low b))
     (λ rs rootless e r. omega (
       arith,
       h.0.without e,

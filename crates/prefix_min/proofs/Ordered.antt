@@ -13,7 +13,7 @@ use Rattle.prefix_min.specs.declared.row.PrefixRow.{PrefixRow}
 use Rattle.prefix_min.specs.PrefixList.{front}
 use Rattle.prefix_min.specs.Order.{TiesRise}
 use Rattle.prefix_min.specs.Rows.{AreNested, Nests}
-use Rattle.prefix_min.proofs.Rows.{within-held, all_weaker}
+use Rattle.prefix_min.proofs.Rows.{within-held, all_weaker, both}
 use Rattle.std.proofs.lemmas.Nat.{pow_pos}
 
 -- what is left of the greatest length
@@ -111,10 +111,6 @@ front_kept width v x rows sorted nested same order small h =
 -- whether two rows have one prefix
 abbrev pub same : PrefixRow → PrefixRow → Bool
 same r s = (r.prefix.value == s.prefix.value) && (r.prefix.len == s.prefix.len)
-
-both : (a b : Bool) → (a && b) ≡ true → (a ≡ true) × (b ≡ true)
-both true b h = (refl, h)
-both false b h = absurd (false≢true h)
 
 same_parts : (r s : PrefixRow) → same r s ≡ true → (r.prefix.value ≡ s.prefix.value) × (r.prefix.len ≡ s.prefix.len)
 same_parts r s h =

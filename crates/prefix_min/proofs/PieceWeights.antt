@@ -1,7 +1,7 @@
 -- The labels of pieces, and the weights of the values below one.
-use Rattle.std.proofs.Common.{◌≡◌, ◌∷◌, ℕ, zero, suc, List, [], ◌+◌, ◌-◌, ◌*◌, ◌<◌, ◌≤◌, true, false, ap, arith, ◌∙◌, length, get_or, inl, inr, rules, tests}
-use Rattle.std.specs.Prelude.{cond, min, nat_le, slice_index}
-use Rattle.std.proofs.lemmas.Bool.{cases_lt}
+use Rattle.std.proofs.Common.{◌≡◌, ◌∷◌, ℕ, zero, suc, List, [], ◌+◌, ◌-◌, ◌*◌, ◌<◌, ◌≤◌, ap, arith, ◌∙◌, length, get_or, inl, inr}
+use Rattle.std.specs.Prelude.{cond, min, slice_index}
+use Rattle.std.proofs.lemmas.Bool.{cases_lt, le-leb, lt-leb}
 use Rattle.std.proofs.Math.Nat.{mul-le-mul_right}
 use Rattle.prefix_min.specs.declared.piece.Piece.{Piece}
 use Rattle.prefix_min.specs.Pieces.{Follow, reach, label_at, weight_from}
@@ -27,19 +27,13 @@ ends-rise places start k d e [] f h = absurd (omega (arith, h))
 ends-rise places start zero d e (p ∷ pieces) f h = omega (arith, starts places (p.hi + 1) 0 e pieces f.2 (omega (arith, h)))
 ends-rise places start (suc k) d e (p ∷ pieces) f h = ends-rise places (p.hi + 1) k d e pieces f.2 (omega (arith, h))
 
-le_test : (v hi : ℕ) → v ≤ hi → nat_le v hi ≡ true
-le_test v hi h = search (rules, tests)
-
-gt_test : (v hi : ℕ) → hi < v → nat_le v hi ≡ false
-gt_test v hi h = search (rules, tests)
-
 -- the next piece gives the label
 pub label-next : (i v : ℕ) (d : Piece) (pieces : List Piece) → ((k : ℕ) (e : Piece) → k < i → (get_or pieces k e).hi < v) → i < length pieces → v ≤ (get_or pieces i d).hi →
     label_at pieces v ≡ (get_or pieces i d).label
 label-next i v d [] h lt le = absurd (omega (arith, lt))
-label-next zero v d (p ∷ pieces) h lt le = ap (λ t. cond t p.label (label_at pieces v)) (le_test v p.hi le)
+label-next zero v d (p ∷ pieces) h lt le = ap (λ t. cond t p.label (label_at pieces v)) (le-leb v p.hi le)
 label-next (suc i) v d (p ∷ pieces) h lt le =
-    ap (λ t. cond t p.label (label_at pieces v)) (gt_test v p.hi (h 0 p (omega arith)))
+    ap (λ t. cond t p.label (label_at pieces v)) (lt-leb v p.hi (h 0 p (omega arith)))
     ∙ label-next i v d pieces (λ k e l. h (suc k) e (omega (arith, l))) (omega (arith, lt)) le
 
 pub below-rises : (weights : List ℕ) (start u v : ℕ) (pieces : List Piece) → u ≤ v → weight_below weights start pieces u ≤ weight_below weights start pieces v
@@ -61,14 +55,14 @@ later_weighs : (weights : List ℕ) (places start v : ℕ) (p : Piece) (pieces :
     slice_index weights (label_at pieces v) + weight_below weights (p.hi + 1) pieces v ≤ weight_below weights (p.hi + 1) pieces (v + 1) →
     slice_index weights (label_at (p ∷ pieces) v) + weight_below weights start (p ∷ pieces) v ≤ weight_below weights start (p ∷ pieces) (v + 1)
 later_weighs weights places start v p pieces gt ih =
-    let label : label_at (p ∷ pieces) v ≡ label_at pieces v = ap (λ t. cond t p.label (label_at pieces v)) (gt_test v p.hi gt) in
+    let label : label_at (p ∷ pieces) v ≡ label_at pieces v = ap (λ t. cond t p.label (label_at pieces v)) (lt-leb v p.hi gt) in
     let same : min v (p.hi + 1) - start ≡ min (v + 1) (p.hi + 1) - start = omega arith in
     omega (arith, ih, ap (slice_index weights) label, ap (λ n. n * slice_index weights p.label) same)
 
 here_weighs : (weights : List ℕ) (places start v : ℕ) (p : Piece) (pieces : List Piece) → v ≤ p.hi → start ≤ v →
     slice_index weights (label_at (p ∷ pieces) v) + weight_below weights start (p ∷ pieces) v ≤ weight_below weights start (p ∷ pieces) (v + 1)
 here_weighs weights places start v p pieces le from =
-    let label : label_at (p ∷ pieces) v ≡ p.label = ap (λ t. cond t p.label (label_at pieces v)) (le_test v p.hi le) in
+    let label : label_at (p ∷ pieces) v ≡ p.label = ap (λ t. cond t p.label (label_at pieces v)) (le-leb v p.hi le) in
     let now : min v (p.hi + 1) - start ≡ v - start = omega arith in
     let next : min (v + 1) (p.hi + 1) - start ≡ (v - start) + 1 = omega arith in
     omega (

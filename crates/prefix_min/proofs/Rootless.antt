@@ -1,16 +1,15 @@
 -- What a right list without a row at a part itself weighs at least.
-use Rattle.std.proofs.Common.{◌≡◌, ◌≢◌, ◌∷◌, ℕ, zero, suc, List, [], ◌+◌, ◌^◌, ◌<◌, ◌≤◌, Bool, true, false, refl, ap, arith, sym, ◌∙◌, inl, inr}
+use Rattle.std.proofs.Common.{◌≡◌, ◌≢◌, ◌∷◌, ℕ, zero, suc, List, [], ◌+◌, ◌^◌, ◌≤◌, Bool, true, false, refl, ap, arith, sym, ◌∙◌}
 use Rattle.std.specs.Prelude.{cond, find, Option, Some, None, option_map, unwrap_or, slice_index}
-use Rattle.std.proofs.lemmas.Bool.{cases_lt}
 use Rattle.field_boxes.proofs.Powers.{double}
 use Rattle.field_boxes.specs.Bits.{begins}
 use Rattle.field_boxes.proofs.Halves.{Row, IsRootless, front, half, is_root, weight-halves}
-use Rattle.prefix_min.specs.Trie.{Node, Constant, Halves}
-use Rattle.prefix_min.specs.Costs.{Costs, Has, IsConstant, IsSplit, least_cost, without_row}
+use Rattle.prefix_min.specs.Trie.{Node, Constant}
+use Rattle.prefix_min.specs.Costs.{Costs, IsConstant, IsSplit, without_row}
 use Rattle.prefix_min.specs.Trie.{GivesAll, StandsFor, costs_of}
 use Rattle.prefix_min.proofs.Root.{weigh}
-use Rattle.prefix_min.proofs.Lower.{IsRightWith, lower, right_high, right_low, weight_of}
-use Rattle.prefix_min.proofs.Whole.{IsFresh, fresh_helps_least, ne_eqb}
+use Rattle.prefix_min.proofs.Lower.{IsRightWith, lower, right_high, right_low, weight_of, constant-full}
+use Rattle.prefix_min.proofs.Whole.{IsFresh, fresh_helps_least}
 
 pub halves-bound : (weights : List ℕ) (f : ℕ → ℕ) (n low : ℕ) (c : Costs) (lower_half upper_half : Node) → IsSplit weights (costs_of lower_half) (costs_of upper_half) c →
     StandsFor weights f n low lower_half → StandsFor weights f n (low + 2 ^ n) upper_half → (d : ℕ) (rows : List (Row ℕ)) → IsRootless rows → IsRightWith (suc n) low f d rows →
@@ -34,11 +33,6 @@ fresh_without weights f n low c lo hi s h g d e fresh = omega (
   fresh_helps_least weights f n (low + 2 ^ n) hi g e d (λ l. fresh (s.lists_high e l)),
 )
 
-full_cost : (weights : List ℕ) (c : Costs) (d : ℕ) → IsConstant weights c → c.label ≢ d → least_cost c d ≡ slice_index weights c.label
-full_cost weights c d k other =
-    let full : without_row c d ≡ slice_index weights c.label = k.without d ∙ ap (λ t. cond t 0 (slice_index weights c.label)) (ne_eqb c.label d other) in
-    omega (arith, k.with_row)
-
 unheld_step : (t : Bool) (r : Row ℕ) (o : Option (Row ℕ)) → t ≡ false → option_map (λ x. x.payload) o ≡ None → option_map (λ x. x.payload) (cond t (Some r) o) ≡ None
 unheld_step true r o e h = cc
 unheld_step false r o e h = h
@@ -61,19 +55,8 @@ constant-bound weights f (suc n) low c k all d other rows rootless right =
     let twice = double n in
     omega (
       arith,
-      full_cost weights c d k other,
+      constant-full k other,
       weight-halves (weight_of weights) rows,
       lower weights f n low (Constant c) (k, λ v from to. all v from (omega arith)) d (half false rows) (right_low n low f d rows rootless right),
       lower weights f n (low + 2 ^ n) (Constant c) (k, λ v from to. all v (omega arith) (omega arith)) d (half true rows) (right_high n low f d rows rootless right),
     )
-
--- the label of each value of a part is listed
-pub label-listed : (weights : List ℕ) (f : ℕ → ℕ) (n low : ℕ) (part : Node) → StandsFor weights f n low part → (v : ℕ) → low ≤ v → v < low + 2 ^ n → Has (costs_of part).labels (f v)
-label-listed weights f n low (Constant c) h v from to = rw (h.1 v from to) h.0.listed
-label-listed weights f zero low (Halves c lo hi) h v from to = absurd h
-label-listed weights f (suc n) low (Halves c lo hi) h v from to =
-    let twice = double n in
-    elim (cases_lt v (low + 2 ^ n)) [
-      | inl below ↦ h.0.lists_low (f v) (label-listed weights f n low lo h.1 v from below)
-      | inr above ↦ h.0.lists_high (f v) (label-listed weights f n (low + 2 ^ n) hi h.2 v above (omega arith))
-    ]

@@ -1,18 +1,16 @@
 -- Rows of a part and of its halves.
-use Rattle.std.proofs.Common.{◌≡◌, ◌∷◌, ◌++◌, ℕ, suc, List, [], ◌+◌, ◌-◌, ◌%◌, ◌^◌, ◌<◌, ◌≤◌, Bool, true, false, refl, ap, arith, sym, ◌∙◌, inl, inr, subst}
+use Rattle.std.proofs.Common.{◌≡◌, ◌∷◌, ◌++◌, ℕ, List, [], ◌+◌, ◌-◌, ◌%◌, ◌^◌, ◌<◌, ◌≤◌, Bool, true, false, refl, ap, arith, sym, ◌∙◌, inl, inr, subst}
 use Rattle.std.specs.Prelude.{◌⊎◌, ◌&&◌, cond, find, Option, Some, None, option_map, unwrap_or, nat_le}
 use Rattle.std.specs.List.{AllByRecursion}
 use Rattle.std.proofs.lemmas.Bool.{false≢true, leb-true, le-leb}
 use Rattle.std.proofs.lemmas.Nat.{pow_pos}
-use Rattle.std.proofs.lemmas.Bool.{cases_lt}
 use Rattle.field_boxes.specs.Prefix.{FitsWidth, prefix_holds}
 use Rattle.field_boxes.proofs.Prefixes.{interval-prefix}
 use Rattle.prefix_min.specs.declared.row.PrefixRow.{PrefixRow}
 use Rattle.prefix_min.specs.PrefixList.{front}
 use Rattle.prefix_min.specs.Rows.{IsPart, IsInside, Nests, AreNested, row_of}
-use Rattle.field_boxes.proofs.Powers.{double}
 
-both : (a b : Bool) → (a && b) ≡ true → (a ≡ true) × (b ≡ true)
+pub both : (a b : Bool) → (a && b) ≡ true → (a ≡ true) × (b ≡ true)
 both true b h = (refl, h)
 both false b h = absurd (false≢true h)
 
@@ -54,17 +52,33 @@ pub row-holds : (width bits low label v : ℕ) → IsPart width bits low → low
 row-holds width bits low label v p above under =
     within-held width (row_of width bits low label) v (row-inside width bits low label p).fits above (omega (arith, under, ap (λ k. 2 ^ k) (free_bits width bits p.len)))
 
-front_none : (t : Bool) (r : PrefixRow) (rest : Option PrefixRow) → (t ≡ true → ⊥) → option_map (λ x. x.label) rest ≡ None → option_map (λ x. x.label) (cond t (Some r) rest) ≡ None
-front_none true r rest unheld h = absurd (unheld refl)
-front_none false r rest unheld h = h
+pub all_weaker : (P Q : PrefixRow → Type 0) (xs : List PrefixRow) → ((r : PrefixRow) → P r → Q r) → AllByRecursion P xs → AllByRecursion Q xs
+all_weaker P Q [] f g = tt
+all_weaker P Q (x ∷ xs) f g = (f x g.0, all_weaker P Q xs f g.1)
+
+pub not_true : (b : Bool) → (b ≡ true → ⊥) → b ≡ false
+not_true true h = absurd (h refl)
+not_true false h = refl
+
+front_none : (t : Bool) (r : PrefixRow) (rest : Option PrefixRow) → t ≡ false → option_map (λ x. x.label) rest ≡ None →
+    option_map (λ x. x.label) (cond t (Some r) rest) ≡ None
+front_none true r rest e h = cc
+front_none false r rest e h = h
+
+-- rows that don't hold a value don't answer it
+pub front-unheld : (width v : ℕ) (rows : List PrefixRow) → AllByRecursion (λ r. prefix_holds width r.prefix v ≡ false) rows → front width rows v ≡ None
+front-unheld width v [] h = refl
+front-unheld width v (r ∷ rows) h =
+    front_none (prefix_holds width r.prefix v) r (find (λ x. prefix_holds width x.prefix v) rows) h.0 (front-unheld width v rows h.1)
 
 -- rows of a part hold no value outside it
-pub front-outside : (width bits low v : ℕ) (rows : List PrefixRow) → AllByRecursion (IsInside width bits low) rows → (v < low) ⊎ (low + 2 ^ bits ≤ v) → front width rows v ≡ None
-front-outside width bits low v [] inside out = refl
-front-outside width bits low v (r ∷ rows) inside out =
-    front_none (prefix_holds width r.prefix v) r (find (λ x. prefix_holds width x.prefix v) rows)
-    (λ h. let w = held_within width r v inside.0.fits h in elim out [ inl lt ↦ absurd (omega (arith, w.0, inside.0.from, lt)) | inr ge ↦ absurd (omega (arith, w.1, inside.0.below, ge)) ])
-    (front-outside width bits low v rows inside.1 out)
+pub front-outside : (width bits low v : ℕ) (rows : List PrefixRow) → AllByRecursion (IsInside width bits low) rows → (v < low) ⊎ (low + 2 ^ bits ≤ v) →
+    front width rows v ≡ None
+front-outside width bits low v rows inside out =
+    front-unheld width v rows (all_weaker (IsInside width bits low) (λ r. prefix_holds width r.prefix v ≡ false) rows
+    (λ r i. not_true (prefix_holds width r.prefix v) (λ h.
+    let w = held_within width r v i.fits h in
+    elim out [ inl lt ↦ omega (arith, w.0, i.from, lt) | inr ge ↦ omega (arith, w.1, i.below, ge) ])) inside)
 
 append_step : (t : Bool) (r : PrefixRow) (o q : Option PrefixRow) (x d : ℕ) → unwrap_or (option_map (λ y. y.label) o) d ≡ unwrap_or (option_map (λ y. y.label) q) x →
     unwrap_or (option_map (λ y. y.label) (cond t (Some r) o)) d ≡ unwrap_or (option_map (λ y. y.label) (cond t (Some r) q)) x
@@ -82,51 +96,41 @@ pub all_append : (P : PrefixRow → Type 0) (xs ys : List PrefixRow) → AllByRe
 all_append P [] ys g h = h
 all_append P (x ∷ xs) ys g h = (g.0, all_append P xs ys g.1 h)
 
-pub all_weaker : (P Q : PrefixRow → Type 0) (xs : List PrefixRow) → ((r : PrefixRow) → P r → Q r) → AllByRecursion P xs → AllByRecursion Q xs
-all_weaker P Q [] f g = tt
-all_weaker P Q (x ∷ xs) f g = (f x g.0, all_weaker P Q xs f g.1)
-
 pub nested_append : (width : ℕ) (P Q : PrefixRow → Type 0) (xs ys : List PrefixRow) → ((r s : PrefixRow) → P r → Q s → Nests width r s) →
     AllByRecursion P xs → AllByRecursion Q ys → AreNested width xs → AreNested width ys → AreNested width (xs ++ ys)
 nested_append width P Q [] ys f p q g h = h
 nested_append width P Q (x ∷ xs) ys f p q g h =
     (all_append (Nests width x) xs ys g.0 (all_weaker Q (Nests width x) ys (λ s. f x s p.0) q), nested_append width P Q xs ys f p.1 q g.1 h)
 
-pub inside_low : (width n low : ℕ) (r : PrefixRow) → IsInside width n low r → IsInside width (suc n) low r
-inside_low width n low r i = record { fits = i.fits; len = omega (arith, i.len); from = i.from; below = omega (arith, i.below, double n) }
+-- what lies in a part lies in a part about it
+pub inside_wider : {width n bits low at : ℕ} {r : PrefixRow} → IsInside width n at r → n ≤ bits → low ≤ at → at + 2 ^ n ≤ low + 2 ^ bits →
+    IsInside width bits low r
+inside_wider i le from to = record { fits = i.fits; len = omega (arith, i.len, le); from = omega (arith, i.from, from); below = omega (arith, i.below, to) }
 
-pub inside_high : (width n low : ℕ) (r : PrefixRow) → IsInside width n (low + 2 ^ n) r → IsInside width (suc n) low r
-inside_high width n low r i = record { fits = i.fits; len = omega (arith, i.len); from = omega (arith, i.from); below = omega (arith, i.below, double n) }
+-- two parts of n bits that hold no value together
+abbrev pub AreApart : ℕ → ℕ → ℕ → Type 0
+AreApart n one two = (one + 2 ^ n ≤ two) ⊎ (two + 2 ^ n ≤ one)
 
--- rows of different halves hold no value together
-pub apart : (width n low : ℕ) (r s : PrefixRow) → IsInside width n low r → IsInside width n (low + 2 ^ n) s → Nests width r s
-apart width n low r s i j v h k =
+-- nor do their rows
+pub apart : {width n one two : ℕ} → AreApart n one two → (r s : PrefixRow) → IsInside width n one r → IsInside width n two s → Nests width r s
+apart {width = width} away r s i j v h k = absurd (
     let a = held_within width r v i.fits h in
     let b = held_within width s v j.fits k in
-    absurd (omega (arith, a.1, i.below, b.0, j.from))
+    elim away [ inl le ↦ omega (arith, a.1, i.below, b.0, j.from, le) | inr le ↦ omega (arith, a.0, i.from, b.1, j.below, le) ]
+    )
 
-pub halves_answer : (width n low v d : ℕ) (xs ys : List PrefixRow) (x : ℕ) → AllByRecursion (IsInside width n low) xs → AllByRecursion (IsInside width n (low + 2 ^ n)) ys →
-    (v < low + 2 ^ n → unwrap_or (front width xs v) d ≡ x) → (low + 2 ^ n ≤ v → unwrap_or (front width ys v) d ≡ x) →
+-- what the rows of the one and then of the other answer
+pub apart_answer : (width n one two v d x : ℕ) (xs ys : List PrefixRow) → AreApart n one two → AllByRecursion (IsInside width n one) xs →
+    AllByRecursion (IsInside width n two) ys →
+    ((one ≤ v) × (v < one + 2 ^ n) × (unwrap_or (front width xs v) d ≡ x)) ⊎ ((two ≤ v) × (v < two + 2 ^ n) × (unwrap_or (front width ys v) d ≡ x)) →
     unwrap_or (front width (xs ++ ys) v) d ≡ x
-halves_answer width n low v d xs ys x p q f g = elim (cases_lt v (low + 2 ^ n)) [
-  | inl lt ↦ front-append width xs ys v d ∙ ap (λ o. unwrap_or (front width xs v) (unwrap_or o d)) (front-outside width n (low + 2 ^ n) v ys q (inl lt)) ∙ f lt
-  | inr ge ↦ front-append width xs ys v d ∙ ap (λ o. unwrap_or o (unwrap_or (front width ys v) d)) (front-outside width n low v xs p (inr ge)) ∙ g ge
-]
+apart_answer width n one two v d x xs ys away p q (inl h) =
+    let out : (v < two) ⊎ (two + 2 ^ n ≤ v) = elim away [ inl le ↦ inl (omega (arith, h.1, le)) | inr le ↦ inr (omega (arith, h.0, le)) ] in
+    front-append width xs ys v d ∙ ap (λ o. unwrap_or (front width xs v) (unwrap_or o d)) (front-outside width n two v ys q out) ∙ h.2
+apart_answer width n one two v d x xs ys away p q (inr h) =
+    let out : (v < one) ⊎ (one + 2 ^ n ≤ v) = elim away [ inl le ↦ inr (omega (arith, h.0, le)) | inr le ↦ inl (omega (arith, h.1, le)) ] in
+    front-append width xs ys v d ∙ ap (λ o. unwrap_or o (unwrap_or (front width ys v) d)) (front-outside width n one v xs p out) ∙ h.2
 
-pub apart_turned : (width n low : ℕ) (r s : PrefixRow) → IsInside width n (low + 2 ^ n) r → IsInside width n low s → Nests width r s
-apart_turned width n low r s i j v h k =
-    let a = held_within width r v i.fits h in
-    let b = held_within width s v j.fits k in
-    absurd (omega (arith, a.0, i.from, b.1, j.below))
-
-pub turned_answer : (width n low v d : ℕ) (xs ys : List PrefixRow) (x : ℕ) → AllByRecursion (IsInside width n low) xs → AllByRecursion (IsInside width n (low + 2 ^ n)) ys →
-    (v < low + 2 ^ n → unwrap_or (front width xs v) d ≡ x) → (low + 2 ^ n ≤ v → unwrap_or (front width ys v) d ≡ x) →
-    unwrap_or (front width (ys ++ xs) v) d ≡ x
-turned_answer width n low v d xs ys x p q f g = elim (cases_lt v (low + 2 ^ n)) [
-  | inl lt ↦ front-append width ys xs v d ∙ ap (λ o. unwrap_or o (unwrap_or (front width xs v) d)) (front-outside width n (low + 2 ^ n) v ys q (inl lt)) ∙ f lt
-  | inr ge ↦ front-append width ys xs v d ∙ ap (λ o. unwrap_or (front width ys v) (unwrap_or o d)) (front-outside width n low v xs p (inr ge)) ∙ g ge
-]
-
-pub front_one : (t : Bool) (r : PrefixRow) (d : ℕ) → t ≡ true → unwrap_or (option_map (λ x. x.label) (cond t (Some r) None)) d ≡ r.label
-front_one true r d h = refl
-front_one false r d h = absurd (false≢true h)
+pub front_head : (t : Bool) (r : PrefixRow) (o : Option PrefixRow) (d : ℕ) → t ≡ true → unwrap_or (option_map (λ x. x.label) (cond t (Some r) o)) d ≡ r.label
+front_head true r o d h = refl
+front_head false r o d h = absurd (false≢true h)

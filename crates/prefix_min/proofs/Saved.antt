@@ -1,5 +1,5 @@
 -- The savings of a part from those of its halves.
-use Rattle.std.proofs.Common.{◌≡◌, ◌≢◌, ◌∷◌, ℕ, List, [], ◌+◌, ◌-◌, ◌<◌, ◌≤◌, Bool, true, false, refl, ap, arith, sym, ◌∙◌, inl, inr, eq-eqb, ne_eqb, subst}
+use Rattle.std.proofs.Common.{◌≡◌, ◌≢◌, ◌∷◌, ℕ, List, [], ◌+◌, ◌-◌, ◌<◌, ◌≤◌, Bool, true, false, refl, ap, arith, ◌∙◌, inl, inr, eq-eqb, ne_eqb, subst}
 use Rattle.std.specs.Prelude.{◌⊎◌, cond, ◌==◌, nat_lt, slice_index}
 use Rattle.std.proofs.lemmas.Bool.{cases_lt, eqb-true, ltb-false}
 use Rattle.std.proofs.lemmas.Bool.Decides.{eqb_tells}
@@ -42,7 +42,7 @@ saved-lowered gain low [] h d = omega arith
 saved-lowered gain low (e ∷ es) h d = saved_lowered gain low d (nat_lt gain e.cost) (e.label == d) e es h.1 refl refl (saved-lowered gain (e.label + 1) es h.1 d)
 
 -- a part of one label
-module _ (weights : List ℕ) (c : Costs) (k : IsConstant weights c) where
+module _ {weights : List ℕ} {c : Costs} (k : IsConstant weights c) where
   one_saves : (d : ℕ) (t : Bool) → c.label == d ≡ t → cond t (slice_index weights c.label) 0 + least_cost c d ≡ c.row
   one_saves d true e =
       let free : without_row c d ≡ 0 = k.without d ∙ ap (λ t. cond t 0 (slice_index weights c.label)) e in
@@ -69,22 +69,10 @@ module _ (weights : List ℕ) (c : Costs) (k : IsConstant weights c) where
     own = k.listed;
   }
 
-  nothing : (d : ℕ) → slice_index weights c.label ≡ 0 → 0 + least_cost c d ≡ c.row
-  nothing d e = omega (arith, k.with_row)
-
-  -- and nothing, where that is nothing
-  pub none-saves : slice_index weights c.label ≡ 0 → AreSavings weights c []
-  none-saves e = record {
-    saves = λ d. nothing d e;
-    most = λ d. omega arith;
-    full = sym e;
-    lists = λ d h. absurd h;
-    own = k.listed;
-  }
-
 -- a part of two halves
-module _ (weights : List ℕ) (low high c : Costs) (s : IsSplit weights low high c) (xs ys : List LabelCost) (a : AreSavings weights low xs) (b : AreSavings weights high ys)
-    (gain best : ℕ) (g : IsGain weights xs ys gain best) where
+module _ {weights : List ℕ} {low high c : Costs} {xs ys : List LabelCost} {gain best : ℕ} (s : IsSplit weights low high c) (a : AreSavings weights low xs)
+    (b : AreSavings weights high ys)
+    (g : IsGain weights xs ys gain best) where
   -- what the halves save and what they cost
   sum : (d : ℕ) → saved xs d + saved ys d + without_row c d ≡ low.row + high.row
   sum d = omega (arith, a.saves d, b.saves d, s.without d)
@@ -106,17 +94,11 @@ module _ (weights : List ℕ) (low high c : Costs) (s : IsSplit weights low high
   joined-row = omega (arith, at_most, at_least)
 
   -- and saves what they save, less the gain
-  joined_saves : (d : ℕ) → (saved xs d + saved ys d - gain) + least_cost c d ≡ c.row
-  joined_saves d = omega (arith, joined-row, sum d)
-
-  joined_full : saved xs c.label + saved ys c.label - gain ≡ slice_index weights c.label
-  joined_full = omega (arith, joined-row, sum c.label, s.with_row)
-
   pub joined-saves : (zs : List LabelCost) → AreSums xs ys zs → AreSavings weights c (lowered gain zs)
   joined-saves zs l = record {
-    saves = λ d. omega (arith, saved-lowered gain 0 zs l.rise d, l.saves d, joined_saves d);
+    saves = λ d. omega (arith, saved-lowered gain 0 zs l.rise d, l.saves d, joined-row, sum d);
     most = λ d. omega (arith, saved-lowered gain 0 zs l.rise d, l.saves d, g.most d);
-    full = omega (arith, saved-lowered gain 0 zs l.rise c.label, l.saves c.label, joined_full);
+    full = omega (arith, saved-lowered gain 0 zs l.rise c.label, l.saves c.label, joined-row, sum c.label, s.with_row);
     lists = λ d h. elim (l.lists d (lists-lowered gain zs d h)) [ inl k ↦ s.lists_low d (a.lists d k) | inr k ↦ s.lists_high d (b.lists d k) ];
     own = s.listed;
   }
@@ -170,10 +152,11 @@ alone_cases weights y d = elim (eqb_tells y d) [
   | inr t ↦ inr (t.1, ap (λ b. cond b (slice_index weights y) 0) t.0)
 ]
 
-module _ (weights : List ℕ) (y : ℕ) (weighs : 0 < slice_index weights y) (low high part c : Costs) (a : AreSavings weights low (alone weights y)) (b : AreSavings weights high (alone weights y))
+module _ {weights : List ℕ} {y : ℕ} {low high part c : Costs} (weighs : 0 < slice_index weights y) (a : AreSavings weights low (alone weights y))
+    (b : AreSavings weights high (alone weights y))
     (s : IsSplit weights low high c) (p : AreSavings weights part (alone weights y)) (is : low.row + high.row ≡ part.row + slice_index weights y) where
   same_row : c.row ≡ part.row
-  same_row = omega (arith, joined-row weights low high c s (alone weights y) (alone weights y) a b (slice_index weights y) y (alone-gain weights y), is)
+  same_row = omega (arith, joined-row s a b (alone-gain weights y), is)
 
   same_cost : (d : ℕ) → least_cost c d ≡ least_cost part d
   same_cost d = elim (alone_cases weights y d) [
@@ -185,7 +168,7 @@ module _ (weights : List ℕ) (y : ℕ) (weighs : 0 < slice_index weights y) (lo
   unchanged = record {
     row = same_row;
     costs = same_cost;
-    label = own-label weights low high c s (alone weights y) (alone weights y) a b (slice_index weights y) y (alone-gain weights y) weighs;
+    label = own-label s a b (alone-gain weights y) weighs;
     silent = omega (arith, alone_at weights y, a.saves y, b.saves y, s.without y, same_row, is);
     writes = λ d ne. omega (arith, alone_else weights y d ne, a.saves d, b.saves d, s.without d, same_row, is, weighs);
   }

@@ -1,19 +1,20 @@
 -- What the order keeps of the rows that pass a test.
 use Rattle.std.proofs.Common.{◌≡◌, ◌∷◌, ℕ, List, [], ◌+◌, ◌≤◌, Bool, true, false, refl, ap, arith, sym, ◌∙◌, inl, inr, subst}
-use Rattle.std.specs.Prelude.{◌⊎◌, cond, filter, find, Option, Some, None, option_map, sum_by, IsPermutation}
+use Rattle.std.specs.Prelude.{cond, filter, find, Option, Some, None, option_map, sum_by, IsPermutation, not, ◌++◌}
 use Rattle.std.specs.List.{All, AllByRecursion, Contains}
 use Rattle.std.specs.List.Sorted.{IsNonDecreasingBy}
 use Rattle.std.proofs.lemmas.Bool.{false≢true}
 use Rattle.std.proofs.lemmas.Option.{none-some}
 use Rattle.std.proofs.lemmas.List.Kept.{IsNonDecreasingBy-filter}
-use Rattle.std.proofs.lemmas.List.Sorted.{All-permutation, Contains-permutation, sum_by-IsPermutation}
+use Rattle.std.proofs.lemmas.List.Sorted.{Contains-permutation, sum_by-IsPermutation, IsPermutation-filter_both, IsPermutation-sym}
 use Rattle.std.proofs.lemmas.List.Sums.{sum_by-cons}
-use Rattle.std.proofs.lemmas.List.Elements.{All-cons, All-from_recursion, All-head, All-nil, All-tail}
+use Rattle.std.proofs.lemmas.List.Elements.{All-from_recursion, All-contains, All-contains_itself, All-filter, All-weaker, Contains-append_cases, filter_passes, recursion_from_All}
 use Rattle.prefix_min.specs.declared.row.PrefixRow.{PrefixRow}
 use Rattle.prefix_min.specs.PrefixList.{front}
 use Rattle.prefix_min.specs.Rows.{AreNested, Nests}
 use Rattle.prefix_min.proofs.Chosen.{all_filter}
-use Rattle.prefix_min.proofs.Ordered.{IsLongest, found, holds, label_of, later_there, longest_first, short, there_cases}
+use Rattle.prefix_min.proofs.Rows.{front-unheld}
+use Rattle.prefix_min.proofs.Ordered.{IsLongest, found, holds, label_of, longest_first, short}
 
 nested_step : (width : ℕ) (t : Bool) (r : PrefixRow) (rows : List PrefixRow) → AllByRecursion (Nests width r) rows → AreNested width rows → AreNested width (cond t (r ∷ rows) rows)
 nested_step width true r rows h g = (h, g)
@@ -23,52 +24,29 @@ nested_filter : (width : ℕ) (p : PrefixRow → Bool) (rows : List PrefixRow) �
 nested_filter width p [] h = tt
 nested_filter width p (r ∷ rows) h = nested_step width (p r) r (filter p rows) (all_filter (Nests width r) p rows h.0) (nested_filter width p rows h.1)
 
-there_step : (p : PrefixRow → Bool) (t : Bool) (x r : PrefixRow) (rows kept : List PrefixRow) → p x ≡ t → Contains (cond t (x ∷ kept) kept) r → (Contains kept r → Contains rows r × (p r ≡ true)) → Contains (x ∷ rows) r × (p r ≡ true)
-there_step p true x r rows kept e h k = elim (there_cases x r kept h) [
-  | inl same ↦ ((0, omega arith, same), sym (ap p same) ∙ e)
-  | inr later ↦ let g = k later in (later_there x r rows g.0, g.1)
-]
-there_step p false x r rows kept e h k = let g = k h in (later_there x r rows g.0, g.1)
-
 from_filter : (p : PrefixRow → Bool) (rows : List PrefixRow) (r : PrefixRow) → Contains (filter p rows) r → Contains rows r × (p r ≡ true)
-from_filter p [] r h = absurd (omega (arith, h.1))
-from_filter p (x ∷ rows) r h = there_step p (p x) x r rows (filter p rows) refl h (from_filter p rows r)
-
-kept_step : (p : PrefixRow → Bool) (t : Bool) (x r : PrefixRow) (kept : List PrefixRow) → p x ≡ t → p r ≡ true → (x ≡ r) ⊎ Contains kept r → Contains (cond t (x ∷ kept) kept) r
-kept_step p true x r kept e passes (inl same) = (0, omega arith, same)
-kept_step p true x r kept e passes (inr later) = later_there x r kept later
-kept_step p false x r kept e passes (inl same) = absurd (false≢true (sym e ∙ ap p same ∙ passes))
-kept_step p false x r kept e passes (inr later) = later
+from_filter p rows r h = (
+  All-contains (Contains rows) (filter p rows) r (All-filter p (Contains rows) rows (All-contains_itself rows)) h,
+  All-contains (λ x. p x ≡ true) (filter p rows) r (filter_passes p rows) h,
+)
 
 to_filter : (p : PrefixRow → Bool) (rows : List PrefixRow) (r : PrefixRow) → Contains rows r → p r ≡ true → Contains (filter p rows) r
-to_filter p [] r h passes = absurd (omega (arith, h.1))
-to_filter p (x ∷ rows) r h passes =
-    kept_step p (p x) x r (filter p rows) refl passes (elim (there_cases x r rows h) [ inl same ↦ inl same | inr later ↦ inr (to_filter p rows r later passes) ])
-
--- P holds of a row that passes
-abbrev Passing : (PrefixRow → Bool) → (PrefixRow → Type 0) → PrefixRow → Type 0
-Passing p P r = p r ≡ true → P r
-
-all_step : (p : PrefixRow → Bool) (P : PrefixRow → Type 0) (t : Bool) (x : PrefixRow) (rows kept : List PrefixRow) → p x ≡ t → AllByRecursion P (cond t (x ∷ kept) kept) →
-    (AllByRecursion P kept → AllByRecursion (Passing p P) rows) → AllByRecursion (Passing p P) (x ∷ rows)
-all_step p P true x rows kept e h k = (λ passes. h.0, k h.1)
-all_step p P false x rows kept e h k = (λ passes. absurd (false≢true (sym e ∙ passes)), k h)
-
-all_passing : (p : PrefixRow → Bool) (P : PrefixRow → Type 0) (rows : List PrefixRow) → AllByRecursion P (filter p rows) → AllByRecursion (Passing p P) rows
-all_passing p P [] h = tt
-all_passing p P (x ∷ rows) h = all_step p P (p x) x rows (filter p rows) refl h (all_passing p P rows)
-
-sift_step : (p : PrefixRow → Bool) (P : PrefixRow → Type 0) (t : Bool) (x : PrefixRow) (kept : List PrefixRow) → p x ≡ t → Passing p P x → All P kept → All P (cond t (x ∷ kept) kept)
-sift_step p P true x kept e h g = All-cons P x kept (h e) g
-sift_step p P false x kept e h g = g
-
-all_sifted : (p : PrefixRow → Bool) (P : PrefixRow → Type 0) (rows : List PrefixRow) → All (Passing p P) rows → All P (filter p rows)
-all_sifted p P [] h = All-nil P
-all_sifted p P (x ∷ rows) h = sift_step p P (p x) x (filter p rows) refl (All-head (Passing p P) x rows h) (all_sifted p P rows (All-tail (Passing p P) x rows h))
+to_filter p rows r h passes =
+    let q : PrefixRow → Bool = λ x. not (p x) in
+    let there = Contains-permutation rows (filter p rows ++ filter q rows) r (IsPermutation-filter_both p q (λ x. refl) rows) h in
+    elim (Contains-append_cases (filter p rows) (filter q rows) r there) [
+      | inl k ↦ k
+      | inr k ↦ absurd (false≢true (sym (ap not passes) ∙ All-contains (λ x. q x ≡ true) (filter q rows) r (filter_passes q rows) k))
+    ]
 
 -- what holds of the rows that pass holds of them in any order
 all_moved : (p : PrefixRow → Bool) (P : PrefixRow → Type 0) (rows sorted : List PrefixRow) → IsPermutation rows sorted → AllByRecursion P (filter p rows) → All P (filter p sorted)
-all_moved p P rows sorted same h = all_sifted p P sorted (All-permutation (Passing p P) rows sorted same (All-from_recursion (Passing p P) rows (all_passing p P rows h)))
+all_moved p P rows sorted same h =
+    All-weaker (Contains (filter p sorted)) P (λ r there.
+    let k = from_filter p sorted r there in
+    All-contains P (filter p rows) r (All-from_recursion P (filter p rows) h)
+    (to_filter p rows r (Contains-permutation sorted rows r (IsPermutation-sym rows sorted same) k.0) k.1)) (filter p sorted)
+    (All-contains_itself (filter p sorted))
 
 -- no row holds the value
 abbrev Unheld : ℕ → ℕ → PrefixRow → Type 0
@@ -83,14 +61,6 @@ unheld : (width v : ℕ) (rows : List PrefixRow) → front width rows v ≡ None
 unheld width v [] h = tt
 unheld width v (x ∷ rows) h = unheld_step width v (holds width v x) x rows refl h (unheld width v rows)
 
-none_step : (width v : ℕ) (t : Bool) (x : PrefixRow) (o : Option PrefixRow) → t ≡ false → option_map (λ r. r.label) o ≡ None → option_map (λ r. r.label) (cond t (Some x) o) ≡ None
-none_step width v true x o e h = cc
-none_step width v false x o e h = h
-
-none_front : (width v : ℕ) (rows : List PrefixRow) → All (Unheld width v) rows → front width rows v ≡ None
-none_front width v [] h = refl
-none_front width v (x ∷ rows) h = none_step width v (holds width v x) x (find (holds width v) rows) (All-head (Unheld width v) x rows h) (none_front width v rows (All-tail (Unheld width v) x rows h))
-
 module _ (width v : ℕ) (p : PrefixRow → Bool) (rows sorted : List PrefixRow) (nested : AreNested width rows) (same : IsPermutation rows sorted) (order : IsNonDecreasingBy short sorted) (small : All (λ r. r.prefix.len ≤ 32) rows) where
   some_kept : (x : ℕ) → front width (filter p rows) v ≡ Some x → front width (filter p sorted) v ≡ Some x
   some_kept x h =
@@ -104,7 +74,8 @@ module _ (width v : ℕ) (p : PrefixRow → Bool) (rows sorted : List PrefixRow)
       ap (option_map (λ y. y.label)) (longest_first width v r (filter p sorted) f.held (IsNonDecreasingBy-filter short p sorted order) len all moved) ∙ ap Some l.2
 
   by_front : (o : Option ℕ) → front width (filter p rows) v ≡ o → front width (filter p sorted) v ≡ o
-  by_front None h = none_front width v (filter p sorted) (all_moved p (Unheld width v) rows sorted same (unheld width v (filter p rows) h))
+  by_front None h = front-unheld width v (filter p sorted)
+      (recursion_from_All (Unheld width v) (filter p sorted) (all_moved p (Unheld width v) rows sorted same (unheld width v (filter p rows) h)))
   by_front (Some x) h = some_kept x h
 
   -- the order keeps what the first of the rows that pass says

@@ -1,5 +1,5 @@
 -- What a part of two halves costs.
-use Rattle.std.proofs.Common.{◌∷◌, ◌++◌, ℕ, List, [], ◌+◌, ◌<◌, ◌≤◌, refl, ap, arith, inl, inr, length}
+use Rattle.std.proofs.Common.{subst, ◌∷◌, ◌++◌, ℕ, List, [], ◌+◌, ◌<◌, ◌≤◌, refl, ap, arith, inl, inr, length}
 use Rattle.std.specs.Prelude.{◌⊎◌, cond, ◌==◌, slice_index}
 use Rattle.std.proofs.lemmas.Bool.{cases_lt}
 use Rattle.prefix_min.specs.Costs.{Costs, Has, IsConstant, IsSplit, least_cost}
@@ -79,17 +79,16 @@ pub has-high : (xs ys : List ℕ) (d : ℕ) → Has ys d → Has (xs ++ ys) d
 has-high [] ys d h = h
 has-high (x ∷ xs) ys d h = inr (has-high xs ys d h)
 
-pub has-either : (xs ys : List ℕ) (d : ℕ) → Has (xs ++ ys) d → Has xs d ⊎ Has ys d
-has-either [] ys d h = inr h
-has-either (x ∷ xs) ys d (inl h) = inl (inl h)
-has-either (x ∷ xs) ys d (inr h) = elim (has-either xs ys d h) [ inl k ↦ inl (inr k) | inr k ↦ inr k ]
-
 -- what a part of one label costs
 abbrev pub one_label : List ℕ → ℕ → Costs
 one_label weights y = record { labels = y ∷ []; without = λ d. cond (y == d) 0 (slice_index weights y); row = slice_index weights y; label = y }
 
 pub one-constant : (weights : List ℕ) (y : ℕ) → y < length weights → IsConstant weights (one_label weights y)
 one-constant weights y h = record { place = h; listed = inl refl; without = λ d. refl; with_row = refl }
+
+pub one-has : (P : ℕ → Type 0) (y : ℕ) → P y → (d : ℕ) → Has (y ∷ []) d → P d
+one-has P y p d (inl e) = subst P e p
+one-has P y p d (inr none) = absurd none
 
 -- what the halves cost together
 abbrev pub together : Costs → Costs → ℕ → ℕ
@@ -98,18 +97,27 @@ together low high d = least_cost low d + least_cost high d
 abbrev pub with_own : List ℕ → Costs → Costs → ℕ → ℕ
 with_own weights low high d = slice_index weights d + together low high d
 
-abbrev pub both_halves : (weights : List ℕ) (low high : Costs) → IsCheapest (with_own weights low high) (low.labels ++ high.labels) → Costs
-both_halves weights low high c = record { labels = low.labels ++ high.labels; without = together low high; row = with_own weights low high c.best; label = c.best }
+-- two halves, where the label of the lower one's row is listed
+module _ (weights : List ℕ) (low high : Costs) (own : Has low.labels low.label) where
+  abbrev best_of : IsCheapest (with_own weights low high) (low.labels ++ high.labels)
+  best_of = cheapest-some (with_own weights low high) low.label (low.labels ++ high.labels) (has-low low.labels high.labels low.label own)
 
-pub both-split : (weights : List ℕ) (low high : Costs) (c : IsCheapest (with_own weights low high) (low.labels ++ high.labels)) → ((d : ℕ) → Has (low.labels ++ high.labels) d → d < length weights) →
-    IsSplit weights low high (both_halves weights low high c)
-both-split weights low high c places = record {
-  place = places c.best c.has;
-  listed = c.has;
-  lists_low = has-low low.labels high.labels;
-  lists_high = has-high low.labels high.labels;
-  without = λ d. refl;
-  with_row = refl;
-  cheapest = c.least;
-  first = c.first;
-}
+  abbrev pub both_halves : Costs
+  both_halves = record { labels = low.labels ++ high.labels; without = together low high; row = with_own weights low high best_of.best; label = best_of.best }
+
+  pub both-split : ((d : ℕ) → Has (low.labels ++ high.labels) d → d < length weights) → IsSplit weights low high both_halves
+  both-split places = record {
+    place = places best_of.best best_of.has;
+    listed = best_of.has;
+    lists_low = has-low low.labels high.labels;
+    lists_high = has-high low.labels high.labels;
+    without = λ d. refl;
+    with_row = refl;
+    cheapest = best_of.least;
+    first = best_of.first;
+  }
+
+pub both-has : (P : ℕ → Type 0) (xs ys : List ℕ) → ((d : ℕ) → Has xs d → P d) → ((d : ℕ) → Has ys d → P d) → (d : ℕ) → Has (xs ++ ys) d → P d
+both-has P [] ys f g d h = g d h
+both-has P (x ∷ xs) ys f g d (inl h) = f d (inl h)
+both-has P (x ∷ xs) ys f g d (inr h) = both-has P xs ys (λ e k. f e (inr k)) g d h

@@ -1,5 +1,5 @@
 -- The rows of choices, from the last one on.
-use Rattle.std.proofs.Common.{◌≡◌, ◌∷◌, ◌++◌, ℕ, List, [], ◌-◌, ◌<◌, ◌≤◌, true, false, refl, ap, arith, sym, ◌∙◌, subst, length, get_or, take, drop, append_assoc}
+use Rattle.std.proofs.Common.{◌≡◌, ◌∷◌, ◌++◌, ℕ, List, [], ◌-◌, ◌<◌, ◌≤◌, true, false, ap, arith, sym, ◌∙◌, subst, length, get_or, take, drop, append_assoc}
 use Rattle.std.specs.Prelude.{cond, reverse}
 use Rattle.std.proofs.lemmas.List.{append-nil, reverse-append, reverse-reverse}
 use Rattle.prefix_min.specs.declared.plan.Choice.{Choice}
@@ -23,22 +23,18 @@ pub record AtChoice (cs : List Choice) (al : List ℕ) (from until : ℕ) (x : C
   pub laid_below : IsLaid cs al x.below (until - 1) below
   pub laid_rest : IsLaid cs al from x.below rest
 
-at_placed : (cs : List Choice) (al : List ℕ) (from until : ℕ) (x y : Choice) (labels : List ℕ) (rest below : Forest) → y ≡ x → labels_at al x ≡ labels →
-    IsPlaced cs al until x labels → IsLaid cs al x.below (until - 1) below → IsLaid cs al from x.below rest → AtChoice cs al from until y (Grown rest x labels below)
-at_placed cs al from until x y labels rest below e l p h k =
-    subst (λ z. AtChoice cs al from until z (Grown rest x labels below)) (sym e)
+pub at-choice : (cs : List Choice) (al : List ℕ) (from until : ℕ) (f : Forest) → IsLaid cs al from until f → from < until → AtChoice cs al from until (choice_at cs until) f
+at-choice cs al from until Bare h lt = absurd (omega (arith, h, lt))
+at-choice cs al from until (Grown rest x labels below) h lt =
+    subst (λ z. AtChoice cs al from until z (Grown rest x labels below)) (sym h.0.is)
     (record {
       rest = rest;
       below = below;
-      is = ap (λ ls. Grown rest x ls below) (sym l);
-      placed = subst (IsPlaced cs al until x) (sym l) p;
-      laid_below = h;
-      laid_rest = k;
+      is = ap (λ ls. Grown rest x ls below) (sym h.0.labels_are);
+      placed = subst (IsPlaced cs al until x) (sym h.0.labels_are) h.0;
+      laid_below = h.1;
+      laid_rest = h.2;
     })
-
-pub at-choice : (cs : List Choice) (al : List ℕ) (from until : ℕ) (f : Forest) → IsLaid cs al from until f → from < until → AtChoice cs al from until (choice_at cs until) f
-at-choice cs al from until Bare h lt = absurd (omega (arith, h, lt))
-at-choice cs al from until (Grown rest x labels below) h lt = at_placed cs al from until x (choice_at cs until) labels rest below h.0.is h.0.labels_are h.0 h.1 h.2
 
 -- the choices that are left, and their rows behind those that are written
 pub record IsLeft (cs : List Choice) (al : List ℕ) (width d from until : ℕ) (out all : List PrefixRow) : Type 0 where
@@ -51,19 +47,18 @@ pub record IsWalking (cs : List Choice) (al : List ℕ) (width d from to until :
   pub some : (forest : Forest) × IsLaid cs al from until forest
   pub all : (forest : Forest) → IsLaid cs al from to forest → IsLeft cs al width d from until out (old ++ reverse (rows_of width forest d))
 
-pub walk-start : (cs : List Choice) (al : List ℕ) (width d from to : ℕ) (old : List PrefixRow) → (forest : Forest) × IsLaid cs al from to forest → IsWalking cs al width d from to to old old
-walk-start cs al width d from to old h = record { within = omega arith; some = h; all = λ f l. record { left = f; laid = l; rows = refl } }
-
 none_left : (cs : List Choice) (al : List ℕ) (width d from until : ℕ) (out all : List PrefixRow) (f : Forest) → IsLaid cs al from until f → until ≤ from → out ++ reverse (rows_of width f d) ≡ all → out ≡ all
 none_left cs al width d from until out all Bare h le e = sym (append-nil out) ∙ e
 none_left cs al width d from until out all (Grown rest x labels below) h le e =
     absurd (omega (arith, laid-le cs al from x.below rest h.2, laid-le cs al x.below (until - 1) below h.1, h.0.some, le))
 
-pub walk-end : (cs : List Choice) (al : List ℕ) (width d from to until : ℕ) (old out : List PrefixRow) → IsWalking cs al width d from to until old out → until ≤ from →
+pub walk-end : {cs : List Choice} {al : List ℕ} {width d from to until : ℕ} {old out : List PrefixRow} → IsWalking cs al width d from to until old out →
+    until ≤ from →
     (forest : Forest) → IsLaid cs al from to forest → out ≡ old ++ reverse (rows_of width forest d)
-walk-end cs al width d from to until old out w le f l = let i = w.all f l in none_left cs al width d from until out (old ++ reverse (rows_of width f d)) i.left i.laid le i.rows
+walk-end w le f l = let i = w.all f l in none_left _ _ _ _ _ _ _ _ i.left i.laid le i.rows
 
-module _ (cs : List Choice) (al : List ℕ) (width d from to until : ℕ) (old out : List PrefixRow) (w : IsWalking cs al width d from to until old out) (more : from < until) where
+module _ {cs : List Choice} {al : List ℕ} {width d from to until : ℕ} {old out : List PrefixRow} (w : IsWalking cs al width d from to until old out)
+    (more : from < until) where
   abbrev x : Choice
   x = choice_at cs until
 
@@ -96,7 +91,7 @@ module _ (cs : List Choice) (al : List ℕ) (width d from to until : ℕ) (old o
     all = λ f l. quiet_left e (old ++ reverse (rows_of width f d)) (w.all f l);
   }
 
-  module _ (mid new : List PrefixRow) (pushed : mid ≡ out ++ row_of width x.bits x.value x.label ∷ [])
+  module _ {mid new : List PrefixRow} (pushed : mid ≡ out ++ row_of width x.bits x.value x.label ∷ [])
       (written : (forest : Forest) → IsLaid cs al x.below (until - 1) forest → new ≡ mid ++ reverse (rows_of width forest x.label)) where
     loud_left : silent x (labels_at al x) d ≡ false → (all : List PrefixRow) → IsLeft cs al width d from until out all → IsLeft cs al width d from x.below new all
     loud_left e all i =
@@ -123,18 +118,18 @@ module _ (cs : List Choice) (al : List ℕ) (width d from to until : ℕ) (old o
     }
 
 -- the rows of the field, put right way round
-module _ (width label to : ℕ) (cs shown : List Choice) (al shown_also : List ℕ) (forest : Forest) (laid : IsLaid cs al 0 (length cs) forest) (is : shown ≡ cs) (is_also : shown_also ≡ al) (all : to ≡ length cs) where
-  pub shown-laid : IsLaid shown shown_also 0 to forest
-  shown-laid =
-      subst (λ xs. IsLaid xs shown_also 0 to forest) (sym is) (subst (λ xs. IsLaid cs xs 0 to forest) (sym is_also) (subst (λ k. IsLaid cs al 0 k forest) (sym all) laid))
-
-  pub all-rows : (start pushed written turned : List PrefixRow) → start ≡ [] → pushed ≡ start ++ record { prefix = record { value = 0; len = 0 }; label = label } ∷ [] →
-      ((f : Forest) → IsLaid shown shown_also 0 to f → written ≡ pushed ++ reverse (rows_of width f label)) → turned ≡ reverse written → turned ≡ rows_of width forest label ++ row_of width width 0 label ∷ []
-  all-rows start pushed written turned bare put write turn =
-      let own = row_of width width 0 label in
-      let rs = rows_of width forest label in
-      let row : ℕ → PrefixRow = λ n. record { prefix = record { value = 0; len = n }; label = label } in
-      let none : 0 ≡ width - width = omega arith in
-      let first : pushed ≡ own ∷ [] = put ∙ ap (λ xs. xs ++ row 0 ∷ []) bare ∙ ap (λ n. row n ∷ []) none in
-      let there : written ≡ (own ∷ []) ++ reverse rs = write forest shown-laid ∙ ap (λ xs. xs ++ reverse rs) first in
-      turn ∙ ap reverse there ∙ reverse-append (own ∷ []) (reverse rs) ∙ ap (λ xs. xs ++ own ∷ []) (reverse-reverse rs)
+pub all-rows : {to : ℕ} {cs shown : List Choice} {al shown_also : List ℕ} {start pushed written turned : List PrefixRow} (width label : ℕ) (forest : Forest) →
+    IsLaid cs al 0 (length cs) forest →
+    shown ≡ cs → shown_also ≡ al → to ≡ length cs → start ≡ [] → pushed ≡ start ++ record { prefix = record { value = 0; len = 0 }; label = label } ∷ [] →
+    ((f : Forest) → IsLaid shown shown_also 0 to f → written ≡ pushed ++ reverse (rows_of width f label)) → turned ≡ reverse written → turned ≡ rows_of width forest label ++ row_of width width 0 label ∷ []
+all-rows {to = to} {cs = cs} {al = al} {shown_also = shown_also} {pushed = pushed} {written = written} width label forest laid is is_also all bare put write
+    turn =
+    let shown_laid = subst (λ xs. IsLaid xs shown_also 0 to forest) (sym is)
+    (subst (λ xs. IsLaid cs xs 0 to forest) (sym is_also) (subst (λ k. IsLaid cs al 0 k forest) (sym all) laid)) in
+    let own = row_of width width 0 label in
+    let rs = rows_of width forest label in
+    let row : ℕ → PrefixRow = λ n. record { prefix = record { value = 0; len = n }; label = label } in
+    let none : 0 ≡ width - width = omega arith in
+    let first : pushed ≡ own ∷ [] = put ∙ ap (λ xs. xs ++ row 0 ∷ []) bare ∙ ap (λ n. row n ∷ []) none in
+    let there : written ≡ (own ∷ []) ++ reverse rs = write forest shown_laid ∙ ap (λ xs. xs ++ reverse rs) first in
+    turn ∙ ap reverse there ∙ reverse-append (own ∷ []) (reverse rs) ∙ ap (λ xs. xs ++ own ∷ []) (reverse-reverse rs)

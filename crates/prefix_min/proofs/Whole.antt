@@ -1,8 +1,7 @@
 -- The whole field: no right list weighs less than the cheapest one with a row at the field itself.
-use Rattle.std.proofs.Common.{◌≡◌, ◌≢◌, ◌∷◌, ℕ, List, [], ◌+◌, ◌-◌, ◌^◌, ◌<◌, ◌≤◌, Bool, true, false, refl, ap, arith, sym, ◌∙◌, inl, inr, eq-eqb, subst, take}
-use Rattle.std.specs.Prelude.{cond, Option, Some, find, option_map, unwrap_or, suc, zero, ◌==◌, slice_index, map}
+use Rattle.std.proofs.Common.{◌≡◌, ◌∷◌, ℕ, List, [], ◌+◌, ◌-◌, ◌^◌, ◌<◌, ◌≤◌, Bool, true, false, refl, ap, arith, sym, ◌∙◌, subst, take}
+use Rattle.std.specs.Prelude.{cond, Option, Some, find, option_map, unwrap_or, suc, zero, slice_index, map}
 use Rattle.std.specs.List.{All}
-use Rattle.std.proofs.lemmas.Bool.Decides.{eqb_tells}
 use Rattle.std.proofs.lemmas.List.Sums.{sum_by-cons}
 use Rattle.std.proofs.lemmas.List.Elements.{All-head, All-tail}
 use Rattle.field_boxes.specs.Prefix.{FitsWidth, prefix_holds, prefix_bits}
@@ -16,20 +15,14 @@ use Rattle.prefix_min.specs.Costs.{Costs, Has, IsConstant, IsSplit, least_cost, 
 use Rattle.prefix_min.specs.Trie.{costs_of, StandsFor}
 use Rattle.prefix_min.proofs.Values.{value, value-high, bits-value}
 use Rattle.prefix_min.proofs.Root.{weigh}
-use Rattle.prefix_min.proofs.Lower.{IsRightWith, lower, weight_of}
+use Rattle.prefix_min.proofs.Lower.{IsRightWith, lower, weight_of, constant-free, constant-full}
 
 -- a label that isn't listed
 abbrev pub IsFresh : Costs → ℕ → Type 0
 IsFresh c d = Has c.labels d → ⊥
 
-pub ne_eqb : (a b : ℕ) → a ≢ b → a == b ≡ false
-ne_eqb a b h = elim (eqb_tells a b) [ inl t ↦ absurd (h t.1) | inr t ↦ t.0 ]
-
 constant_fresh : (weights : List ℕ) (c : Costs) (d : ℕ) → IsConstant weights c → IsFresh c d → least_cost c d ≡ slice_index weights c.label
-constant_fresh weights c d k fresh =
-    let other : c.label == d ≡ false = ne_eqb c.label d (λ e. fresh (subst (λ x. Has c.labels x) e k.listed)) in
-    let full : without_row c d ≡ slice_index weights c.label = k.without d ∙ ap (λ t. cond t 0 (slice_index weights c.label)) other in
-    omega (arith, k.with_row)
+constant_fresh weights c d k fresh = constant-full k (λ e. fresh (subst (λ x. Has c.labels x) e k.listed))
 
 -- no label helps less than one that isn't listed
 pub fresh_helps_least : (weights : List ℕ) (f : ℕ → ℕ) (n low : ℕ) (part : Node) → StandsFor weights f n low part →
@@ -49,10 +42,7 @@ abbrev Pays : List ℕ → Costs → ℕ → Type 0
 Pays weights c d = (e : ℕ) × Has c.labels e × (slice_index weights e + least_cost c e ≤ least_cost c d)
 
 constant_pays : (weights : List ℕ) (c : Costs) (d : ℕ) → IsConstant weights c → IsFresh c d → Pays weights c d
-constant_pays weights c d k fresh =
-    let same : c.label == c.label ≡ true = eq-eqb c.label c.label refl in
-    let free : without_row c c.label ≡ 0 = k.without c.label ∙ ap (λ t. cond t 0 (slice_index weights c.label)) same in
-    (c.label, k.listed, omega (arith, constant_fresh weights c d k fresh))
+constant_pays weights c d k fresh = (c.label, k.listed, omega (arith, constant_fresh weights c d k fresh, constant-free k refl))
 
 -- then a split part's own row costs no more than none
 split_pays : (weights : List ℕ) (f : ℕ → ℕ) (n low : ℕ) (c : Costs) (lo hi : Node) → IsSplit weights (costs_of lo) (costs_of hi) c →

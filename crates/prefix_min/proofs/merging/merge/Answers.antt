@@ -1,76 +1,48 @@
 use Rattle.std.proofs.Common.{◌∙◌, ◌+◌, ◌-◌, ap, arith, rules, subst, sym}
 use Rattle.prefix_min.specs.Merging.{StandsAt}
-use Rattle.prefix_min.proofs.Joined.{merged-cost, merged-in, merged-none, merged-to, place-is, place-le, read-at}
+use Rattle.prefix_min.proofs.Joined.{merged-cost, merged-in, merged-none, merged-to, place-le, place-of, read-at}
 use Rattle.prefix_min.proofs.merging.merge.Goals as goal
 
 pub overflow_add-place : goal.overflow_add-place
 overflow_add-place c =
-    let x = c.args.one in
-    let es = c.args.savings.now.items in
-    let start = c.args.start in
-    let place = start + c.count_below.result in
-    let is = place-is x.label start c.count_below.result c.deref.result.now es c.count_below.ensures c.deref.ensures.value in
-    let within = place-le x es start place c.requires.start is in
+    let within = place-le c.args.one (place-of c.args.one c.requires.start c.count_below.ensures c.deref.ensures.value) in
     search rules
 
 pub overflow_add-cost : goal.overflow_add-cost
 overflow_add-cost c =
-    let x = c.args.one in
-    let es = c.args.savings.now.items in
-    let start = c.args.start in
-    let place = start + c.count_below.result in
-    let is = place-is x.label start c.count_below.result c.deref.result.now es c.count_below.ensures c.deref.ensures.value in
-    let there : StandsAt es place x.label = subst (λ zs. StandsAt zs place x.label) c.deref-2.ensures.value (c.stands_at.ensures.yes c.if-stands_at.true) in
-    let read = read-at es place c.index.result.now there.0 c.index.ensures in
-    omega (arith, read, merged-cost x es start place c.requires.start is there, c.requires.room)
+    let there = rw c.deref-2.ensures.value at (c.stands_at.ensures.yes c.if-stands_at.true) in
+    let at = place-of c.args.one c.requires.start c.count_below.ensures c.deref.ensures.value in
+    omega (
+      arith,
+      read-at c.args.savings.now.items (c.args.start + c.count_below.result) there.0 c.index.ensures,
+      merged-cost c.args.one at
+          there,
+      c.requires.room,
+    )
 
-pub returns-then-stands_at-clause-savings : goal.returns-then-stands_at-clause-savings
-returns-then-stands_at-clause-savings c =
+pub returns-then-stands_at : goal.returns-then-stands_at
+returns-then-stands_at c =
     let x = c.args.one in
-    let es = c.args.savings.now.items in
-    let start = c.args.start in
-    let place = start + c.count_below.result in
-    let is = place-is x.label start c.count_below.result c.deref.result.now es c.count_below.ensures c.deref.ensures.value in
-    let there : StandsAt es place x.label = subst (λ zs. StandsAt zs place x.label) c.deref-2.ensures.value (c.stands_at.ensures.yes c.if-stands_at.true) in
-    let read = read-at es place c.index.result.now there.0 c.index.ensures in
-    merged-to x es start place c.requires.start is (c.index.result.now.cost + x.cost) there (ap (λ n. n + x.cost) read)
-
-pub returns-then-stands_at-clause-gain : goal.returns-then-stands_at-clause-gain
-returns-then-stands_at-clause-gain c =
-    let x = c.args.one in
-    let es = c.args.savings.now.items in
-    let start = c.args.start in
-    let place = start + c.count_below.result in
-    let is = place-is x.label start c.count_below.result c.deref.result.now es c.count_below.ensures c.deref.ensures.value in
-    let there : StandsAt es place x.label = subst (λ zs. StandsAt zs place x.label) c.deref-2.ensures.value (c.stands_at.ensures.yes c.if-stands_at.true) in
-    let read = read-at es place c.index.result.now there.0 c.index.ensures in
-    c.saturating_sub.ensures ∙ ap (λ n. n + x.cost - c.args.weight) (read ∙ sym (merged-cost x es start place c.requires.start is there))
+    let there = rw c.deref-2.ensures.value at (c.stands_at.ensures.yes c.if-stands_at.true) in
+    let at = place-of c.args.one c.requires.start c.count_below.ensures c.deref.ensures.value in
+    let read = read-at c.args.savings.now.items (c.args.start + c.count_below.result) there.0 c.index.ensures in
+    record {
+      savings = merged-to x at (c.index.result.now.cost + x.cost) there (ap (λ n. n + x.cost) read);
+      gain = c.saturating_sub.ensures ∙ ap (λ n. n + x.cost - c.args.weight) (read ∙ sym (merged-cost x at there));
+    }
 
 pub insert-requires : goal.insert-requires
-insert-requires c =
-    let x = c.args.one in
-    let es = c.args.savings.now.items in
-    let start = c.args.start in
-    let place = start + c.count_below.result in
-    let is = place-is x.label start c.count_below.result c.deref.result.now es c.count_below.ensures c.deref.ensures.value in
-    omega (arith, place-le x es start place c.requires.start is, c.args.savings.now.ok.0)
+insert-requires c = omega (
+  arith,
+  place-le c.args.one
+      (place-of c.args.one c.requires.start c.count_below.ensures c.deref.ensures.value),
+  c.args.savings.now.ok.0,
+)
 
-pub returns-clause-savings : goal.returns-clause-savings
-returns-clause-savings c =
+pub returns : goal.returns
+returns c =
     let x = c.args.one in
-    let es = c.args.savings.now.items in
-    let start = c.args.start in
-    let place = start + c.count_below.result in
-    let is = place-is x.label start c.count_below.result c.deref.result.now es c.count_below.ensures c.deref.ensures.value in
-    c.in_ok-insert.ensures.items
-    ∙ merged-in x es start place c.requires.start is (λ h. c.stands_at.ensures.no c.if-stands_at.false (subst (λ zs. StandsAt zs place x.label) (sym c.deref-2.ensures.value) h))
-
-pub returns-clause-gain : goal.returns-clause-gain
-returns-clause-gain c =
-    let x = c.args.one in
-    let es = c.args.savings.now.items in
-    let start = c.args.start in
-    let place = start + c.count_below.result in
-    let is = place-is x.label start c.count_below.result c.deref.result.now es c.count_below.ensures c.deref.ensures.value in
-    merged-none x es start place c.requires.start is c.args.weight c.requires.rises c.requires.light
-    (λ h. c.stands_at.ensures.no c.if-stands_at.false (subst (λ zs. StandsAt zs place x.label) (sym c.deref-2.ensures.value) h))
+    let at = place-of c.args.one c.requires.start c.count_below.ensures c.deref.ensures.value in
+    let none = λ (h : StandsAt c.args.savings.now.items (c.args.start + c.count_below.result) x.label).
+    c.stands_at.ensures.no c.if-stands_at.false (subst (λ zs. StandsAt zs (c.args.start + c.count_below.result) x.label) (sym c.deref-2.ensures.value) h) in
+    record { savings = c.in_ok-insert.ensures.items ∙ merged-in x at none; gain = merged-none x at c.args.weight c.requires.rises c.requires.light none }

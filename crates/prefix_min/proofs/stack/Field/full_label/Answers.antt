@@ -1,4 +1,4 @@
-use Rattle.std.proofs.Common.{sym, subst, arith, ◌≡◌, ◌+◌, length}
+use Rattle.std.proofs.Common.{sym, subst, arith, ◌≡◌, length}
 use Rattle.prefix_min.specs.Field.{IsFullLabel, IsLeastSoFar}
 use Rattle.prefix_min.proofs.FullLabel.{full-end, full-step, other-step}
 use Rattle.prefix_min.proofs.PieceWeights.{place-label}
@@ -15,10 +15,9 @@ loop-piece-preserved c =
     let xs = c.args.savings.now in
     let i = c.loop-piece.piece-index in
     elim c.if-self-piece-eq0.branch [
-      | then-self-piece-eq0 w ↦ subst (IsLeastSoFar ws xs ps (i + 1)) (sym w.best-is)
-          (subst (IsFullLabel ws xs ps (i + 1)) (sym w.lesser.ensures) (full-step ws xs ps c.requires.most i c.loop-piece.best c.loop-piece.invariant w.if-self-piece-eq0.true))
-      | else-self-piece-eq0 w ↦ subst (IsLeastSoFar ws xs ps (i + 1)) (sym w.best-is)
-          (other-step ws xs ps c.requires.most i c.loop-piece.best c.loop-piece.invariant w.if-self-piece-eq0.false)
+      | then-self-piece-eq0 w ↦ rw (w.best-is, w.lesser.ensures)
+          (full-step ws xs ps c.requires.most i c.loop-piece.best c.loop-piece.invariant w.if-self-piece-eq0.true)
+      | else-self-piece-eq0 w ↦ rw w.best-is (other-step ws xs ps c.requires.most i c.loop-piece.best c.loop-piece.invariant w.if-self-piece-eq0.false)
     ]
 
 pub returns : goal.returns
