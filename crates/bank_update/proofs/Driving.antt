@@ -6,8 +6,7 @@ use Rattle.std.proofs.lemmas.List.{get_or-map, length-map, map-append, take_more
 use Rattle.std.proofs.lemmas.List.Elements.{All-get_or}
 use Rattle.std.proofs.lemmas.List.Folds.{concat-append}
 use Rattle.std.specs.Io.KnownBytes.{Appends}
-use Rattle.std.proofs.KnownBytes.{Appends-nil}
-use Rattle.razor_base.proofs.Output.{appends-then}
+use Rattle.std.proofs.KnownBytes.{Appends-trans}
 use Rattle.ternary_words.specs.declared.table.Table.{Table}
 use Rattle.bank_update.specs.Machine.{State}
 use Rattle.bank_update.specs.Script.{Event, IsWithin}
@@ -43,10 +42,6 @@ faults-turn tables s [] turn = omega arith
 faults-turn tables s (first ∷ turns) turn =
     ap (λ n. faults_of s first.event first.fails + n) (faults-turn tables (next tables s first.event first.fails) turns turn) ∙ omega arith
 
--- nothing ran yet
-pub run-none : (tables : List Table) (s : State) (d : ℕ) → IsRun tables s s d d [] []
-run-none tables s d = record { turns = []; commands = refl; state = refl; printed = refl; counted = inl (omega arith) }
-
 -- one command more ran
 pub run-turn : {tables : List Table} {start s last : State} {a b c : ℕ} {events : List Event} {lines : List (List ℕ)} (event : Event) (fails : Bool) →
     IsRun tables start s a b events lines → last ≡ next tables s event fails → RoseBy (faults_of s event fails) b c → b ≤ c →
@@ -77,7 +72,7 @@ goes-on w {f = f} o a b {tables = tables} {start = start} {old = old} {new = new
       lines = h.lines ++ line ∷ [];
       ran = subst (λ es. IsRun tables start new m p es (h.lines ++ line ∷ [])) (sym is) (run-turn event t.breaks h.ran t.state t.counted t.counts);
       written = subst (Appends o (w b)) (ap (λ t. concat h.lines ++ t) (sym (append-nil line)) ∙ sym (concat-append h.lines (line ∷ [])))
-          (appends-then o (w a) (w b) (concat h.lines) line h.written writes.ok);
+          (Appends-trans o (w a) (w b) (concat h.lines) line h.written writes.ok);
     }
 
 -- the next command takes its turn, and its line is cut off
@@ -96,7 +91,7 @@ is-cut-off w {f = f} o a b {tables = tables} {start = start} {old = old} {new = 
       ran = first-ran (IsRun tables start new m p) events (h.lines ++ line ∷ []) (i + 1)
           (subst (λ es. IsRun tables start new m p es (h.lines ++ line ∷ [])) (sym is) (run-turn event t.breaks h.ran t.state t.counted t.counts));
       cut = cut.1.2;
-      written = appends-then o (w a) (w b) (concat h.lines) cut.1.0 h.written cut.1.1;
+      written = Appends-trans o (w a) (w b) (concat h.lines) cut.1.0 h.written cut.1.1;
     }
 
 -- the next command isn't done: nothing has changed
@@ -108,10 +103,6 @@ stopped-before w o a b {tables = tables} {start = start} {s = s} {m = m} {n = n}
       (subst (λ q. IsRun tables start t m q (take i events) h.lines) (sym count) (subst (λ z. IsRun tables start z m n (take i events) h.lines) (sym state) h.ran));
   written = subst (λ z. Appends o (w z) (concat h.lines)) (sym out) h.written;
 }
-
--- no command ran yet, and nothing was written
-pub has-run-none : {S : Type 0} (w : S → Option (List ℕ)) (a : S) {tables : List Table} {s : State} {n : ℕ} → HasRun (IsRun tables s s n n) (Appends (w a) (w a)) []
-has-run-none w a {tables = tables} {s = s} {n = n} = record { lines = []; ran = run-none tables s n; written = Appends-nil (w a) }
 
 -- how a drive ends, where its error was handed on
 pub out-of-memory : {Ran : List Event → List (List ℕ) → Type 0} {Appended : List ℕ → Type 0} {events : List Event} (r : Result ℕ DriveError) → IsErrAnd r (λ e. e ≡ errors.Memory) → HasRunFront Ran Appended events → Outcome Ran Appended events r

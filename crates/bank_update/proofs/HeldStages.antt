@@ -99,14 +99,6 @@ get-map f [] k = refl
 get-map f (x ∷ xs) zero = refl
 get-map f (x ∷ xs) (suc k) = get-map f xs k
 
--- where an old entry stood
-pub target-old : (s : State) (swap : Swap) (k : ℕ) → length swap.block.entries ≤ k → k < total s swap → target (layout s swap) k ≡ s.settled.start + (total s swap - 1 - k)
-target-old s swap k most small =
-    let y = length-map swap.block.entries stored in
-    let count = write-count s swap in
-    ap (λ t. cond t (swap.block.start + k) (s.settled.start + (write_count (layout s swap) - suc k))) (le-ltb k (length (map stored swap.block.entries)) (omega (arith, most, y)))
-    ∙ ap (λ n. s.settled.start + n) (omega (arith, count))
-
 pub erased-old : (s : State) (swap : Swap) (k : ℕ) → length swap.block.entries ≤ k →
     erased (layout s swap) k ≡ option_map stored (slice_get s.settled.entries (total s swap - 1 - k))
 erased-old s swap k most =

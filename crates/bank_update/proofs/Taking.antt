@@ -30,11 +30,11 @@ takes-quietly {w = w} {f = f} {a = a} {b = b} {m = m} {n = n} line is none same 
   line = writes-is writes reads;
 }
 
-some_of : {X : Type 0} (o : Option X) → (o ≡ None → ⊥) → is_some o ≡ true
+pub some_of : {X : Type 0} (o : Option X) → (o ≡ None → ⊥) → is_some o ≡ true
 some_of None h = absurd (h refl)
 some_of (Some x) h = refl
 
-rose_one : (m n : ℕ) → Rose m n → RoseBy 1 m n
+pub rose_one : (m n : ℕ) → Rose m n → RoseBy 1 m n
 rose_one m n (inl less) = inl (omega (arith, less))
 rose_one m n (inr last) = inr last
 

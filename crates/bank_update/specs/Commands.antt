@@ -1,7 +1,8 @@
 -- The commands of the code as events.
 use Rattle.std.specs.Prelude.{◌≡◌, List, map, Option, option_map, Result, Ok, Err, ℕ}
 use Rattle.std.specs.Borrow.{Bor}
-use Rattle.trace_run.specs.Columns.{columns}
+use Rattle.field_boxes.specs.declared.header.Header.{Header}
+use Rattle.text_lines.specs.Columns.{columns}
 use Rattle.bank_update.specs.Script.{Event, BadLine, Begin, Step, Abort, Look, Stage}
 use Rattle.bank_update.specs.declared.script.Command.{Command}
 use Rattle.bank_update.specs.declared.script.Command.TheVariants as commands
@@ -31,6 +32,10 @@ event_seen (Err reason) = Err reason
 -- a column's value, and the columns behind it
 abbrev pub column_seen : Option (ℕ × Bor (List ℕ)) → Option (ℕ × List (List ℕ))
 column_seen column = option_map (λ c. (c.0, columns c.1.now)) column
+
+-- the values of a header, and the columns behind them
+abbrev pub values_seen : Option (Header × Bor (List ℕ)) → Option (List ℕ × List (List ℕ))
+values_seen header = option_map (λ h. (h.0.values, columns h.1.now)) header
 
 -- a script is refused for its first bad line, unless memory was
 abbrev pub IsScriptRefused : ScriptError → Result (List Event) BadLine → Type 0

@@ -2,11 +2,10 @@
 use Rattle.std.specs.Prelude.{ℕ, ◌+◌, ◌≤◌, List, [], ◌∷◌, ◌++◌, nat_le, codes, Option, Some, None, Result, Ok, Err, ok_or, if◌then◌else◌}
 use Rattle.std.specs.Str.{bytes_eq}
 use Rattle.field_boxes.specs.Fields.{greatest_of}
-use Rattle.filter_reader.specs.FilterList.{text_lines}
-use Rattle.filter_reader.specs.Lines.{is_skipped}
-use Rattle.filter_reader.specs.Numbers.{number_within}
-use Rattle.filter_reader.specs.Optional.{◌>>=◌}
-use Rattle.trace_run.specs.Columns.{columns, first_column}
+use Rattle.text_lines.specs.Columns.{columns, first_column}
+use Rattle.text_lines.specs.Lines.{text_lines, is_skipped}
+use Rattle.text_lines.specs.Numbers.{number_within}
+use Rattle.text_lines.specs.Steps.{◌>>=◌}
 use Rattle.bank_update.specs.declared.reason.ScriptReason.{ScriptReason}
 use Rattle.bank_update.specs.declared.reason.ScriptReason.TheVariants as reasons
 
@@ -48,15 +47,21 @@ begin_of tables columns = do
   table ← value_column tables columns
   begin_from_1 table.0 table.1
 
--- a value for each of the five fields, from left to right
-unfoldable pub look_of : List (List ℕ) → Option Event
-look_of columns = do
+-- a value for each of the five fields, from left to right, and the columns behind them
+unfoldable pub values_of : List (List ℕ) → Option (List ℕ × List (List ℕ))
+values_of columns = do
   source ← value_column (greatest_of 0) columns
   destination ← value_column (greatest_of 1) source.1
   source_port ← value_column (greatest_of 2) destination.1
   destination_port ← value_column (greatest_of 3) source_port.1
   protocol ← value_column (greatest_of 4) destination_port.1
-  when_done (Look (source.0 ∷ destination.0 ∷ source_port.0 ∷ destination_port.0 ∷ protocol.0 ∷ [])) protocol.1
+  Some (source.0 ∷ destination.0 ∷ source_port.0 ∷ destination_port.0 ∷ protocol.0 ∷ [], protocol.1)
+
+-- the values of a header alone
+unfoldable pub look_of : List (List ℕ) → Option Event
+look_of columns = do
+  values ← values_of columns
+  when_done (Look values.0) values.1
 
 -- a command by its word and the columns behind it
 unfoldable pub event_named : ℕ → List ℕ → List (List ℕ) → Result Event ScriptReason

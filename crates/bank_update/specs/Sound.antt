@@ -1,5 +1,6 @@
 -- What always holds of the state of a swap.
 use Rattle.std.specs.Prelude.{◌≡◌, ◌+◌, ◌^◌, ◌≤◌, ◌<◌, true, length, IfSome}
+use Rattle.razor_base.specs.declared.limits.TheConstants.{MOST_ENTRIES}
 use Rattle.ternary_words.specs.Limits.{AreNumbered}
 use Rattle.bank_update.specs.Writes.{IsBeside}
 use Rattle.bank_update.specs.Machine.{Block, Swap, State, is_below, layout, total}
@@ -7,7 +8,7 @@ use Rattle.bank_update.specs.Machine.{Block, Swap, State, is_below, layout, tota
 -- each decision of a table is the number of a name, and it has no more entries than a table may
 pub record IsNamed (block : Block) : Type 0 where
   pub numbered : AreNumbered (length block.names) block.entries
-  pub few : length block.entries ≤ 262144
+  pub few : length block.entries ≤ MOST_ENTRIES
 
 -- the pending table lies beside the settled one, and some write is left, forward and back
 pub record IsUnderway (s : State) (swap : Swap) : Type 0 where

@@ -1,21 +1,21 @@
 //! The commands of a script, each read from the columns of its line.
 ghost use Rattle.std.specs.Prelude.{◌≡◌, ◌≤◌, ℕ, Some, IfOk, IfSome, option_map, ok_or};
-ghost use Rattle.trace_run.specs.Columns.{columns};
-ghost use Rattle.bank_update.specs.Commands.{column_seen, event_of, event_seen};
-ghost use Rattle.bank_update.specs.Script.{IsWithin, begin_of, event_named, event_of_columns, look_of, value_column, when_done};
+ghost use Rattle.text_lines.specs.Columns.{columns};
+ghost use Rattle.bank_update.specs.Commands.{column_seen, event_of, event_seen, values_seen};
+ghost use Rattle.bank_update.specs.Script.{IsWithin, begin_of, event_named, event_of_columns, look_of, value_column, values_of, when_done};
 ghost use Rattle.bank_update.specs.declared.reason.ScriptReason.TheVariants.{Arguments};
 
 use crate::reason::ScriptReason;
 use crate::script::Command;
 use field_boxes::Header;
-use filter_reader::number_within;
-use trace_run::next_column;
+use razor_base::limits::{GREATEST_PORT, GREATEST_PROTOCOL};
+use text_lines::{next_column, number_within};
 
 /// The value of the first column, a number of one digit or more, and what stands behind it.
 ///
 /// None where there is no column, where it is no number, and where the number is above the greatest.
 #[tactic(auto, unfolding(crate::specs::Script::value_column))]
-pub fn value_column(line: &[u8], greatest: u32) -> Option<(u32, &[u8])>
+fn value_column(line: &[u8], greatest: u32) -> Option<(u32, &[u8])>
     ensures read { column_seen result ≡ value_column greatest (columns line.now) }
     ensures within { IfSome result (λ column. column.0 ≤ greatest) }
 {
@@ -49,20 +49,29 @@ fn begin_of(line: &[u8], tables: u32) -> Option<Command>
     }
 }
 
-/// A value for each of the five fields, from left to right.
+/// A value for each of the five fields, from left to right, and what stands behind them.
+#[tactic(auto, unfolding(crate::specs::Script::values_of))]
+pub fn header_of(line: &[u8]) -> Option<(Header, &[u8])>
+    ensures { values_seen result ≡ values_of (columns line.now) }
+{
+    let (source, rest) = value_column(line, u32::MAX)?;
+    let (destination, rest) = value_column(rest, u32::MAX)?;
+    let (source_port, rest) = value_column(rest, GREATEST_PORT)?;
+    let (destination_port, rest) = value_column(rest, GREATEST_PORT)?;
+    let (protocol, rest) = value_column(rest, GREATEST_PROTOCOL)?;
+    let header = Header {
+        values: [source, destination, source_port, destination_port, protocol],
+    };
+    Some((header, rest))
+}
+
+/// The values of a header alone.
 #[tactic(auto, unfolding(crate::specs::Script::look_of))]
 fn look_of(line: &[u8]) -> Option<Command>
     ensures read { option_map event_of result ≡ look_of (columns line.now) }
     ensures within { (tables : ℕ) → IfSome result (λ c. IsWithin tables (event_of c)) }
 {
-    let (source, rest) = value_column(line, u32::MAX)?;
-    let (destination, rest) = value_column(rest, u32::MAX)?;
-    let (source_port, rest) = value_column(rest, 65_535)?;
-    let (destination_port, rest) = value_column(rest, 65_535)?;
-    let (protocol, rest) = value_column(rest, 255)?;
-    let header = Header {
-        values: [source, destination, source_port, destination_port, protocol],
-    };
+    let (header, rest) = header_of(line)?;
     when_done(Command::Look { header }, rest)
 }
 

@@ -15,7 +15,7 @@ mod script;
 mod stage;
 mod swapper;
 
-pub use command_line::value_column;
+pub use command_line::header_of;
 pub use drive::{DriveError, drive_on};
 pub use line::{write_begun, write_line, write_name, write_stage, write_step};
 pub use read::{ScriptError, read_script};

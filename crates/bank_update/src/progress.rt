@@ -1,5 +1,6 @@
 //! How far a memory is: its settled table, and the swap that is pending.
 ghost use Rattle.std.specs.Prelude.{◌≡◌, ◌<◌, ◌^◌, true, map, option_map, slice_get};
+ghost use Rattle.razor_base.specs.declared.limits.TheConstants.{MOST_ENTRIES};
 ghost use Rattle.tcam_sim.specs.Slots.{stored};
 ghost use Rattle.bank_update.specs.Kept.{swap_of};
 ghost use Rattle.bank_update.specs.Machine.{moved};
@@ -63,7 +64,7 @@ impl Progress {
     /// The entries of the settled table.
     fn entries(&self) -> &[Entry]
         ensures entries { result.now ≡ self.now.settled.entries }
-        ensures few { length result.now ≤ 262144 }
+        ensures few { length result.now ≤ MOST_ENTRIES }
     {
         match &self.settled {
             Some(placed) => &placed.table.entries,

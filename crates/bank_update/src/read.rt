@@ -6,8 +6,8 @@ ghost use Rattle.bank_update.specs.Script.{IsWithin, script_of, with_line};
 use crate::command_line::command_of_line;
 use crate::reason::ScriptReason;
 use crate::script::{Command, Script};
-use filter_reader::{is_skipped, next_line};
 use std::alloc::Global;
+use text_lines::{is_skipped, next_line};
 use thiserror::Error;
 
 /// Why the text of a script was refused.

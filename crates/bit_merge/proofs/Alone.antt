@@ -1,8 +1,5 @@
 -- Tables that are tight, by places.
-use Rattle.std.proofs.Common.{◌≡◌, ◌∷◌, ◌++◌, ◌<◌, ℕ, List, [], length, ap, refl, sym, ◌∙◌, arith}
-use Rattle.std.specs.Prelude.{suc, zero, ◌≢◌}
-use Rattle.std.specs.List.{remove}
-use Rattle.std.proofs.lemmas.List.{length-append}
+use Rattle.std.proofs.Common.{◌≡◌, ◌∷◌, ◌++◌, ◌<◌, ℕ, List, [], length, ap, refl, sym, ◌∙◌, arith, suc, zero, ◌≢◌, remove, length-append}
 use Rattle.ternary_words.specs.Table.{Entry, answer}
 use Rattle.bit_merge.proofs.Tight.{IsTight}
 use Rattle.bit_merge.proofs.PairPlaces.{removed}
@@ -35,5 +32,4 @@ tight-places IsKey entries t k less =
 pub places-tight : (IsKey : List ℕ → Type 0) (entries : List Entry) → TightAt IsKey entries → IsTight IsKey entries
 places-tight IsKey entries t before e after h =
     let r = t (length before) (omega (arith, ap length h, length-append before (e ∷ after))) in
-    let k = ap (λ l. remove l (length before)) h ∙ removed before e after in
-    (r.0, r.1, λ g. r.2 (ap (λ l. answer l r.0) k ∙ g))
+    (r.0, r.1, λ g. r.2 (ap (λ l. answer l r.0) (ap (λ l. remove l (length before)) h ∙ removed before e after) ∙ g))

@@ -1,6 +1,5 @@
 -- Pairs by their places.
-use Rattle.std.specs.Prelude.{◌≡◌, ℕ, ◌<◌, ◌≤◌, List, length, slice_index_or, set, ◌⊎◌}
-use Rattle.std.specs.List.{remove}
+use Rattle.std.specs.Prelude.{◌≡◌, ℕ, ◌<◌, ◌≤◌, List, length, slice_index_or, set, ◌⊎◌, remove}
 use Rattle.ternary_words.specs.Table.{Entry}
 use Rattle.bit_merge.specs.Merge.{CanJoin, joint}
 

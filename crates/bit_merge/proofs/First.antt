@@ -1,6 +1,5 @@
 -- A table is closed or has a first pair, and only one.
-use Rattle.std.proofs.Common.{◌≡◌, ◌∷◌, ◌++◌, ◌⊎◌, ◌≤◌, ◌<◌, ◌+◌, ℕ, List, [], length, ap, refl, sym, ◌∙◌, subst, arith, Some, None, Option, inl, inr}
-use Rattle.std.specs.Prelude.{suc}
+use Rattle.std.proofs.Common.{◌≡◌, ◌∷◌, ◌++◌, ◌⊎◌, ◌≤◌, ◌<◌, ◌+◌, ℕ, List, [], length, ap, refl, sym, ◌∙◌, subst, arith, Some, None, Option, inl, inr, suc}
 use Rattle.std.proofs.lemmas.Bool.Decides.{eqb_tells}
 use Rattle.ternary_words.specs.Table.{Entry}
 use Rattle.bit_merge.specs.Merge.{CanJoin, AllDecide, Pair, IsPair, IsClosed, IsFirstPair, ComesFirst}
@@ -17,9 +16,8 @@ numbers_or x y = elim (eqb_tells x y) [ inl h ↦ inl h.1 | inr h ↦ inr h.1 ]
 
 names_or : (xs ys : List ℕ) → (xs ≡ ys) ⊎ (xs ≡ ys → ⊥)
 names_or [] [] = inl refl
-names_or [] (y ∷ ys) = inr (λ h. cc h)
-names_or (x ∷ xs) [] = inr (λ h. cc h)
 names_or (x ∷ xs) (y ∷ ys) = names_step x y xs ys (numbers_or x y) (names_or xs ys)
+names_or xs ys = inr (λ h. cc h)
 
 some_step : (xs ys : List ℕ) → (xs ≡ ys) ⊎ (xs ≡ ys → ⊥) → (Some xs ≡ Some ys) ⊎ (Some xs ≡ Some ys → ⊥)
 some_step xs ys (inl e) = inl cc
@@ -27,9 +25,8 @@ some_step xs ys (inr n) = inr (λ h. n (cc h))
 
 pub decisions_or : (d e : Option (List ℕ)) → (d ≡ e) ⊎ (d ≡ e → ⊥)
 decisions_or None None = inl refl
-decisions_or None (Some y) = inr (λ h. cc h)
-decisions_or (Some x) None = inr (λ h. cc h)
 decisions_or (Some x) (Some y) = some_step x y (names_or x y)
+decisions_or d e = inr (λ h. cc h)
 
 -- of the entries after x, one that it can be joined to
 record IsSecond (x : Entry) (entries between : List Entry) (y : Entry) (after : List Entry) : Type 0 where
@@ -160,12 +157,11 @@ first_or (x ∷ entries) = first_step x entries (second_or x entries) (first_or 
 -- one list cut in two ways at one place
 one_cut : {A : Type 0} (us vs xs ys : List A) → length us ≡ length vs → us ++ xs ≡ vs ++ ys → (us ≡ vs) × (xs ≡ ys)
 one_cut [] [] xs ys l e = (refl, e)
-one_cut [] (b ∷ vs) xs ys l e = absurd (omega (arith, l))
-one_cut (a ∷ us) [] xs ys l e = absurd (omega (arith, l))
 one_cut (a ∷ us) (b ∷ vs) xs ys l e =
     let h : a ≡ b = cc e in
     let k : us ++ xs ≡ vs ++ ys = cc e in
     let r = one_cut us vs xs ys (omega (arith, l)) k in (cc (h, r.0), r.1)
+one_cut us vs xs ys l e = absurd (omega arith)
 
 same_places : (n m s t : ℕ) → (n < m) ⊎ ((n ≡ m) × (s ≤ t)) → (m < n) ⊎ ((m ≡ n) × (t ≤ s)) → (n ≡ m) × (s ≡ t)
 same_places n m s t (inl h) (inl k) = absurd (omega (arith, h, k))

@@ -1,6 +1,5 @@
 -- The word in hand: a pair that can be joined holds it, or lies wholly behind the place that was taken.
-use Rattle.std.proofs.Common.{◌≡◌, ◌⊎◌, ◌∷◌, ℕ, ◌<◌, ◌≤◌, [], min, length, set, ap, sym, subst, ◌∙◌, arith, Some, None, inl, inr}
-use Rattle.std.specs.Prelude.{suc, zero}
+use Rattle.std.proofs.Common.{◌≡◌, ◌⊎◌, ◌∷◌, ℕ, ◌<◌, ◌≤◌, min, length, set, ap, sym, subst, ◌∙◌, arith, Some, None, inl, inr, suc, zero}
 use Rattle.std.proofs.lemmas.Bool.{cases_lt, cases_eq}
 use Rattle.std.proofs.lemmas.List.{length-set, get_or-set_same, get_or-set_other, set-set, set_comm, set-get_or}
 use Rattle.ternary_words.specs.Views.{word_of}
@@ -13,11 +12,9 @@ use Rattle.bit_merge.proofs.SlotSteps.{AreFirst, lead-step, lead-both}
 
 -- what is left after a word was taken stood there before
 pub at-without : (slots : Slots) (p k : ℕ) (a : Word) → at (set slots p None) k ≡ Some a → at slots k ≡ Some a
-at-without [] p k a h = h
 at-without (s ∷ slots) zero zero a h = absurd (cc h)
-at-without (s ∷ slots) zero (suc k) a h = h
-at-without (s ∷ slots) (suc p) zero a h = h
 at-without (s ∷ slots) (suc p) (suc k) a h = at-without slots p k a h
+at-without slots p k a h = h
 
 pub done-without : (slots : Slots) (p n : ℕ) → AreDone slots n → AreDone (set slots p None) n
 done-without slots p n done i j a b less h k c = done i j a b less (at-without slots p i a h) (at-without slots p j b k) c
@@ -88,8 +85,7 @@ least_before : (slots : Slots) (taken place p : ℕ) (word : Word) → place < l
 least_before slots taken place p word within low less clear first k l x y rise can (inl h) g = inl (omega (arith, h.0, less))
 least_before slots taken place p word within low less clear first k l x y rise can (inr h) (inl g) =
     let partner : IsPartner word x = can-join-comm (word_of x) (word_of word) (subst (λ (z : Word). CanJoin (word_of x) (word_of z)) (sym g.1) can) in
-    let le = first k x h.1 partner in
-    elim (cases_lt p k) [ inl m ↦ inl m | inr m ↦ inr (omega (arith, m, le), omega (arith, g.0)) ]
+    elim (cases_lt p k) [ inl m ↦ inl m | inr m ↦ inr (omega (arith, m, first k x h.1 partner), omega (arith, g.0)) ]
 least_before slots taken place p word within low less clear first k l x y rise can (inr h) (inr g) =
     elim (cases_lt taken k) [
       | inl m ↦ inl (omega (arith, m, low, less))
@@ -106,8 +102,7 @@ least_behind slots taken place p word within low more clear first k l x y rise c
     inr (sym h.0, first l y g.1 (subst (λ (z : Word). CanJoin (word_of z) (word_of y)) (sym h.1) can))
 least_behind slots taken place p word within low more clear first k l x y rise can (inr h) (inl g) =
     let partner : IsPartner word x = can-join-comm (word_of x) (word_of word) (subst (λ (z : Word). CanJoin (word_of x) (word_of z)) (sym g.1) can) in
-    let le = first k x h.1 partner in
-    absurd (omega (arith, le, g.0, rise, more))
+    absurd (omega (arith, first k x h.1 partner, g.0, rise, more))
 least_behind slots taken place p word within low more clear first k l x y rise can (inr h) (inr g) =
     elim (cases_lt taken k) [
       | inl m ↦ inl (omega (arith, m, low))
@@ -213,11 +208,10 @@ none-alike slots word none k b e is = none k b e (alike-partner word b is)
 
 -- a taken word leaves fewer
 pub fewer-left : (slots : Slots) (p : ℕ) (b : Word) → at slots p ≡ Some b → length (entries_of None (set slots p None)) < length (entries_of None slots)
-fewer-left [] p b h = absurd (cc h)
-fewer-left (None ∷ slots) zero b h = absurd (cc h)
 fewer-left (Some w ∷ slots) zero b h = omega arith
 fewer-left (None ∷ slots) (suc p) b h = fewer-left slots p b h
 fewer-left (Some w ∷ slots) (suc p) b h = omega (arith, fewer-left slots p b h)
+fewer-left slots p b h = absurd (cc h)
 
 -- the place that is taken
 pub done-taken : (slots now : Slots) (n : ℕ) → n < length slots → now ≡ set slots n None → AreDone slots n → AreDone now (suc n)
@@ -237,9 +231,6 @@ held-leads start taken slots now place word h e = subst (LeadTo start) (sym e) h
 pub held-done : (start : Slots) (taken : ℕ) (slots now : Slots) (place : ℕ) (word : Word) → IsHeld start taken slots place word → IsLeast slots (IsPartner word) None →
     now ≡ set slots place (Some word) → AreDone now (suc taken)
 held-done start taken slots now place word h none e = subst (λ l. AreDone l (suc taken)) (sym e) (held-down start taken slots place word h none)
-
-pub held-count : (start : Slots) (taken : ℕ) (slots now : Slots) (place : ℕ) (word : Word) → IsHeld start taken slots place word → now ≡ set slots place (Some word) → length now ≡ length start
-held-count start taken slots now place word h e = ap length e ∙ length-set slots place (Some word) ∙ h.count
 
 pub joining-fewer : (slots now : Slots) (word next : Word) (p : ℕ) → IsJoining slots now word next p → length (entries_of None now) < length (entries_of None slots)
 joining-fewer slots now word next p j = subst (λ l. length (entries_of None l) < length (entries_of None slots)) (sym j.taken) (fewer-left slots p j.partner j.here)

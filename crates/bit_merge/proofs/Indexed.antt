@@ -1,8 +1,6 @@
 -- The places of words stay known when a word is taken or put.
-use Rattle.std.proofs.Common.{◌≡◌, ◌⊎◌, ℕ, ◌<◌, ◌≤◌, List, Bool, true, false, length, set, ap, refl, sym, subst, ◌∙◌, arith, Option, Some, None, inl, inr, eq-eqb}
-use Rattle.std.specs.Prelude.{suc, cond, nat_eq, ◌&&◌, slice_index_or}
-use Rattle.std.proofs.lemmas.Bool.{cases_lt, cases_eq, eqb-true, true≢false}
-use Rattle.std.proofs.lemmas.List.{length-set, get_or-set_same, get_or-set_other}
+use Rattle.std.proofs.Common.{◌≡◌, ◌⊎◌, ℕ, ◌<◌, ◌≤◌, List, Bool, true, false, length, set, ap, refl, sym, subst, ◌∙◌, arith, Option, Some, None, inl, inr, eq-eqb, suc, cond, nat_eq, ◌&&◌, slice_index_or, length-set, get_or-set_same, get_or-set_other}
+use Rattle.std.proofs.lemmas.Bool.{cases_lt, cases_eq, eqb-true, true≢false, and_parts}
 use Rattle.ternary_words.specs.declared.word.Word.{Word}
 use Rattle.bit_merge.specs.Slots.{Slots, at, IsLeast, IsWord, IsFirstOfItsWord}
 use Rattle.bit_merge.specs.Index.{same_key, IsLeastFrom, IsIndexed}
@@ -39,12 +37,6 @@ not_taken slots p k b within e same =
 turn_word : (b c : Word) → IsWord b.mask b.value c → IsWord c.mask c.value b
 turn_word b c h = (sym h.0, sym h.1)
 
--- the test of keys
-and_parts : (s t : Bool) → (s && t) ≡ true → (s ≡ true) × (t ≡ true)
-and_parts true true h = (refl, refl)
-and_parts true false h = absurd (true≢false (sym h))
-and_parts false t h = absurd (true≢false (sym h))
-
 same_parts : (p q : Key) → same_key p q ≡ true → (q.mask ≡ p.mask) × (q.value ≡ p.value)
 same_parts p q h = let r = and_parts (nat_eq p.mask q.mask) (nat_eq p.value q.value) h in (sym (eqb-true p.mask q.mask r.0), sym (eqb-true p.value q.value r.1))
 
@@ -61,9 +53,7 @@ taken_head slots p w key link within here first itself same h =
     (same_from slots (set slots p None) (suc p) 0 (IsWord w.mask w.value) link
     (λ k b le e fit.
     let old = at-without slots p k b e in
-    let n = not_taken slots p k b within e in
-    let f = first k w b here old fit in
-    (omega (arith, f, n), old))
+    (omega (arith, first k w b here old fit, not_taken slots p k b within e), old))
     (λ k b le e fit. (omega arith, kept slots p k b e (λ same. omega (arith, same, le)))) h))
 
 taken_other : (slots : Slots) (p : ℕ) (w : Word) (key : Key) (found : Option ℕ) → p < length slots → at slots p ≡ Some w → (IsWord key.mask key.value w → ⊥) →
@@ -90,7 +80,6 @@ taken_step slots p w key found link false e within here first l h =
 taken_link : (slots : Slots) (p k : ℕ) (w x : Word) (link : Option ℕ) → p < length slots → at slots p ≡ Some w → IsFirstOfItsWord slots p → at (set slots p None) k ≡ Some x →
     IsLeastFrom slots (suc k) (IsWord x.mask x.value) link → IsLeastFrom (set slots p None) (suc k) (IsWord x.mask x.value) link
 taken_link slots p k w x link within here first e h =
-    let old = at-without slots p k x e in
     same_from slots (set slots p None) (suc k) (suc k) (IsWord x.mask x.value) link
     (λ j b le f fit. (le, at-without slots p j b f))
     (λ j b le f fit. (
@@ -98,7 +87,7 @@ taken_link slots p k w x link within here first e h =
       kept slots p j b f (λ same.
           let y : Some b ≡ Some w = sym f ∙ ap (at slots) same ∙ here in
           let z : b ≡ w = cc y in
-          let g = first k w x here old (turn_word x w (subst (λ (v : Word). IsWord x.mask x.value v) z fit)) in
+          let g = first k w x here (at-without slots p k x e) (turn_word x w (subst (λ (v : Word). IsWord x.mask x.value v) z fit)) in
           omega (arith, g, le, same)),
     )) h
 

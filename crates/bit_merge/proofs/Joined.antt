@@ -1,6 +1,5 @@
 -- Joining two entries keeps the answers.
-use Rattle.std.proofs.Common.{◌≡◌, ◌∷◌, ◌++◌, ℕ, List, [], ap, refl, sym, ◌∙◌, Bool, true, false, Some, Option}
-use Rattle.std.specs.Prelude.{cond, ◌||◌, find, option_and_then}
+use Rattle.std.proofs.Common.{◌≡◌, ◌∷◌, ◌++◌, ℕ, List, [], ap, refl, sym, ◌∙◌, Bool, true, false, Some, Option, cond, ◌||◌, find, option_and_then}
 use Rattle.ternary_words.specs.Word.{header_bits}
 use Rattle.ternary_words.specs.Table.{Entry, entry_matches, answer}
 use Rattle.bit_merge.specs.Merge.{CanJoin, AllDecide, Pair, IsPair, joint, joined}

@@ -1,6 +1,5 @@
 -- The least place of a word of some kind.
-use Rattle.std.proofs.Common.{◌≡◌, ◌⊎◌, ℕ, ◌+◌, ◌^◌, ◌≤◌, min, subst, arith, Option, Some, None, inl, inr}
-use Rattle.std.specs.Prelude.{bit_and, bit_xor}
+use Rattle.std.proofs.Common.{◌≡◌, ◌⊎◌, ℕ, ◌+◌, ◌^◌, ◌≤◌, min, subst, arith, Option, Some, None, inl, inr, bit_and, bit_xor}
 use Rattle.std.proofs.lemmas.Bool.{cases_lt}
 use Rattle.ternary_words.specs.declared.word.Word.{Word}
 use Rattle.bit_merge.specs.Near.{IsNear}

@@ -1,8 +1,6 @@
 -- Words as a mask and a value: which can be joined, and their join.
-use Rattle.std.proofs.Common.{◌≡◌, ◌∷◌, ℕ, List, [], ◌≤◌, length, arith, ap, refl, sym, ◌∙◌, subst, Bool, true, false}
-use Rattle.std.specs.Prelude.{suc, not, ◌&&◌, cond}
+use Rattle.std.proofs.Common.{◌≡◌, ◌∷◌, ℕ, List, [], ◌≤◌, length, arith, ap, refl, sym, ◌∙◌, subst, Bool, true, false, suc, not, ◌&&◌, cond, true≢false}
 use Rattle.std.specs.Bool.{beq}
-use Rattle.std.proofs.lemmas.Bool.{true≢false}
 use Rattle.ternary_words.specs.Word.{Trit, trit, trits}
 use Rattle.bit_merge.specs.Merge.{HaveSameStars, differing, CanJoin, join, same_trit, is_star}
 
@@ -30,20 +28,18 @@ both_bits (m ∷ ms) [] = []
 both_bits (m ∷ ms) (x ∷ xs) = (m && x) ∷ both_bits ms xs
 
 star_bits : (m n : Bool) (a b : Bool) → is_star (trit m a) ≡ is_star (trit n b) → m ≡ n
-star_bits true true a b e = refl
 star_bits true false a b e = absurd (true≢false (sym e))
 star_bits false true a b e = absurd (true≢false e)
-star_bits false false a b e = refl
+star_bits m n a b e = refl
 
 pub stars-masks : (ms ns xs ys : List Bool) → length ms ≡ length xs → length ns ≡ length ys → HaveSameStars (trits ms xs) (trits ns ys) → ms ≡ ns
 stars-masks [] [] xs ys l k h = refl
-stars-masks (m ∷ ms) ns [] ys l k h = absurd (omega (arith, l))
-stars-masks ms (n ∷ ns) xs [] l k h = absurd (omega (arith, k))
 stars-masks [] (n ∷ ns) xs (y ∷ ys) l k h = absurd h
 stars-masks (m ∷ ms) [] (x ∷ xs) ys l k h = absurd h
 stars-masks (m ∷ ms) (n ∷ ns) (x ∷ xs) (y ∷ ys) l k h =
     let e = star_bits m n x y h.0 in
     let f = stars-masks ms ns xs ys (omega (arith, l)) (omega (arith, k)) h.1 in cc
+stars-masks ms ns xs ys l k h = absurd (omega arith)
 
 star_same : (m a b : Bool) → is_star (trit m a) ≡ is_star (trit m b)
 star_same true a b = refl
@@ -51,9 +47,8 @@ star_same false a b = refl
 
 pub masks-stars : (ms xs ys : List Bool) → length ms ≡ length xs → length ms ≡ length ys → HaveSameStars (trits ms xs) (trits ms ys)
 masks-stars [] xs ys l k = tt
-masks-stars (m ∷ ms) [] ys l k = absurd (omega (arith, l))
-masks-stars (m ∷ ms) (x ∷ xs) [] l k = absurd (omega (arith, k))
 masks-stars (m ∷ ms) (x ∷ xs) (y ∷ ys) l k = (star_same m x y, masks-stars ms xs ys (omega (arith, l)) (omega (arith, k)))
+masks-stars ms xs ys l k = absurd (omega arith)
 
 same_bits : (m a b : Bool) → same_trit (trit m a) (trit m b) ≡ not (m && not (beq a b))
 same_bits true true true = refl
@@ -68,12 +63,11 @@ count_step false n k e = e
 
 pub differing-ones : (ms xs ys : List Bool) → length ms ≡ length xs → length ms ≡ length ys → differing (trits ms xs) (trits ms ys) ≡ ones (unlike_bits ms xs ys)
 differing-ones [] xs ys l k = refl
-differing-ones (m ∷ ms) [] ys l k = absurd (omega (arith, l))
-differing-ones (m ∷ ms) (x ∷ xs) [] l k = absurd (omega (arith, k))
 differing-ones (m ∷ ms) (x ∷ xs) (y ∷ ys) l k =
     let n = differing (trits ms xs) (trits ms ys) in
     ap (λ t. cond t n (suc n)) (same_bits m x y)
     ∙ count_step (m && not (beq x y)) n (ones (unlike_bits ms xs ys)) (differing-ones ms xs ys (omega (arith, l)) (omega (arith, k)))
+differing-ones ms xs ys l k = absurd (omega arith)
 
 join_bits : (m a b : Bool) → cond (same_trit (trit m a) (trit m b)) (trit m a) (let s : Trit = trit false a in s) ≡ trit (m && not (m && not (beq a b))) a
 join_bits true true true = refl
@@ -84,11 +78,10 @@ join_bits false a b = refl
 
 pub join-masks : (ms xs ys : List Bool) → length ms ≡ length xs → length ms ≡ length ys → join (trits ms xs) (trits ms ys) ≡ trits (without_bits ms (unlike_bits ms xs ys)) xs
 join-masks [] xs ys l k = refl
-join-masks (m ∷ ms) [] ys l k = absurd (omega (arith, l))
-join-masks (m ∷ ms) (x ∷ xs) [] l k = absurd (omega (arith, k))
 join-masks (m ∷ ms) (x ∷ xs) (y ∷ ys) l k =
     let e = join_bits m x y in
     let f = join-masks ms xs ys (omega (arith, l)) (omega (arith, k)) in cc
+join-masks ms xs ys l k = absurd (omega arith)
 
 pub can-join-masks : (ms ns xs ys : List Bool) → length ms ≡ length xs → length ns ≡ length ys → CanJoin (trits ms xs) (trits ns ys) → (ms ≡ ns) × (ones (unlike_bits ms xs ys) ≤ 1)
 can-join-masks ms ns xs ys l k h =
@@ -104,6 +97,5 @@ clear_bits false x = refl
 
 -- bits outside the mask don't matter
 pub clear-masks : (ms xs : List Bool) → trits ms xs ≡ trits ms (both_bits ms xs)
-clear-masks [] xs = refl
-clear-masks (m ∷ ms) [] = refl
 clear-masks (m ∷ ms) (x ∷ xs) = let e = clear_bits m x in let f = clear-masks ms xs in cc
+clear-masks ms xs = refl

@@ -1,9 +1,9 @@
 -- What a merged table is like.
 use Rattle.std.proofs.Common.{◌≡◌, ◌≤◌, ℕ, List, length, arith}
+use Rattle.field_boxes.specs.Alike.{IsTight}
 use Rattle.field_boxes.specs.Fields.{IsHeader}
 use Rattle.ternary_words.specs.Table.{Entry, answer}
 use Rattle.bit_merge.specs.Merge.{IsClosed, IsMerged}
-use Rattle.bit_merge.specs.Table.{IsTight}
 use Rattle.bit_merge.proofs.Alone.{tight-places, places-tight}
 use Rattle.bit_merge.proofs.Outcome.{some-merged, one-merged, merged-closed, merged-shorter, merged-alike, merged-tight}
 
@@ -22,5 +22,5 @@ is_fewer entries out h = omega (arith, merged-shorter h.0 entries out h.1)
 pub is_alike : (entries out : List Entry) (values : List ℕ) → IsMerged entries out → answer out values ≡ answer entries values
 is_alike entries out values h = merged-alike h.0 entries out values h.1
 
-pub is_tight : (entries out : List Entry) → IsMerged entries out → IsTight entries → IsTight out
+pub is_tight : (entries out : List Entry) → IsMerged entries out → IsTight answer entries → IsTight answer out
 is_tight entries out h t = tight-places IsHeader out (merged-tight IsHeader h.0 entries out h.1 (places-tight IsHeader entries t))

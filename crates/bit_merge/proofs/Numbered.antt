@@ -1,6 +1,5 @@
 -- The entries of words, with the number of their decision.
-use Rattle.std.proofs.Common.{◌≡◌, ◌∷◌, ◌++◌, ℕ, ◌+◌, ◌<◌, List, [], length, take, get_or, ap, refl, sym, ◌∙◌, arith, Option, Some, None}
-use Rattle.std.specs.Prelude.{zero, suc}
+use Rattle.std.proofs.Common.{◌≡◌, ◌∷◌, ◌++◌, ℕ, ◌+◌, ◌<◌, List, [], length, take, get_or, ap, refl, sym, ◌∙◌, arith, Option, Some, None, zero, suc}
 use Rattle.std.proofs.lemmas.List.{take_more}
 use Rattle.ternary_words.specs.declared.word.Word.{Word}
 use Rattle.ternary_words.specs.declared.entry.Entry.{Entry}

@@ -1,9 +1,7 @@
 -- Each table has one merged table.
-use Rattle.std.proofs.Common.{◌≡◌, ◌∷◌, ◌++◌, ◌⊎◌, ◌≤◌, ◌<◌, ◌+◌, ℕ, List, [], length, ap, refl, sym, ◌∙◌, subst, arith, inl, inr}
-use Rattle.std.specs.Prelude.{suc, zero}
-use Rattle.std.proofs.lemmas.List.{length-append}
+use Rattle.std.proofs.Common.{◌≡◌, ◌⊎◌, ◌≤◌, ◌<◌, ◌+◌, ℕ, List, length, ap, refl, sym, ◌∙◌, subst, arith, inl, inr, suc, zero, length-append}
 use Rattle.ternary_words.specs.Table.{Entry, answer}
-use Rattle.bit_merge.specs.Merge.{Pair, IsPair, IsClosed, IsFirstPair, joined, MergedIn, IsMerged}
+use Rattle.bit_merge.specs.Merge.{Pair, IsPair, IsClosed, IsFirstPair, joined, MergedIn}
 use Rattle.bit_merge.proofs.Joined.{joined-alike}
 use Rattle.bit_merge.proofs.Tight.{IsTight, joined-tight}
 use Rattle.bit_merge.proofs.First.{first_or, one-first}
@@ -51,11 +49,3 @@ merged-alike (suc n) entries out key h = merged-alike n (joined h.0) out key h.2
 pub merged-tight : (IsKey : List ℕ → Type 0) (n : ℕ) (entries out : List Entry) → MergedIn n entries out → IsTight IsKey entries → IsTight IsKey out
 merged-tight IsKey zero entries out h t = subst (IsTight IsKey) (sym h.1) t
 merged-tight IsKey (suc n) entries out h t = merged-tight IsKey n (joined h.0) out h.2 (joined-tight IsKey entries h.0 h.1.pair t)
-
-no_entries : (before : List Entry) (e : Entry) (after : List Entry) → [] ≡ before ++ (e ∷ after) → ⊥
-no_entries [] e after h = cc h
-no_entries (x ∷ before) e after h = cc h
-
--- a table without entries
-pub nothing-merged : IsMerged [] []
-nothing-merged = (zero, ((λ p h. no_entries p.before p.first (p.between ++ (p.second ∷ p.after)) h.parts), refl))

@@ -1,8 +1,5 @@
 -- Pairs by their places.
-use Rattle.std.proofs.Common.{◌≡◌, ◌∷◌, ◌++◌, ◌≤◌, ◌<◌, ◌+◌, ℕ, List, [], length, ap, refl, sym, ◌∙◌, subst, arith, Option, set}
-use Rattle.std.specs.Prelude.{suc, zero, slice_index_or}
-use Rattle.std.specs.List.{remove}
-use Rattle.std.proofs.lemmas.List.{length-append, append_assoc}
+use Rattle.std.proofs.Common.{◌≡◌, ◌∷◌, ◌++◌, ◌≤◌, ◌<◌, ◌+◌, ℕ, List, [], length, ap, refl, sym, ◌∙◌, subst, arith, Option, set, suc, zero, slice_index_or, remove, length-append, append_assoc}
 use Rattle.ternary_words.specs.Table.{Entry}
 use Rattle.bit_merge.specs.Merge.{CanJoin, AllDecide, Pair, IsPair, first_place, second_place, joint, joined}
 use Rattle.bit_merge.proofs.ByPlace.{ArePlaces}

@@ -1,8 +1,7 @@
 -- A table merged run by run.
-use Rattle.std.proofs.Common.{◌≡◌, ◌≢◌, ◌∷◌, ◌++◌, ℕ, ◌+◌, ◌-◌, ◌<◌, ◌≤◌, List, [], length, map, take, drop, get_or, ap, refl, sym, subst, ◌∙◌, arith, Some, None, inl, inr}
-use Rattle.std.specs.Prelude.{zero, suc, slice_index_or}
+use Rattle.std.proofs.Common.{◌≡◌, ◌≢◌, ◌∷◌, ◌++◌, ℕ, ◌+◌, ◌-◌, ◌<◌, ◌≤◌, List, [], length, map, take, drop, get_or, ap, refl, sym, subst, ◌∙◌, arith, Some, None, inl, inr, zero, suc, slice_index_or}
 use Rattle.std.proofs.lemmas.Bool.{cases_lt}
-use Rattle.std.proofs.lemmas.List.{length-append, length-map, length-take-le, length-drop, map-append, take_all}
+use Rattle.std.proofs.lemmas.List.{length-append, length-map, length-take-le, length-drop, map-append}
 use Rattle.field_boxes.specs.Names.{AreDistinct, name_at}
 use Rattle.ternary_words.specs.Limits.{AreNumbered}
 use Rattle.ternary_words.specs.Table as seen
@@ -10,10 +9,9 @@ use Rattle.ternary_words.specs.Views.{entry_of, word_of}
 use Rattle.ternary_words.specs.declared.entry.Entry.{Entry}
 use Rattle.bit_merge.specs.Merge.{IsMerged}
 use Rattle.bit_merge.specs.Slots.{Slots, entries_of, numbered_entries, LeadTo, AreDone}
-use Rattle.bit_merge.specs.Runs.{decision_at, AllHave, IsRunEnd, IsMergedTable, IsMergedRun}
+use Rattle.bit_merge.specs.Runs.{decision_at, AllHave, IsRunEnd, IsMergedRun}
 use Rattle.bit_merge.proofs.RunByRun.{AreApart, both-merged}
 use Rattle.bit_merge.proofs.SlotSteps.{done-merged}
-use Rattle.bit_merge.proofs.Outcome.{nothing-merged}
 use Rattle.bit_merge.proofs.Merged.{is_fewer}
 
 -- the words of a run, as they are merged
@@ -60,22 +58,6 @@ pub record ArePartly (entries : List Entry) (start : ℕ) (out : List Entry) : T
   pub merged : (names : List (List ℕ)) → AreDistinct names → AreNumbered (length names) entries → IsMerged (map (entry_of names) (take start entries)) (map (entry_of names) out)
   pub numbered : (count : ℕ) → AreNumbered count entries → AreNumbered count out
   pub fewer : length out ≤ start
-
-pub partly-start : (entries : List Entry) → ArePartly entries 0 []
-partly-start entries = record {
-  within = omega arith;
-  boundary = λ k e less. absurd (omega (arith, e));
-  merged = λ names distinct numbered. nothing-merged;
-  numbered = λ count numbered k d less. absurd (omega (arith, less));
-  fewer = omega arith;
-}
-
-pub partly-end : (entries : List Entry) (start : ℕ) (out : List Entry) → length entries ≤ start → ArePartly entries start out → IsMergedTable entries out
-partly-end entries start out long h = record {
-  merged = λ names distinct numbered. subst (λ l. IsMerged (map (entry_of names) l) (map (entry_of names) out)) (take_all start entries long) (h.merged names distinct numbered);
-  numbered = h.numbered;
-  fewer = omega (arith, h.fewer, h.within);
-}
 
 -- decisions by place
 pub decision-is : (entries : List Entry) (k : ℕ) (e : Entry) → k < length entries → e ≡ get_or entries k e → decision_at entries k ≡ e.decision
@@ -184,11 +166,10 @@ partly-next entries start decision end out more h r m =
           (numbered_run entries more decision count m.one (let e = r.one start (omega arith) r.more in let f = few_count count entries start numbered (omega (arith, r.more, r.within)) in omega (arith, e, f)));
       fewer =
           let none : List (List ℕ) = [] in
-          let le = is_fewer (map (entry_of none) run) (map (entry_of none) more) (m.merged none) in
           let x = length-map run (entry_of none) in
           let y = length-map more (entry_of none) in
           let z = length-append out more in
-          omega (arith, le, x, y, z, long, h.fewer, r.more);
+          omega (arith, is_fewer (map (entry_of none) run) (map (entry_of none) more) (m.merged none), x, y, z, long, h.fewer, r.more);
     }
 
 -- the next entry of the run

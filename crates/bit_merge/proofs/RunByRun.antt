@@ -1,7 +1,5 @@
 -- Lists that share no run are merged each by itself.
-use Rattle.std.proofs.Common.{◌≡◌, ◌∷◌, ◌++◌, ◌⊎◌, ◌≤◌, ◌<◌, ◌+◌, ℕ, List, [], length, ap, refl, sym, ◌∙◌, subst, arith, Option, inl, inr}
-use Rattle.std.specs.Prelude.{suc, zero, ◌≢◌}
-use Rattle.std.proofs.lemmas.List.{length-append, append_assoc}
+use Rattle.std.proofs.Common.{◌≡◌, ◌∷◌, ◌++◌, ◌⊎◌, ◌≤◌, ◌<◌, ◌+◌, ℕ, List, [], length, ap, refl, sym, ◌∙◌, subst, arith, Option, inl, inr, suc, zero, ◌≢◌, length-append, append_assoc}
 use Rattle.ternary_words.specs.Table.{Entry}
 use Rattle.bit_merge.specs.Merge.{AllDecide, Pair, IsPair, IsClosed, IsFirstPair, ComesFirst, joint, joined, MergedIn}
 use Rattle.bit_merge.proofs.Splits.{InFirst, InSecond, in_parts}
@@ -150,10 +148,9 @@ last_joined e (b ∷ before) x between y after all is = last_joined b.decision b
 
 apart_first : (before : List Entry) (x : Entry) (between : List Entry) (y : Entry) (after ys : List Entry) → AllDecide x.decision between → y.decision ≡ x.decision →
     AreApart (before ++ (x ∷ between ++ (y ∷ after))) ys → AreApart (before ++ (joint x y ∷ between ++ after)) ys
-apart_first [] x between y after [] all is apart = tt
-apart_first (b ∷ before) x between y after [] all is apart = tt
 apart_first [] x between y after (z ∷ ys) all is apart = λ e. apart (sym (last_second x.decision x.decision between y after refl all is) ∙ e)
 apart_first (b ∷ before) x between y after (z ∷ ys) all is apart = λ e. apart (sym (last_joined b.decision before x between y after all is) ∙ e)
+apart_first before x between y after ys all is apart = tt
 
 apart_second : (xs before : List Entry) (x : Entry) (between : List Entry) (y : Entry) (after : List Entry) →
     AreApart xs (before ++ (x ∷ between ++ (y ∷ after))) → AreApart xs (before ++ (joint x y ∷ between ++ after))

@@ -1,7 +1,5 @@
 -- A joining of words at places, and words that are merged.
-use Rattle.std.proofs.Common.{◌≡◌, ◌⊎◌, ◌∷◌, ℕ, ◌<◌, ◌≤◌, List, [], length, get_or, set, ap, sym, subst, ◌∙◌, arith, Option, Some, None, inl, inr}
-use Rattle.std.specs.Prelude.{suc, zero}
-use Rattle.std.specs.List.{remove}
+use Rattle.std.proofs.Common.{◌≡◌, ◌⊎◌, ◌∷◌, ℕ, ◌<◌, ◌≤◌, List, [], length, get_or, set, ap, sym, subst, ◌∙◌, arith, Option, Some, None, inl, inr, suc, zero, remove}
 use Rattle.std.proofs.lemmas.Bool.{cases_lt}
 use Rattle.ternary_words.specs.Table.{Entry}
 use Rattle.ternary_words.specs.Views.{word_of}

@@ -1,6 +1,5 @@
 -- Merging by places.
-use Rattle.std.proofs.Common.{◌≡◌, ◌⊎◌, ◌≤◌, ◌<◌, ℕ, List, refl, ap, sym, ◌∙◌, subst}
-use Rattle.std.specs.Prelude.{suc}
+use Rattle.std.proofs.Common.{◌≡◌, ◌⊎◌, ◌≤◌, ◌<◌, ℕ, List, refl, ap, sym, ◌∙◌, subst, suc}
 use Rattle.ternary_words.specs.Table.{Entry}
 use Rattle.bit_merge.specs.Merge.{Pair, IsFirstPair, MergedIn, first_place, second_place, joined}
 use Rattle.bit_merge.proofs.ByPlace.{ArePlaces, AreFirstPlaces, joined_at}

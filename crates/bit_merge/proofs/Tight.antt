@@ -1,7 +1,5 @@
 -- Joining two entries of a tight table leaves a tight table.
-use Rattle.std.proofs.Common.{◌≡◌, ◌∷◌, ◌++◌, ℕ, List, [], ap, refl, sym, ◌∙◌, subst, Bool, true, false, Some, Option, inl, inr}
-use Rattle.std.specs.Prelude.{◌≢◌, cond, find}
-use Rattle.std.proofs.lemmas.List.{append_assoc}
+use Rattle.std.proofs.Common.{◌≡◌, ◌∷◌, ◌++◌, ℕ, List, [], ap, refl, sym, ◌∙◌, subst, Bool, true, false, Some, Option, inl, inr, ◌≢◌, cond, find, append_assoc}
 use Rattle.ternary_words.specs.Table.{Entry, entry_matches, answer}
 use Rattle.bit_merge.specs.Merge.{CanJoin, AllDecide, Pair, IsPair, joint, joined}
 use Rattle.bit_merge.proofs.Splits.{InFirst, InSecond, in_parts}
@@ -65,79 +63,69 @@ without_both (b ∷ before) x between y after key is h =
     without_step (entry_matches key b) b (find (entry_matches key) (before ++ (between ++ after))) (find (entry_matches key) (before ++ (between ++ (y ∷ after))))
     (find (entry_matches key) (before ++ two x between y after)) (without_both before x between y after key is) h
 
--- the join
-joint_case : (IsKey : List ℕ → Type 0) (before : List Entry) (x : Entry) (between : List Entry) (y : Entry) (after : List Entry) → IsTwo x between y →
-    IsTight IsKey (before ++ two x between y after) → Changes IsKey (before ++ (between ++ after)) (before ++ one x between y after)
-joint_case IsKey before x between y after is t =
-    alter IsKey (before ++ (between ++ (y ∷ after))) (before ++ two x between y after) (before ++ (between ++ after)) (before ++ one x between y after)
-    (λ key h. without_both before x between y after key is (h ∙ alike before x between y after key is))
-    (t before x (between ++ (y ∷ after)) refl)
+module _ (IsKey : List ℕ → Type 0) (before : List Entry) (x : Entry) (between : List Entry) (y : Entry) (after : List Entry) (is : IsTwo x between y) where
+  -- any other entry, where the table without it has the same two to join
+  other_case : (us xs : List Entry) → ((key : List ℕ) → answer us key ≡ answer xs key) → Changes IsKey xs (before ++ two x between y after) → Changes IsKey us (before ++ one x between y after)
+  other_case us xs f c =
+      alter IsKey xs (before ++ two x between y after) us (before ++ one x between y after)
+      (λ key h. sym (f key) ∙ h ∙ alike before x between y after key is) c
 
--- any other entry, where the table without it has the same two to join
-other_case : (IsKey : List ℕ → Type 0) (before : List Entry) (x : Entry) (between : List Entry) (y : Entry) (after us xs : List Entry) → IsTwo x between y →
-    ((key : List ℕ) → answer us key ≡ answer xs key) → Changes IsKey xs (before ++ two x between y after) → Changes IsKey us (before ++ one x between y after)
-other_case IsKey before x between y after us xs is f c =
-    alter IsKey xs (before ++ two x between y after) us (before ++ one x between y after)
-    (λ key h. sym (f key) ∙ h ∙ alike before x between y after key is) c
+  module _ (t : IsTight IsKey (before ++ two x between y after)) where
+    -- the join
+    joint_case : Changes IsKey (before ++ (between ++ after)) (before ++ one x between y after)
+    joint_case =
+        alter IsKey (before ++ (between ++ (y ∷ after))) (before ++ two x between y after) (before ++ (between ++ after)) (before ++ one x between y after)
+        (λ key h. without_both before x between y after key is (h ∙ alike before x between y after key is))
+        (t before x (between ++ (y ∷ after)) refl)
 
-before_case : (IsKey : List ℕ → Type 0) (before : List Entry) (x : Entry) (between : List Entry) (y : Entry) (after b : List Entry) (e : Entry) (a : List Entry) → IsTwo x between y →
-    IsTight IsKey (before ++ two x between y after) → InFirst before (one x between y after) b e a → Changes IsKey (b ++ a) (before ++ one x between y after)
-before_case IsKey before x between y after b e a is t i =
-    let X = two x between y after in
-    other_case IsKey before x between y after (b ++ a) (b ++ (i.rest ++ X)) is
-    (λ key. ap (λ l. answer (b ++ l) key) i.then ∙ behind b (i.rest ++ one x between y after) (i.rest ++ X) key (alike i.rest x between y after key is))
-    (t b e (i.rest ++ X) (ap (λ l. l ++ X) i.first ∙ append_assoc b (e ∷ i.rest) X))
+    before_case : (b : List Entry) (e : Entry) (a : List Entry) → InFirst before (one x between y after) b e a → Changes IsKey (b ++ a) (before ++ one x between y after)
+    before_case b e a i =
+        let X = two x between y after in
+        other_case (b ++ a) (b ++ (i.rest ++ X))
+        (λ key. ap (λ l. answer (b ++ l) key) i.then ∙ behind b (i.rest ++ one x between y after) (i.rest ++ X) key (alike i.rest x between y after key is))
+        (t b e (i.rest ++ X) (ap (λ l. l ++ X) i.first ∙ append_assoc b (e ∷ i.rest) X))
 
-between_case : (IsKey : List ℕ → Type 0) (before : List Entry) (x : Entry) (between : List Entry) (y : Entry) (after start : List Entry) (e : Entry) (a : List Entry) → IsTwo x between y →
-    IsTight IsKey (before ++ two x between y after) → InFirst between after start e a →
-    Changes IsKey (before ++ (joint x y ∷ start ++ a)) (before ++ one x between y after)
-between_case IsKey before x between y after start e a is t i =
-    other_case IsKey before x between y after (before ++ (joint x y ∷ start ++ a)) (before ++ (x ∷ start ++ (i.rest ++ (y ∷ after)))) is
-    (λ key.
-    ap (λ l. answer (before ++ (joint x y ∷ start ++ l)) key) i.then
-    ∙ ap (λ l. answer (before ++ (joint x y ∷ l)) key) (sym (append_assoc start i.rest after))
-    ∙ alike before x (start ++ i.rest) y after key record { all = all-left x.decision start e i.rest (subst (AllDecide x.decision) i.first is.all); second = is.second; joinable = is.joinable }
-    ∙ ap (λ l. answer (before ++ (x ∷ l)) key) (append_assoc start i.rest (y ∷ after)))
-    (subst (λ l. Changes IsKey l (before ++ two x between y after)) (append_assoc before (x ∷ start) (i.rest ++ (y ∷ after)))
-    (t (before ++ (x ∷ start)) e (i.rest ++ (y ∷ after))
-    (ap (λ l. before ++ (x ∷ l ++ (y ∷ after))) i.first ∙ ap (λ l. before ++ (x ∷ l)) (append_assoc start (e ∷ i.rest) (y ∷ after))
-    ∙ sym (append_assoc before (x ∷ start) (e ∷ i.rest ++ (y ∷ after))))))
+    between_case : (start : List Entry) (e : Entry) (a : List Entry) → InFirst between after start e a → Changes IsKey (before ++ (joint x y ∷ start ++ a)) (before ++ one x between y after)
+    between_case start e a i =
+        other_case (before ++ (joint x y ∷ start ++ a)) (before ++ (x ∷ start ++ (i.rest ++ (y ∷ after))))
+        (λ key.
+        ap (λ l. answer (before ++ (joint x y ∷ start ++ l)) key) i.then
+        ∙ ap (λ l. answer (before ++ (joint x y ∷ l)) key) (sym (append_assoc start i.rest after))
+        ∙ alike before x (start ++ i.rest) y after key record { all = all-left x.decision start e i.rest (subst (AllDecide x.decision) i.first is.all); second = is.second; joinable = is.joinable }
+        ∙ ap (λ l. answer (before ++ (x ∷ l)) key) (append_assoc start i.rest (y ∷ after)))
+        (subst (λ l. Changes IsKey l (before ++ two x between y after)) (append_assoc before (x ∷ start) (i.rest ++ (y ∷ after)))
+        (t (before ++ (x ∷ start)) e (i.rest ++ (y ∷ after))
+        (ap (λ l. before ++ (x ∷ l ++ (y ∷ after))) i.first ∙ ap (λ l. before ++ (x ∷ l)) (append_assoc start (e ∷ i.rest) (y ∷ after))
+        ∙ sym (append_assoc before (x ∷ start) (e ∷ i.rest ++ (y ∷ after))))))
 
-after_case : (IsKey : List ℕ → Type 0) (before : List Entry) (x : Entry) (between : List Entry) (y : Entry) (after start : List Entry) (e : Entry) (a : List Entry) → IsTwo x between y →
-    IsTight IsKey (before ++ two x between y after) → InSecond between after start e a →
-    Changes IsKey (before ++ (joint x y ∷ start ++ a)) (before ++ one x between y after)
-after_case IsKey before x between y after start e a is t i =
-    other_case IsKey before x between y after (before ++ (joint x y ∷ start ++ a)) (before ++ two x between y (i.start ++ a)) is
-    (λ key.
-    ap (λ l. answer (before ++ (joint x y ∷ l ++ a)) key) i.first
-    ∙ ap (λ l. answer (before ++ (joint x y ∷ l)) key) (append_assoc between i.start a)
-    ∙ alike before x between y (i.start ++ a) key is)
-    (subst (λ l. Changes IsKey l (before ++ two x between y after)) (append_assoc before (two x between y i.start) a ∙ ap (λ l. before ++ (x ∷ l)) (append_assoc between (y ∷ i.start) a))
-    (t (before ++ two x between y i.start) e a
-    (ap (λ l. before ++ two x between y l) i.then ∙ ap (λ l. before ++ (x ∷ l)) (sym (append_assoc between (y ∷ i.start) (e ∷ a)))
-    ∙ sym (append_assoc before (two x between y i.start) (e ∷ a)))))
+    after_case : (start : List Entry) (e : Entry) (a : List Entry) → InSecond between after start e a → Changes IsKey (before ++ (joint x y ∷ start ++ a)) (before ++ one x between y after)
+    after_case start e a i =
+        other_case (before ++ (joint x y ∷ start ++ a)) (before ++ two x between y (i.start ++ a))
+        (λ key.
+        ap (λ l. answer (before ++ (joint x y ∷ l ++ a)) key) i.first
+        ∙ ap (λ l. answer (before ++ (joint x y ∷ l)) key) (append_assoc between i.start a)
+        ∙ alike before x between y (i.start ++ a) key is)
+        (subst (λ l. Changes IsKey l (before ++ two x between y after)) (append_assoc before (two x between y i.start) a ∙ ap (λ l. before ++ (x ∷ l)) (append_assoc between (y ∷ i.start) a))
+        (t (before ++ two x between y i.start) e a
+        (ap (λ l. before ++ two x between y l) i.then ∙ ap (λ l. before ++ (x ∷ l)) (sym (append_assoc between (y ∷ i.start) (e ∷ a)))
+        ∙ sym (append_assoc before (two x between y i.start) (e ∷ a)))))
 
-later_case : (IsKey : List ℕ → Type 0) (before : List Entry) (x : Entry) (between : List Entry) (y : Entry) (after start : List Entry) (e : Entry) (a : List Entry) → IsTwo x between y →
-    IsTight IsKey (before ++ two x between y after) → one x between y after ≡ start ++ (e ∷ a) → Changes IsKey (before ++ (start ++ a)) (before ++ one x between y after)
-later_case IsKey before x between y after [] e a is t h =
-    let k : between ++ after ≡ a = cc h in
-    subst (λ l. Changes IsKey (before ++ l) (before ++ one x between y after)) k (joint_case IsKey before x between y after is t)
-later_case IsKey before x between y after (s ∷ start) e a is t h =
-    let k : between ++ after ≡ start ++ (e ∷ a) = cc h in
-    let m : joint x y ≡ s = cc h in
-    subst (λ l. Changes IsKey (before ++ (l ∷ start ++ a)) (before ++ one x between y after)) m
-    (elim (in_parts between after start e a k) [
-      | inl i ↦ between_case IsKey before x between y after start e a is t i
-      | inr i ↦ after_case IsKey before x between y after start e a is t i
-    ])
+    later_case : (start : List Entry) (e : Entry) (a : List Entry) → one x between y after ≡ start ++ (e ∷ a) → Changes IsKey (before ++ (start ++ a)) (before ++ one x between y after)
+    later_case [] e a h =
+        let k : between ++ after ≡ a = cc h in subst (λ l. Changes IsKey (before ++ l) (before ++ one x between y after)) k joint_case
+    later_case (s ∷ start) e a h =
+        let k : between ++ after ≡ start ++ (e ∷ a) = cc h in
+        let m : joint x y ≡ s = cc h in
+        subst (λ l. Changes IsKey (before ++ (l ∷ start ++ a)) (before ++ one x between y after)) m
+        (elim (in_parts between after start e a k) [ inl i ↦ between_case start e a i | inr i ↦ after_case start e a i ])
 
 pub joined-tight : (IsKey : List ℕ → Type 0) (entries : List Entry) (p : Pair) → IsPair entries p → IsTight IsKey entries → IsTight IsKey (joined p)
 joined-tight IsKey entries p h t b e a k =
     let is : IsTwo p.first p.between p.second = record { all = h.between; second = h.second; joinable = h.joinable } in
     let u = subst (IsTight IsKey) h.parts t in
     elim (in_parts p.before (one p.first p.between p.second p.after) b e a k) [
-      | inl i ↦ before_case IsKey p.before p.first p.between p.second p.after b e a is u i
+      | inl i ↦ before_case IsKey p.before p.first p.between p.second p.after is u b e a i
       | inr i ↦ subst (λ l. Changes IsKey l (joined p))
           (sym (append_assoc p.before i.start a) ∙ ap (λ l. l ++ a) (sym i.first))
-          (later_case IsKey p.before p.first p.between p.second p.after i.start e a is u i.then)
+          (later_case IsKey p.before p.first p.between p.second p.after is u i.start e a i.then)
     ]

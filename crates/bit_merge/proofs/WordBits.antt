@@ -1,58 +1,39 @@
 -- Words as two numbers: which can be joined, and what their join is.
-use Rattle.std.proofs.Common.{◌≡◌, ◌∷◌, ◌⊎◌, ℕ, zero, suc, ◌+◌, ◌*◌, ◌%◌, ◌^◌, ◌<◌, ◌≤◌, List, min, length, ap, refl, sym, subst, ◌∙◌, arith, inl, inr}
-use Rattle.std.specs.Prelude.{nat_eq, ◌&&◌, not, cond, bit_and, bit_xor}
+use Rattle.std.proofs.Common.{◌≡◌, ◌∷◌, ◌⊎◌, ℕ, zero, suc, ◌+◌, ◌*◌, ◌%◌, ◌^◌, ◌<◌, ◌≤◌, List, min, length, ap, refl, sym, subst, ◌∙◌, arith, inl, inr, nat_eq, ◌&&◌, not, cond, bit_and, bit_xor}
 use Rattle.std.specs.Bool.{beq}
 use Rattle.std.specs.Int.{bit_at}
 use Rattle.std.specs.Int.Bits.{xor_self, xor_zero_l, xor_assoc, and_self}
 use Rattle.std.proofs.lemmas.Nat.{and_comm, and_assoc, and_le_r, xor_lt, mod-pow-add}
-use Rattle.std.proofs.lemmas.Nat.Bits.{bit_at_and, bit_at_xor, bit_at-lt, bit_at-zero, bit_at-pow_same, bit_at-pow_other, same_from_bits, same_from_bits_below}
+use Rattle.std.proofs.lemmas.Nat.Bits.{bit_at_and, bit_at_xor, bit_at-lt, bit_at-zero, bit_at-pow_same, bit_at-pow_other, same_from_bits}
 use Rattle.std.proofs.Math.Nat.{mod-eq_of_lt}
 use Rattle.std.proofs.Math.Numerals.{one-add}
 use Rattle.std.proofs.lemmas.Bool.Decides.{eqb_tells}
-use Rattle.std.proofs.lemmas.Bool.{cases_lt}
 use Rattle.field_boxes.specs.Bits.{bits}
 use Rattle.field_boxes.proofs.Bits.{length-bits}
 use Rattle.ternary_words.specs.Word.{Trit, trits}
 use Rattle.bit_merge.specs.Merge.{CanJoin, join}
 use Rattle.bit_merge.specs.Near.{IsNear}
 use Rattle.bit_merge.proofs.Masks.{unlike_bits, without_bits, both_bits, ones, can-join-masks, masks-can-join, join-masks, clear-masks}
+use Rattle.ternary_words.proofs.Parted.{same_bits}
 
 -- one bit of each
 both_bit : (a b : ℕ) → a < 2 → b < 2 → (nat_eq a 1 && nat_eq b 1) ≡ nat_eq (min a b) 1
-both_bit zero zero h k = refl
-both_bit zero (suc zero) h k = refl
-both_bit (suc zero) zero h k = refl
-both_bit (suc zero) (suc zero) h k = refl
 both_bit (suc (suc a)) b h k = absurd (omega arith)
 both_bit zero (suc (suc b)) h k = absurd (omega arith)
 both_bit (suc zero) (suc (suc b)) h k = absurd (omega arith)
+both_bit a b h k = refl
 
 unlike_bit : (a b : ℕ) → a < 2 → b < 2 → not (beq (nat_eq a 1) (nat_eq b 1)) ≡ nat_eq ((a + b) % 2) 1
-unlike_bit zero zero h k = refl
-unlike_bit zero (suc zero) h k = refl
-unlike_bit (suc zero) zero h k = refl
-unlike_bit (suc zero) (suc zero) h k = refl
 unlike_bit (suc (suc a)) b h k = absurd (omega arith)
 unlike_bit zero (suc (suc b)) h k = absurd (omega arith)
 unlike_bit (suc zero) (suc (suc b)) h k = absurd (omega arith)
+unlike_bit a b h k = refl
 
 without_bit : (m u : ℕ) → m < 2 → u < 2 → min m u ≡ u → (nat_eq m 1 && not (nat_eq u 1)) ≡ nat_eq ((m + u) % 2) 1
 without_bit zero zero h k e = refl
-without_bit zero (suc zero) h k e = absurd (omega arith)
 without_bit (suc zero) zero h k e = refl
 without_bit (suc zero) (suc zero) h k e = refl
-without_bit (suc (suc m)) u h k e = absurd (omega arith)
-without_bit zero (suc (suc u)) h k e = absurd (omega arith)
-without_bit (suc zero) (suc (suc u)) h k e = absurd (omega arith)
-
-same_bit : (a b : ℕ) → a < 2 → b < 2 → nat_eq a 1 ≡ nat_eq b 1 → a ≡ b
-same_bit zero zero h k e = refl
-same_bit zero (suc zero) h k e = absurd (cc e)
-same_bit (suc zero) zero h k e = absurd (cc e)
-same_bit (suc zero) (suc zero) h k e = refl
-same_bit (suc (suc a)) b h k e = absurd (omega (arith, h))
-same_bit zero (suc (suc b)) h k e = absurd (omega (arith, k))
-same_bit (suc zero) (suc (suc b)) h k e = absurd (omega (arith, k))
+without_bit m u h k e = absurd (omega arith)
 
 -- the bits of a & b
 both-number : (n a b : ℕ) → both_bits (bits n a) (bits n b) ≡ bits n (bit_and a b)
@@ -78,22 +59,6 @@ without-number (suc n) m u h =
     let within : min (bit_at m n) (bit_at u n) ≡ bit_at u n = sym (bit_at_and m u n) ∙ ap (λ x. bit_at x n) h in
     let e = without_bit (bit_at m n) (bit_at u n) (bit_at-lt m n) (bit_at-lt u n) within ∙ ap (λ x. nat_eq x 1) (sym (bit_at_xor m u n)) in
     ap (λ t. t ∷ without_bits (bits n m) (bits n u)) e ∙ ap (λ l. nat_eq (bit_at (bit_xor m u) n) 1 ∷ l) (without-number n m u h)
-
--- bits tell the number
-same-bits : (n a b : ℕ) → bits n a ≡ bits n b → (i : ℕ) → i < n → bit_at a i ≡ bit_at b i
-same-bits zero a b e i h = absurd (omega (arith, h))
-same-bits (suc n) a b e i h =
-    let top : nat_eq (bit_at a n) 1 ≡ nat_eq (bit_at b n) 1 = cc e in
-    let low : bits n a ≡ bits n b = cc e in
-    elim (cases_lt i n) [
-      | inl less ↦ same-bits n a b low i less
-      | inr more ↦
-          let at : n ≡ i = omega (arith, h, more) in
-          subst (λ k. bit_at a k ≡ bit_at b k) at (same_bit (bit_at a n) (bit_at b n) (bit_at-lt a n) (bit_at-lt b n) top)
-    ]
-
-same-number : (n a b : ℕ) → a < 2 ^ n → b < 2 ^ n → bits n a ≡ bits n b → a ≡ b
-same-number n a b h k e = same_from_bits_below n a b h k (same-bits n a b e)
 
 -- numbers of no one or of one one
 split_top : (n x : ℕ) → x % 2 ^ suc n ≡ bit_at x n * 2 ^ n + x % 2 ^ n
@@ -182,7 +147,7 @@ near_step n m a b u small e w (inr h) =
 pub join-near : (n m a k b : ℕ) → m < 2 ^ n → k < 2 ^ n → bit_and a m ≡ a → bit_and b k ≡ b → CanJoin (word n m a) (word n k b) → IsNear n m a k b
 join-near n m a k b hm hk ha hb h =
     let j = can-join-masks (bits n m) (bits n k) (bits n a) (bits n b) (same_lengths n m a) (same_lengths n k b) h in
-    let e : m ≡ k = same-number n m k hm hk j.0 in
+    let e : m ≡ k = same_bits n m k hm hk j.0 in
     let b_in : bit_and b m ≡ b = ap (bit_and b) e ∙ hb in
     let w = differ-within m a b ha b_in in
     let one : ones (bits n (bit_xor a b)) ≤ 1 =
@@ -222,9 +187,7 @@ join-number n m a b ha hb =
 -- the join as a word of the code
 pub join-small : (n m a b : ℕ) → m < 2 ^ n → bit_and a m ≡ a → bit_and b m ≡ b → bit_xor m (bit_xor a b) < 2 ^ n
 join-small n m a b small ha hb =
-    let la = and_le_r a m in
-    let lb = and_le_r b m in
-    xor_lt n m (bit_xor a b) small (xor_lt n a b (omega (arith, la, ha, small)) (omega (arith, lb, hb, small)))
+    xor_lt n m (bit_xor a b) small (xor_lt n a b (omega (arith, and_le_r a m, ha, small)) (omega (arith, and_le_r b m, hb, small)))
 
 pub join-masked : (a k : ℕ) → bit_and (bit_and a k) k ≡ bit_and a k
 join-masked a k = and_assoc k a k ∙ ap (bit_and a) (and_self k)
@@ -242,6 +205,5 @@ join-is n m a k b hm hk ha hb h =
 
 pub join-fits : (n m a k b : ℕ) → m < 2 ^ n → k < 2 ^ n → bit_and a m ≡ a → bit_and b k ≡ b → CanJoin (word n m a) (word n k b) → bit_xor m (bit_xor a b) < 2 ^ n
 join-fits n m a k b hm hk ha hb h =
-    let e = one-mask n m a k b hm hk ha hb h in
-    let b_in : bit_and b m ≡ b = ap (bit_and b) (sym e) ∙ hb in
+    let b_in : bit_and b m ≡ b = ap (bit_and b) (sym (one-mask n m a k b hm hk ha hb h)) ∙ hb in
     join-small n m a b hm ha b_in

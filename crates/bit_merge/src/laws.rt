@@ -1,9 +1,8 @@
 //! Laws of the definitions, for whoever relies on them. The functions do nothing.
 ghost use Rattle.std.specs.Prelude.{◌≡◌, ◌≤◌, ℕ, List, length};
-ghost use Rattle.field_boxes.specs.Fields.{IsHeader};
+ghost use Rattle.field_boxes.specs.Alike.{IsTight};
 ghost use Rattle.ternary_words.specs.Table.{Entry, answer};
 ghost use Rattle.bit_merge.specs.Merge.{IsClosed, IsMerged};
-ghost use Rattle.bit_merge.specs.Table.{IsTight};
 
 /// Each table has one merged table, which is closed, no longer, answers alike, and is tight where the table is.
 pub fn one_merged()
@@ -12,5 +11,5 @@ pub fn one_merged()
     ensures closed { (entries out : List Entry) → IsMerged entries out → IsClosed out }
     ensures fewer { (entries out : List Entry) → IsMerged entries out → length out ≤ length entries }
     ensures alike { (entries out : List Entry) (values : List ℕ) → IsMerged entries out → answer out values ≡ answer entries values }
-    ensures tight { (entries out : List Entry) → IsMerged entries out → IsTight entries → IsTight out }
+    ensures tight { (entries out : List Entry) → IsMerged entries out → IsTight answer entries → IsTight answer out }
 {}

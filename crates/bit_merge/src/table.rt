@@ -1,10 +1,11 @@
 //! The call that merges a table.
 
 ghost use Rattle.std.specs.Prelude.{◌≡◌, ◌≤◌, ℕ, List, IfOk, map, vec_len};
+ghost use Rattle.field_boxes.specs.Alike.{IsTight};
 ghost use Rattle.ternary_words.specs.Limits.{AreNumbered};
 ghost use Rattle.ternary_words.specs.Table.{answer};
 ghost use Rattle.bit_merge.specs.Merge.{IsClosed, IsMerged};
-ghost use Rattle.bit_merge.specs.Table.{IsTight, UnderNames};
+ghost use Rattle.bit_merge.specs.Table.{UnderNames};
 
 use crate::runs::merge_runs;
 use razor_base::Memory;
@@ -20,7 +21,7 @@ pub fn merge(alloc: Global, entries: Vec<Entry>) -> Result<Vec<Entry>, Memory>
     ensures closed { IfOk result (λ out. UnderNames entries.items (λ view. IsClosed (map view out.items))) }
     ensures alike { IfOk result (λ out. UnderNames entries.items (λ view.
         (values : List ℕ) → answer (map view out.items) values ≡ answer (map view entries.items) values)) }
-    ensures tight { IfOk result (λ out. UnderNames entries.items (λ view. IsTight (map view entries.items) → IsTight (map view out.items))) }
+    ensures tight { IfOk result (λ out. UnderNames entries.items (λ view. IsTight answer (map view entries.items) → IsTight answer (map view out.items))) }
     ensures fewer { IfOk result (λ out. vec_len out ≤ vec_len entries) }
     ensures numbered { IfOk result (λ out. (count : ℕ) → AreNumbered count entries.items → AreNumbered count out.items) }
 {

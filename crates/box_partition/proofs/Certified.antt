@@ -1,6 +1,5 @@
 -- The coarsest rows that claim the first rule and the first entry are the certificate of a list and a table that agree.
-use Rattle.std.proofs.Common.{◌≡◌, ◌∷◌, ◌++◌, ℕ, suc, ◌+◌, ◌-◌, ◌≤◌, List, [], Bool, Some, None, length, map, refl, ap, sym, subst, ◌∙◌, arith}
-use Rattle.std.specs.Prelude.{Option, All, position, vec_len}
+use Rattle.std.proofs.Common.{◌≡◌, ◌∷◌, ◌++◌, ℕ, suc, ◌+◌, ◌-◌, ◌≤◌, List, [], Bool, Some, None, length, map, refl, ap, sym, subst, ◌∙◌, arith, Option, All, position, vec_len}
 use Rattle.std.proofs.lemmas.List.Quantifiers.{position-Some}
 use Rattle.std.proofs.lemmas.List.Elements.{All-cons, All-tail}
 use Rattle.field_boxes.specs.Classifier.{Interval}
@@ -11,8 +10,10 @@ use Rattle.filter_reader.specs.declared.list.RuleList.{RuleList}
 use Rattle.ternary_words.specs.declared.table.Table.{Table}
 use Rattle.ternary_words.specs.Views as words
 use Rattle.node_store.specs.Diagram.{Node, answer}
-use Rattle.partition_check.specs.Agreement.{name_decided, name_answered, Agree}
-use Rattle.partition_check.specs.Boxes.{ends, IsBox, LiesIn}
+use Rattle.filter_reader.specs.Lists.{name_decided}
+use Rattle.partition_check.specs.Agreement.{name_answered, Agree}
+use Rattle.partition_check.specs.Boxes.{ends, IsBox}
+use Rattle.field_boxes.specs.Boxes.{LiesIn}
 use Rattle.partition_check.specs.Checking.{Statement, IsNumber}
 use Rattle.partition_check.specs.Claims.{place_of, rule_matches, entry_matches, rule_decision, entry_decision}
 use Rattle.partition_check.specs.Good.{IsRight}
@@ -54,9 +55,8 @@ lows box = map (λ (i : Interval). i.lo) box
 
 lows-lie : (gs : List ℕ) (box : List Interval) → IsBox gs box → LiesIn box (lows box)
 lows-lie [] [] h = tt
-lows-lie [] (i ∷ box) h = absurd h
-lows-lie (g ∷ gs) [] h = absurd h
 lows-lie (g ∷ gs) (i ∷ box) h = (omega arith, h.0, lows-lie gs box h.2)
+lows-lie gs box h = absurd h
 
 -- what is claimed of all headers is claimed by rows, whichever function says it
 claimed-alike : (f h : List ℕ → Claims) (rows : List Statement) → ((header : List ℕ) → IsHeader header → f header ≡ h header) → AreBoxes ends rows → AreRight f rows → AreRight h rows

@@ -1,11 +1,11 @@
 -- There is one coarsest partition with given claims.
-use Rattle.std.proofs.Common.{◌≡◌, ◌∷◌, ℕ, List, [], ◌++◌, ◌≤◌, ◌<◌, arith, ap, refl, sym, ◌∙◌, subst}
-use Rattle.std.specs.Prelude.{suc, zero, map}
+use Rattle.std.proofs.Common.{◌≡◌, ◌∷◌, ℕ, List, [], ◌++◌, ◌≤◌, ◌<◌, arith, ap, refl, sym, ◌∙◌, subst, suc, zero, map}
 use Rattle.field_boxes.specs.Classifier.{Interval}
-use Rattle.partition_check.specs.Boxes.{LiesIn}
+use Rattle.field_boxes.specs.Boxes.{LiesIn}
 use Rattle.partition_check.specs.Partition.{Group, rows_of, AreGroups}
 use Rattle.partition_check.specs.Checking.{Statement}
 use Rattle.box_partition.specs.Coarsest.{Claims, claims_of, put_interval, Differ, IsCoarsest, AreClaimed}
+use Rattle.field_boxes.proofs.SameValues.{same_interval}
 
 pub groups-bound : {X : Type 0} (P : List X → Type 0) (lo g : ℕ) (groups : List (Group X)) → AreGroups P lo g groups → lo ≤ suc g
 groups-bound P lo g [] h = omega arith
@@ -57,11 +57,8 @@ pub differ-rest : (x : Group Statement) (xs : List (Group Statement)) → Differ
 differ-rest x [] d = tt
 differ-rest x (y ∷ xs) d = d.1
 
-order : (a b : ℕ) → (a < b → ⊥) → (b < a → ⊥) → a ≡ b
+pub order : (a b : ℕ) → (a < b → ⊥) → (b < a → ⊥) → a ≡ b
 order a b f g = grind (arith, f, g)
-
-pub interval-same : (i j : Interval) → i.lo ≡ j.lo → i.hi ≡ j.hi → i ≡ j
-interval-same i j p q = ap (λ (n : ℕ). let r : Interval = record { lo = n; hi = i.hi } in r) p ∙ ap (λ (n : ℕ). let r : Interval = record { lo = j.lo; hi = n } in r) q
 
 group-same : {X : Type 0} (x y : Group X) → x.first ≡ y.first → x.rest ≡ y.rest → x ≡ y
 group-same {X} x y p q =
@@ -77,7 +74,7 @@ groups-same P f lo g (x ∷ xs) (y ∷ ys) one hx hy dx dy l m =
     let ends = order x.first.hi y.first.hi (no-earlier P f lo g x y xs ys one hx hy dx l m e) (no-earlier P f lo g y x ys xs one hy hx dy m l (sym e)) in
     let tail = groups-same P f (suc x.first.hi) g xs ys one hx.4 (subst (λ n. AreGroups P (suc n) g ys) (sym ends) hy.4) (differ-rest x xs dx) (differ-rest y ys dy)
     (claimed-more f x.first x.rest (rows_of put_interval xs) l) (claimed-more f y.first y.rest (rows_of put_interval ys) m) in
-    ap (λ z. z ∷ xs) (group-same x y (interval-same x.first y.first (hx.1 ∙ sym hy.1) ends) e) ∙ ap (λ zs. y ∷ zs) tail
+    ap (λ z. z ∷ xs) (group-same x y (same_interval x.first y.first (hx.1 ∙ sym hy.1) ends) e) ∙ ap (λ zs. y ∷ zs) tail
 
 pub row-same : (r s : Statement) → r.box ≡ s.box → claims_of r ≡ claims_of s → r ≡ s
 row-same r s p q =

@@ -1,6 +1,5 @@
 -- How the writing of the certificate ends.
-use Rattle.std.proofs.Common.{◌≡◌, ℕ, List, [], Bool, Option, Result, Ok, Err, ap, ◌∙◌}
-use Rattle.std.specs.Prelude.{IsErrAnd, IfOk, position, length}
+use Rattle.std.proofs.Common.{◌≡◌, ℕ, List, [], Bool, Option, Result, Ok, Err, ap, ◌∙◌, IsErrAnd, IfOk, position, length}
 use Rattle.field_boxes.specs.declared.rule.Rule.{Rule}
 use Rattle.field_boxes.specs.Fields.{stated, IsHeader}
 use Rattle.field_boxes.specs.Rules as rules

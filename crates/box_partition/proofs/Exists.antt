@@ -1,12 +1,12 @@
 -- There is a coarsest partition for any claims.
-use Rattle.std.proofs.Common.{◌≡◌, ◌∷◌, ℕ, List, [], ◌+◌, ◌++◌, ◌≤◌, ◌<◌, arith, ap, refl, ◌∙◌, subst, inl, inr}
-use Rattle.std.specs.Prelude.{◌⊎◌, ◌≢◌, suc, zero, length, map, Option, Some, None}
+use Rattle.std.proofs.Common.{◌≡◌, ◌∷◌, ℕ, List, [], ◌+◌, ◌++◌, ◌≤◌, ◌<◌, arith, ap, refl, ◌∙◌, subst, inl, inr, ◌⊎◌, ◌≢◌, suc, zero, length, map, Option, Some, None}
 use Rattle.field_boxes.specs.Classifier.{Interval}
-use Rattle.partition_check.specs.Boxes.{LiesIn}
+use Rattle.field_boxes.specs.Boxes.{LiesIn}
 use Rattle.partition_check.specs.Partition.{Group, rows_of, AreGroups}
 use Rattle.partition_check.specs.Checking.{Statement}
 use Rattle.box_partition.specs.Coarsest.{Claims, claims_of, put_interval, Differ, IsCoarsest, AreClaimed}
-use Rattle.box_partition.proofs.Coarse.{starting, AreRight, right-claimed, interval-same, row-same}
+use Rattle.box_partition.proofs.Coarse.{starting, AreRight, right-claimed, row-same}
+use Rattle.field_boxes.proofs.SameValues.{same_interval}
 use Rattle.box_partition.proofs.Made.{EachRight, groups-right}
 
 -- whether two values are one is decided
@@ -18,18 +18,16 @@ number-told a b = grind arith
 
 pub list-told : {X : Type 0} → Told X → Told (List X)
 list-told told [] [] = inl refl
-list-told told [] (y ∷ ys) = inr (λ e. cc)
-list-told told (x ∷ xs) [] = inr (λ e. cc)
 list-told told (x ∷ xs) (y ∷ ys) = elim (told x y) [
   | inl p ↦ elim (list-told told xs ys) [ inl q ↦ inl (cc) | inr n ↦ inr (λ e. n (cc)) ]
   | inr n ↦ inr (λ e. n (cc))
 ]
+list-told told xs ys = inr (λ e. cc)
 
 pub option-told : {X : Type 0} → Told X → Told (Option X)
 option-told told None None = inl refl
-option-told told None (Some y) = inr (λ e. cc)
-option-told told (Some x) None = inr (λ e. cc)
 option-told told (Some x) (Some y) = elim (told x y) [ inl p ↦ inl (cc) | inr n ↦ inr (λ e. n (cc)) ]
+option-told told x y = inr (λ e. cc)
 
 pair-same : {X Y : Type 0} (x y : X × Y) → x.0 ≡ y.0 → x.1 ≡ y.1 → x ≡ y
 pair-same {X} {Y} x y p q = ap (λ (a : X). let r : X × Y = (a, x.1) in r) p ∙ ap (λ (b : Y). let r : X × Y = (y.0, b) in r) q
@@ -42,7 +40,7 @@ pair-told told also x y = elim (told x.0 y.0) [
 
 pub interval-told : Told Interval
 interval-told i j = elim (number-told i.lo j.lo) [
-  | inl p ↦ elim (number-told i.hi j.hi) [ inl q ↦ inl (interval-same i j p q) | inr n ↦ inr (λ e. n (ap (λ z. z.hi) e)) ]
+  | inl p ↦ elim (number-told i.hi j.hi) [ inl q ↦ inl (same_interval i j p q) | inr n ↦ inr (λ e. n (ap (λ z. z.hi) e)) ]
   | inr n ↦ inr (λ e. n (ap (λ z. z.lo) e))
 ]
 

@@ -1,10 +1,8 @@
 -- Rules that are pushed one by one to stand for items, and what such rules decide.
-use Rattle.std.proofs.Common.{◌≡◌, ◌∷◌, ◌++◌, ℕ, zero, suc, ◌+◌, ◌<◌, List, [], Bool, true, false, cond, Some, None, length, get_or, refl, ap, sym, subst, ◌∙◌, arith, add-one, inl, inr}
-use Rattle.std.specs.Prelude.{Option, option_map, position, slice_get}
+use Rattle.std.proofs.Common.{◌≡◌, ◌∷◌, ◌++◌, ℕ, zero, suc, ◌+◌, ◌<◌, List, [], Bool, true, false, cond, Some, None, length, get_or, refl, ap, sym, subst, ◌∙◌, arith, add-one, inl, inr, Option, option_map, position, slice_get, length-append}
 use Rattle.std.specs.Option.{option_map_or}
 use Rattle.std.proofs.lemmas.Bool.{cases_lt}
 use Rattle.std.proofs.lemmas.Option.{slice_get_within, slice_get-get_or}
-use Rattle.std.proofs.lemmas.List.{length-append}
 use Rattle.std.proofs.lemmas.List.Quantifiers.{position-Some}
 use Rattle.std.proofs.Math.Seq.{get_or-append_seam}
 use Rattle.field_boxes.specs.declared.rule.Rule.{Rule}
@@ -13,7 +11,7 @@ use Rattle.field_boxes.specs.Classifier.{matches}
 use Rattle.field_boxes.specs.Rules.{rule_of}
 use Rattle.fdd_build.specs.Rules.{decided}
 use Rattle.fdd_build.proofs.Decided.{decided_head}
-use Rattle.filter_reader.proofs.Positions.{position-cons}
+use Rattle.text_lines.proofs.Positions.{position-cons}
 use Rattle.ternary_words.specs.declared.entry.Entry.{Entry}
 use Rattle.ternary_words.specs.Prefixes.{IsPrefixInEach}
 use Rattle.ternary_words.specs.Views.{word_of}
@@ -30,9 +28,6 @@ Stands test number k x r = Matches (λ header. test header x) r × (r.decision �
 pub record StandBelow {X : Type 0} (test : List ℕ → X → Bool) (number : ℕ → X → ℕ) (items : List X) (n : ℕ) (rules : List Rule) : Type 0 where
   pub count : length rules ≡ n
   pub each : (k : ℕ) (x : X) (d : Rule) → k < n → slice_get items k ≡ Some x → Stands test number k x (get_or rules k d)
-
-pub stand-none : {X : Type 0} (test : List ℕ → X → Bool) (number : ℕ → X → ℕ) (items : List X) → StandBelow test number items 0 []
-stand-none test number items = record { count = refl; each = λ k x d less. absurd (omega (arith, less)) }
 
 old_rule : (d : Rule) (rs more : List Rule) (k : ℕ) → k < length rs → get_or (rs ++ more) k d ≡ get_or rs k d
 old_rule d [] more k h = absurd (omega (arith, h))
@@ -78,11 +73,10 @@ StandAt header test number (x ∷ xs) (r ∷ rs) = (matches stated header (rule_
 stand-at : {X : Type 0} (header : List ℕ) (test : X → Bool) (number : ℕ → X → ℕ) (xs : List X) (rs : List Rule) → length rs ≡ length xs →
     ((k : ℕ) (x : X) (d : Rule) → slice_get xs k ≡ Some x → (matches stated header (rule_of (get_or rs k d)) ≡ test x) × (((get_or rs k d).decision) ≡ number k x)) → StandAt header test number xs rs
 stand-at header test number [] [] e each = tt
-stand-at header test number [] (r ∷ rs) e each = absurd (omega (arith, e))
-stand-at header test number (x ∷ xs) [] e each = absurd (omega (arith, e))
 stand-at header test number (x ∷ xs) (r ∷ rs) e each =
     let here = each 0 x r refl in
     (here.0, here.1, stand-at header test (λ k. number (suc k)) xs rs (omega (arith, e)) (λ k y d at. each (suc k) y d at))
+stand-at header test number xs rs e each = absurd (omega arith)
 
 -- the number of what stands at a place, 0 for no place
 abbrev pub number_there : {X : Type 0} → (ℕ → X → ℕ) → List X → Option ℕ → ℕ
@@ -102,11 +96,10 @@ decided-step header number x xs r rs place false m d rest = decided_head stated 
 decided-at : {X : Type 0} (header : List ℕ) (test : X → Bool) (number : ℕ → X → ℕ) (xs : List X) (rs : List Rule) → StandAt header test number xs rs →
     decided stated rs header ≡ number_there number xs (position test xs)
 decided-at header test number [] [] s = refl
-decided-at header test number [] (r ∷ rs) s = absurd s
-decided-at header test number (x ∷ xs) [] s = absurd s
 decided-at header test number (x ∷ xs) (r ∷ rs) s =
     decided-step header number x xs r rs (position test xs) (test x) s.0 s.1 (decided-at header test (λ k. number (suc k)) xs rs s.2)
     ∙ ap (number_there number (x ∷ xs)) (sym (position-cons test x xs))
+decided-at header test number xs rs s = absurd s
 
 -- rules that stand for items decide the number of the first item that passes
 pub decided-first : {X : Type 0} (test : List ℕ → X → Bool) (number : ℕ → X → ℕ) (items : List X) (rules : List Rule) → StandFor test number items rules →
@@ -119,12 +112,11 @@ answered zero m e = absurd (omega (arith, e))
 answered (suc n) m e = refl
 
 counted-there : {X : Type 0} (xs : List X) (p : X → Bool) (place : Option ℕ) → position p xs ≡ place → number_answered (number_there counted xs place) ≡ number_of_place place
-counted-there [] p None e = refl
 counted-there [] p (Some k) e = absurd cc
-counted-there (x ∷ xs) p None e = refl
 counted-there (x ∷ xs) p (Some k) e =
     let within = position-Some p (x ∷ xs) k x e in
     ap (λ o. number_answered (option_map_or (counted k) o 0)) (slice_get-get_or (x ∷ xs) k x within.0) ∙ answered (k + 1) k refl
+counted-there xs p place e = refl
 
 -- rules that decide places answer the number of the first item that passes
 pub places-answer : {X : Type 0} (test : List ℕ → X → Bool) (items : List X) (rules : List Rule) → StandFor test counted items rules →

@@ -1,8 +1,8 @@
 -- What the rows of groups claim, and that rows which make two claims make one.
-use Rattle.std.proofs.Common.{◌≡◌, ◌∷◌, ℕ, List, [], ◌++◌, ◌≤◌, ◌<◌, sym, subst, ◌∙◌, inl, inr, arith}
-use Rattle.std.specs.Prelude.{◌⊎◌, map, suc}
+use Rattle.std.proofs.Common.{◌≡◌, ◌∷◌, ℕ, List, [], ◌++◌, ◌≤◌, ◌<◌, sym, subst, ◌∙◌, inl, inr, arith, ◌⊎◌, map, suc}
 use Rattle.field_boxes.specs.Classifier.{Interval}
-use Rattle.partition_check.specs.Boxes.{AreUpTo, LiesIn}
+use Rattle.partition_check.specs.Boxes.{AreUpTo}
+use Rattle.field_boxes.specs.Boxes.{LiesIn}
 use Rattle.partition_check.specs.Partition.{Group, rows_of, AreGroups}
 use Rattle.partition_check.specs.Checking.{Statement}
 use Rattle.box_partition.specs.Coarsest.{Claims, claims_of, put_interval, IsCoarsest}
@@ -53,7 +53,6 @@ pub claims-agree : (gs : List ℕ) (f h : List ℕ → Claims) (rows : List Stat
 claims-agree [] f h rows [] ok p l m =
     let inside : LiesIn p.0.box [] = subst (λ b. LiesIn b []) (sym p.1) tt in
     (subst (AreRight f) p.2 l).0 [] inside ∙ sym ((subst (AreRight h) p.2 m).0 [] inside)
-claims-agree [] f h rows (v ∷ vs) ok p l m = absurd ok
-claims-agree (g ∷ gs) f h rows [] ok p l m = absurd ok
 claims-agree (g ∷ gs) f h rows (v ∷ vs) ok p l m =
     agree-groups (IsCoarsest gs) f h 0 g p.0 v vs (λ f' h' rest q a b. claims-agree gs f' h' rest vs ok.1 q a b) p.2 (subst (AreRight f) p.1 l) (subst (AreRight h) p.1 m) (omega arith) ok.0
+claims-agree gs f h rows vs ok p l m = absurd ok

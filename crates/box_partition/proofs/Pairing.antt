@@ -1,8 +1,8 @@
 -- The groups of the rows of two nodes are those of the parts of their field.
-use Rattle.std.proofs.Common.{◌≡◌, ◌≢◌, ◌∷◌, ℕ, zero, suc, ◌<◌, ◌≤◌, List, [], length, get_or, drop, refl, ap, sym, subst, ◌∙◌, arith, inl, inr}
-use Rattle.std.specs.Prelude.{◌⊎◌, map}
+use Rattle.std.proofs.Common.{◌≡◌, ◌≢◌, ◌∷◌, ℕ, zero, suc, ◌<◌, ◌≤◌, List, [], length, get_or, drop, refl, ap, sym, subst, ◌∙◌, arith, inl, inr, ◌⊎◌, map}
 use Rattle.std.specs.List.{AllAdjacentBelow}
 use Rattle.std.proofs.lemmas.List.Elements.{All-tail}
+use Rattle.field_boxes.specs.Alike.{AreAlikeOver}
 use Rattle.field_boxes.specs.Fields.{greatest_of, stated, AreValues}
 use Rattle.node_store.specs.declared.edge.Edge.{Edge}
 use Rattle.node_store.specs.declared.edge.NodeId.{NodeId}
@@ -10,7 +10,7 @@ use Rattle.node_store.specs.declared.split.Part.{Part}
 use Rattle.node_store.specs.Diagram.{Node, level_of, edges_of, answer}
 use Rattle.node_store.specs.Edges.{child_of}
 use Rattle.node_store.specs.Split.{IsSplit, to_left, to_right}
-use Rattle.node_store.specs.Store.{AnswerAlike, LeadTo}
+use Rattle.node_store.specs.Store.{LeadTo}
 use Rattle.node_store.proofs.Adjacent as adjacent
 use Rattle.node_store.proofs.Edges as edges
 use Rattle.partition_check.specs.Boxes.{ends, AreUpTo}
@@ -19,21 +19,17 @@ use Rattle.partition_check.specs.Checking.{Statement}
 use Rattle.box_partition.specs.Coarsest.{Claims, put_interval, Differ, IsCoarsest}
 use Rattle.box_partition.specs.Firsts.{number_answered, node_claims}
 use Rattle.box_partition.specs.Rows.{AreRowsOf, ArePaired, IsPaired, begins_at}
-use Rattle.box_partition.proofs.Coarse.{starting, AreRight, groups-bound, claimed-right, claimed-group, claimed-more, right-claimed, right-one, differ-rest}
+use Rattle.box_partition.proofs.Coarse.{AreRight, claimed-group, claimed-more, claimed-right, differ-rest, groups-bound, order, right-claimed, right-one, starting}
 use Rattle.box_partition.proofs.Made.{claims-agree}
-
-order : (a b : ℕ) → (a < b → ⊥) → (b < a → ⊥) → a ≡ b
-order a b f g = grind (arith, f, g)
 
 same_answer : (m n : ℕ) → number_answered m ≡ number_answered n → m ≡ n
 same_answer zero zero h = refl
-same_answer zero (suc n) h = absurd cc
-same_answer (suc m) zero h = absurd cc
 same_answer (suc m) (suc n) h = cc
+same_answer m n h = absurd cc
 
 -- in every store two nodes of a level that claim the same are one
 abbrev pub OneNode : List Node → ℕ → Type 0
-OneNode nodes level = (a b : ℕ) → level_of nodes a ≡ drop level stated → level_of nodes b ≡ drop level stated → AnswerAlike nodes (drop level stated) a b → a ≡ b
+OneNode nodes level = (a b : ℕ) → level_of nodes a ≡ drop level stated → level_of nodes b ≡ drop level stated → AreAlikeOver (drop level stated) (answer nodes a) (answer nodes b) → a ≡ b
 
 same_id : (a b : NodeId) → a.0 ≡ b.0 → a ≡ b
 same_id a b p = ap (λ (n : ℕ). let r : NodeId = record { 0 = n } in r) p
@@ -95,9 +91,8 @@ no-earlier_group nodes level a b g lo gs x (z ∷ xs) p ps s h d l less =
 
 up_to : (fields values : List ℕ) → AreValues fields values → AreUpTo (map greatest_of fields) values
 up_to [] [] h = tt
-up_to [] (v ∷ values) h = absurd h
-up_to (f ∷ fields) [] h = absurd h
 up_to (f ∷ fields) (v ∷ values) h = (omega (arith, h.0), up_to fields values h.1)
+up_to fields values h = absurd h
 
 drop-map : (n : ℕ) (fields : List ℕ) → map greatest_of (drop n fields) ≡ drop n (map greatest_of fields)
 drop-map zero fields = refl
@@ -158,9 +153,8 @@ paired-from nodes level a b g lo groups [] one s h d l = absurd s.rise
 paired-from nodes level a b g lo [] (p ∷ ps) one s h d l = let e = bounded nodes level a b g lo p ps s in absurd (omega (arith, h, e.0, e.1))
 paired-from nodes level a b g lo (x ∷ []) (p ∷ []) one s h d l = (paired-first nodes level a b g lo x [] p [] one s h d l, tt)
 paired-from nodes level a b g lo (x ∷ y ∷ xs) (p ∷ []) one s h d l =
-    let f = paired-first nodes level a b g lo x (y ∷ xs) p [] one s h d l in
     let top = groups-bound (IsCoarsest (drop level ends)) (suc y.first.hi) g xs h.4.4 in
-    absurd (omega (arith, top, h.4.2, f.high, s.rise.1))
+    absurd (omega (arith, top, h.4.2, (paired-first nodes level a b g lo x (y ∷ xs) p [] one s h d l).high, s.rise.1))
 paired-from nodes level a b g lo (x ∷ xs) (p ∷ q ∷ ps) one s h d l =
     let f = paired-first nodes level a b g lo x xs p (q ∷ ps) one s h d l in (
       f,
@@ -171,9 +165,8 @@ paired-from nodes level a b g lo (x ∷ xs) (p ∷ q ∷ ps) one s h d l =
 
 paired-count : (nodes : List Node) (level lo : ℕ) (groups : List (Group Statement)) (parts : List Part) → PairedFrom nodes level lo groups parts → length groups ≡ length parts
 paired-count nodes level lo [] [] h = refl
-paired-count nodes level lo [] (p ∷ ps) h = absurd h
-paired-count nodes level lo (x ∷ xs) [] h = absurd h
 paired-count nodes level lo (x ∷ xs) (p ∷ ps) h = ap suc (paired-count nodes level (suc p.hi) xs ps h.1)
+paired-count nodes level lo groups parts h = absurd h
 
 -- where the part at a place begins, if the first one begins at a value
 abbrev pub begins_from : ℕ → List Part → ℕ → ℕ
@@ -235,12 +228,8 @@ grouped nodes level a b g rows parts one s left right c l = record {
 
 -- a level above the leaves has a field
 fields-from : (level : ℕ) → level < 5 → drop level ends ≡ greatest_of level ∷ drop (suc level) ends
-fields-from zero h = refl
-fields-from (suc zero) h = refl
-fields-from (suc (suc zero)) h = refl
-fields-from (suc (suc (suc zero))) h = refl
-fields-from (suc (suc (suc (suc zero)))) h = refl
 fields-from (suc (suc (suc (suc (suc level))))) h = absurd (omega (arith, h))
+fields-from level h = refl
 
 pub has-groups : (nodes : List Node) (level a b : ℕ) (rows : List Statement) (parts : List Part) → level < 5 → OneNode nodes (suc level) → IsSplit (greatest_of level) (edges_of nodes a) (edges_of nodes b) parts →
     LeadTo nodes (drop (suc level) stated) (map to_left parts) → LeadTo nodes (drop (suc level) stated) (map to_right parts) → AreRowsOf nodes level a b rows → HasGroups nodes (suc level) rows parts

@@ -1,6 +1,5 @@
 -- The boxes of a coarsest partition are a partition.
-use Rattle.std.proofs.Common.{◌≡◌, ◌∷◌, ℕ, List, [], ◌++◌, ◌<◌, arith, ap, refl, ◌∙◌}
-use Rattle.std.specs.Prelude.{suc, length, map}
+use Rattle.std.proofs.Common.{◌≡◌, ◌∷◌, ℕ, List, [], ◌++◌, ◌<◌, arith, ap, refl, ◌∙◌, suc, length, map}
 use Rattle.field_boxes.specs.Classifier.{Interval}
 use Rattle.partition_check.specs.Partition.{Group, rows_of, put_first, AreGroups, IsPartition}
 use Rattle.partition_check.specs.Checking.{Statement}

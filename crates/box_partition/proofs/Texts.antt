@@ -1,7 +1,6 @@
 -- The lines of rows, group by group, and how many rows there are.
-use Rattle.std.proofs.Common.{◌≡◌, ◌∷◌, ◌++◌, ℕ, ◌+◌, ◌<◌, ◌≤◌, List, [], length, get_or, take, map, refl, ap, sym, ◌∙◌, arith, append_assoc, append-nil, length-append}
-use Rattle.std.specs.List.{flat_map}
-use Rattle.std.proofs.lemmas.List.{take_more, take_all, length-map}
+use Rattle.std.proofs.Common.{◌≡◌, ◌∷◌, ◌++◌, ℕ, ◌+◌, ◌<◌, ◌≤◌, List, [], length, get_or, take, map, refl, ap, sym, ◌∙◌, arith, append_assoc, append-nil, length-append, flat_map}
+use Rattle.std.proofs.lemmas.List.{take_more, length-map}
 use Rattle.std.proofs.lemmas.List.Concat.{flat_map-append}
 use Rattle.field_boxes.specs.Classifier.{Interval}
 use Rattle.partition_check.specs.Checking.{Statement}
@@ -44,9 +43,6 @@ count-next groups k n m d less e f =
     ∙ length-append (rows_of put_interval (take k groups)) (rows_of put_interval (get_or groups k d ∷ [])) ∙ ap (λ c. count_before groups k + c) (one-group (get_or groups k d)) in
     omega (arith, all, e, f)
 
-pub count-all : (groups : List (Group Statement)) (k n : ℕ) → length groups ≤ k → n ≡ count_before groups k → n ≡ length (rows_of put_interval groups)
-count-all groups k n le e = e ∙ ap (λ xs. length (rows_of put_interval xs)) (take_all k groups le)
-
 -- rows with nothing in front
 lines-alone : (rows : List Statement) → rows_text [] rows ≡ flat_map row_line rows
 lines-alone [] = refl
@@ -68,7 +64,5 @@ lines-many (s ∷ rows) = let n = length-append (row_line s) (flat_map row_line 
 
 pub text-many : (rows : List Statement) → length rows ≤ length (certificate_text rows)
 text-many rows =
-    let lines = lines-many rows in
-    let first = length-append (flat_map row_line rows) (last_text (length rows)) in
     let all = length-append (flat_map row_line rows ++ last_text (length rows)) (10 ∷ []) in
-    omega (arith, lines, first, all)
+    omega (arith, lines-many rows, length-append (flat_map row_line rows) (last_text (length rows)), all)

@@ -1,34 +1,17 @@
 -- How what is put joins where memory may be refused besides.
-use Rattle.std.proofs.Common.{◌≡◌, ℕ, ◌+◌, ◌<◌, ◌≤◌, List, [], ◌∷◌, ◌++◌, Option, Result, Ok, Err, inl, inr, refl, sym, ap, subst, ◌∙◌, append_assoc, append-nil, length, take, drop, get_or, take-append-drop, arith}
-use Rattle.std.specs.List.{flat_map}
-use Rattle.std.specs.Prelude.{IsErr, IsErrAnd}
-use Rattle.std.proofs.lemmas.List.{take_more, take_all}
+use Rattle.std.proofs.Common.{◌≡◌, ℕ, ◌+◌, ◌<◌, List, [], ◌∷◌, ◌++◌, Option, Result, Ok, Err, refl, sym, ap, subst, ◌∙◌, append_assoc, append-nil, length, take, drop, get_or, arith, flat_map, IsErr, IsErrAnd}
+use Rattle.std.proofs.lemmas.List.{take_more}
 use Rattle.std.proofs.lemmas.List.Concat.{flat_map-append}
-use Rattle.razor_base.specs.Faults.{Rose}
 use Rattle.razor_base.specs.Output.{LeavesOut, Puts, Writes}
-use Rattle.razor_base.proofs.Output.{leaves_out-none, leaves_out-then, leaves_out-all, leaves_out-appends, appends_front-none, appends_front-longer, appends_front-rest, appends_front-then}
+use Rattle.razor_base.proofs.Output.{leaves_out-then, leaves_out-all, leaves_out-appends, appends_front-none, appends_front-longer, appends_front-rest, appends_front-then}
 use Rattle.box_partition.specs.declared.stop.Stop.{Stop}
 use Rattle.box_partition.specs.declared.stop.Stop.TheVariants.{Fault, Memory}
 use Rattle.box_partition.specs.Output.{PutsUntil}
-
-rose-later : (a b c : ℕ) → a ≤ b → Rose b c → Rose a c
-rose-later a b c le (inl lt) = inl (omega arith)
-rose-later a b c le (inr last) = inr last
+use Rattle.razor_base.proofs.Writing.{rose-later, texts_rest}
 
 -- all that was to be put so far was put
 abbrev pub HasPutSo : {S : Type 0} → (S → Option (List ℕ)) → (S → ℕ) → S → S → List ℕ → List ℕ → List ℕ → Type 0
 HasPutSo w f a b waited waits text = PutsUntil {T = Unit {0}} w f a b waited waits text (Ok tt)
-
--- nothing was put yet
-pub until-none : {S : Type 0} {w : S → Option (List ℕ)} {f : S → ℕ} {a : S} {waited : List ℕ} → HasPutSo w f a a waited waited []
-until-none {w = w} {a = a} {waited = waited} = record {
-  ok = rw (append-nil waited) (leaves_out-none (w a) waited);
-  err = tt;
-  failed = tt;
-  refused = tt;
-  calm = refl;
-  counts = omega arith;
-}
 
 -- what was put without a failure
 pub until-put : {S T U E : Type 0} {w : S → Option (List ℕ)} {f : S → ℕ} {a b : S} {waited waits text : List ℕ} {x : T} {y : U} →
@@ -109,9 +92,6 @@ texts_more line items i d lt =
     ap (λ t. flat_map line (take i items) ++ t) (sym (append-nil (line (get_or items i d))))
     ∙ sym (flat_map-append line (take i items) (get_or items i d ∷ [])) ∙ ap (flat_map line) (sym (take_more items i d lt))
 
-texts_rest : {X : Type 0} (line : X → List ℕ) (items : List X) (n : ℕ) → flat_map line (take n items) ++ flat_map line (drop n items) ≡ flat_map line items
-texts_rest line items n = sym (flat_map-append line (take n items) (drop n items)) ∙ ap (flat_map line) (take-append-drop n items)
-
 -- the text of the next item is put behind those of the items so far
 pub until-next : {X S T U : Type 0} {w : S → Option (List ℕ)} {f : S → ℕ} {a b c : S} {waited waits left : List ℕ} {x : T} {r : Result U Stop}
     (line : X → List ℕ) (items : List X) (i : ℕ) (d : X) → i < length items →
@@ -126,11 +106,6 @@ pub until-next_cut : {X S T U V : Type 0} {w : S → Option (List ℕ)} {f : S �
     PutsUntil w f a c waited left (flat_map line items) r
 until-next_cut line items i d lt h p q =
     until-is (until-stop h (until-more (flat_map line (drop (i + 1) items)) (until-next line items i d lt p q))) (texts_rest line items (i + 1))
-
--- the texts of all items were put
-pub until-each : {X S T : Type 0} {w : S → Option (List ℕ)} {f : S → ℕ} {a b : S} {waited waits : List ℕ} {r : Result T Stop}
-    (line : X → List ℕ) (items : List X) (i : ℕ) → length items ≤ i → PutsUntil w f a b waited waits (flat_map line (take i items)) r → PutsUntil w f a b waited waits (flat_map line items) r
-until-each line items i le p = until-is p (ap (flat_map line) (take_all i items le))
 
 err_of : {T : Type 0} (P : Stop → Type 0) (r : Result T Stop) → IsErrAnd r P → IsErr r
 err_of P (Ok y) h = absurd h

@@ -1,8 +1,6 @@
 pub mod Coarsest
 pub mod Certificate
-pub mod Difference
 pub mod Standing
-pub mod Names
 pub mod Firsts
 pub mod Rows
 pub mod Output

@@ -3,16 +3,18 @@ use Rattle.std.specs.Prelude.{◌≡◌, ◌⊎◌, ℕ, List, [], Option, Resul
 use Rattle.std.specs.Io.KnownBytes.{Appends, Keeps}
 use Rattle.razor_base.specs.Output.{AppendsFront}
 use Rattle.filter_reader.specs.declared.list.RuleList.{RuleList}
+use Rattle.filter_reader.specs.Lists.{name_decided}
 use Rattle.ternary_words.specs.declared.table.Table.{Table}
+use Rattle.list_equiv.specs.Verdict.{Differs}
+use Rattle.partition_check.specs.Agreement.{name_answered}
 use Rattle.partition_check.specs.Checking.{Statement}
 use Rattle.partition_check.specs.Good.{certificate_text}
 use Rattle.partition_check.specs.PrefixWords.{ArePrefixes, IsFirstOther}
 use Rattle.box_partition.specs.Certificate.{IsCertificate}
 use Rattle.box_partition.specs.Output.{PutsUntil}
-use Rattle.box_partition.specs.Difference.{IsFirstDifference, IsListNumber, IsTableNumber}
 use Rattle.box_partition.specs.declared.stop.Stop.{Stop}
 use Rattle.box_partition.specs.declared.error.CertError.{CertError}
-use Rattle.box_partition.specs.declared.error.CertError.TheVariants.{Differs, NotPrefix, Fault, Memory}
+use Rattle.box_partition.specs.declared.error.CertError.TheVariants.{Differs as Apart, NotPrefix, Fault, Memory}
 
 -- the certificate of list and table was appended, and has so many rows
 pub record IsWritten (list : RuleList) (table : Table) (before after : Option (List ℕ)) (count : ℕ) : Type 0 where
@@ -34,15 +36,13 @@ pub record IsWriting {S : Type 0} (list : RuleList) (table : Table) (written : S
   pub puts : PutsUntil written faults before after [] [] (certificate_text rows) answer
   pub counted : IfOk answer (λ n. n ≡ length rows)
 
--- the least header on which list and table differ, with the number of what each says there
-pub record AreApart (list : RuleList) (table : Table) (header : List ℕ) (said answered : ℕ) : Type 0 where
-  pub first : IsFirstDifference list table header
-  pub left : IsListNumber list header said
-  pub right : IsTableNumber table header answered
+-- list and table differ: first on this header, to which they give the names with these numbers
+abbrev pub TellApart : RuleList → Table → List ℕ → ℕ → ℕ → Type 0
+TellApart list table header left right = Differs list.names table.names (name_decided list) (name_answered table) header left right
 
 -- what each error says, and what stands after it; a word that is no prefix comes before all else
 abbrev pub Ends : RuleList → Table → Option (List ℕ) → Option (List ℕ) → CertError → Type 0
 Ends list table before after (NotPrefix entry) = IsFirstOther table.entries.items entry × Keeps before after
-Ends list table before after (Differs header left right) = ArePrefixes table.entries.items × AreApart list table header.values left right × Keeps before after
+Ends list table before after (Apart header left right) = ArePrefixes table.entries.items × TellApart list table header.values left right × Keeps before after
 Ends list table before after Fault = ArePrefixes table.entries.items × IsCut list table before after
 Ends list table before after Memory = ArePrefixes table.entries.items × (Keeps before after ⊎ IsCut list table before after)

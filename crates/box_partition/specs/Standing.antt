@@ -4,6 +4,7 @@ use Rattle.field_boxes.specs.declared.rule.Rule.{Rule}
 use Rattle.field_boxes.specs.Fields.{stated, IsHeader}
 use Rattle.field_boxes.specs.Classifier.{matches}
 use Rattle.field_boxes.specs.Rules.{rule_of}
+use Rattle.ternary_words.specs.declared.entry.Entry.{Entry}
 
 -- the rule matches the headers that pass the test
 abbrev pub Matches : (List ℕ → Bool) → Rule → Type 0
@@ -18,3 +19,7 @@ pub record StandFor {X : Type 0} (test : List ℕ → X → Bool) (number : ℕ 
 -- the number of a place, counted from 1
 abbrev pub counted : {X : Type 0} → ℕ → X → ℕ
 counted k x = k + 1
+
+-- the number that an entry decides, wherever it stands
+abbrev pub own_number : ℕ → Entry → ℕ
+own_number k e = e.decision

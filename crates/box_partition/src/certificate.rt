@@ -13,7 +13,7 @@ ghost use Rattle.box_partition.specs.Output.{PutsUntil};
 ghost use Rattle.box_partition.specs.Rows.{AreRowsOf};
 ghost use Rattle.box_partition.specs.declared.error.CertError.TheVariants.{Fault, Memory};
 
-use crate::difference::{first_difference, list_decision, table_decision};
+use crate::difference::differ;
 use crate::error::CertError;
 use crate::standing::{entries_by_place, rules_by_place};
 use crate::stop::Stop;
@@ -21,6 +21,7 @@ use crate::walk::Walk;
 use fdd_build::build;
 use field_boxes::Span;
 use filter_reader::RuleList;
+use list_equiv::Verdict;
 use node_store::{NodeId, Store, stated_order};
 use partition_check::Checker;
 use partition_check::laws::first_matches_decide;
@@ -51,15 +52,21 @@ pub fn write_certificate<K: Sink>(
     ensures counts { K.faults out.old ≤ K.faults out.new }
 {
     let _checker = Checker::new(list, table)?;
-    if let Some(header) = first_difference(alloc, list, table)? {
-        return Err(CertError::Differs {
+    match differ(alloc, list, table)? {
+        Verdict::Differ {
             header,
-            left: list_decision(list, &header),
-            right: table_decision(table, &header),
-        });
+            left,
+            right,
+        } => Err(CertError::Differs {
+            header,
+            left,
+            right,
+        }),
+        Verdict::Equal => {
+            let rows = write_rows(alloc, list, table, out)?;
+            Ok(rows)
+        }
     }
-    let rows = write_rows(alloc, list, table, out)?;
-    Ok(rows)
 }
 
 /// Writes the certificate of a list and a table that agree.

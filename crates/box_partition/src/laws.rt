@@ -1,5 +1,6 @@
 //! Laws of the certificate, for whoever relies on it. The functions do nothing.
 ghost use Rattle.std.specs.Prelude.{◌≡◌, ◌≤◌, List, length};
+ghost use Rattle.razor_base.specs.declared.limits.TheConstants.{MOST_CERTIFICATE_BYTES};
 ghost use Rattle.filter_reader.specs.declared.list.RuleList.{RuleList};
 ghost use Rattle.ternary_words.specs.declared.table.Table.{Table};
 ghost use Rattle.partition_check.specs.Agreement.{Agree};
@@ -20,7 +21,7 @@ pub fn one_certificate()
 
 /// The checker finds the certificate valid, if its text has at most 268,435,456 bytes.
 pub fn certificates_are_valid()
-    ensures { (list : RuleList) (table : Table) (rows : List Statement) → IsCertificate list table rows → length (certificate_text rows) ≤ 268435456 →
+    ensures { (list : RuleList) (table : Table) (rows : List Statement) → IsCertificate list table rows → length (certificate_text rows) ≤ MOST_CERTIFICATE_BYTES →
         IsValid (begun list table) (certificate_text rows) (length rows) }
 {
     valid_texts_are_good_certificates();

@@ -23,7 +23,6 @@ mod certificate;
 mod difference;
 mod error;
 pub mod laws;
-mod naming;
 mod standing;
 mod stop;
 mod walk;

@@ -1,5 +1,6 @@
-//! Rules that stand for the rules of a list and for the entries of a table, numbered by their places.
+//! Rules that stand for the rules of a list and for the entries of a table.
 ghost use Rattle.std.specs.Prelude.{◌≡◌, ◌≤◌, ℕ, [], ◌∷◌, ◌++◌, length, IfOk};
+ghost use Rattle.razor_base.specs.declared.limits.TheConstants.{GREATEST_PORT, MOST_ENTRIES, MOST_RULES};
 ghost use Rattle.field_boxes.specs.Classifier.{union_holds};
 ghost use Rattle.field_boxes.specs.Rules.{sets_of};
 ghost use Rattle.field_boxes.specs.Spans.{interval_of};
@@ -8,7 +9,7 @@ ghost use Rattle.ternary_words.specs.Views.{word_of};
 ghost use Rattle.ternary_words.specs.Word.{agrees, header_bits};
 ghost use Rattle.partition_check.specs.Claims.{rule_matches, entry_matches};
 ghost use Rattle.partition_check.specs.PrefixWords.{ArePrefixes};
-ghost use Rattle.box_partition.specs.Standing.{Matches, StandFor, counted};
+ghost use Rattle.box_partition.specs.Standing.{Matches, StandFor, counted, own_number};
 
 use field_boxes::{Ports, Rule, Span};
 use razor_base::Memory;
@@ -16,7 +17,7 @@ use std::alloc::Global;
 use ternary_words::{Entry, Word};
 
 /// The rule with another decision.
-pub(crate) fn with_decision(rule: &Rule, decision: u32) -> Rule
+fn with_decision(rule: &Rule, decision: u32) -> Rule
     ensures sets { sets_of result ≡ sets_of rule.now }
     ensures decision { result.decision ≡ decision }
 {
@@ -31,7 +32,7 @@ pub(crate) fn with_decision(rule: &Rule, decision: u32) -> Rule
 
 /// The ports of one span.
 fn ports_of(span: Span) -> Ports
-    requires { span.hi ≤ 65535 }
+    requires { span.hi ≤ GREATEST_PORT }
     ensures { (v : ℕ) → union_holds v result ≡ union_holds v (interval_of span ∷ []) }
 {
     match Ports::of(&[span]) {
@@ -41,7 +42,7 @@ fn ports_of(span: Span) -> Ports
 }
 
 /// The rule that matches the headers which the word matches.
-pub(crate) fn word_rule(word: &Word, decision: u32) -> Rule
+fn word_rule(word: &Word, decision: u32) -> Rule
     requires { IsPrefixInEach (word_of word.now) }
     ensures matched { Matches (λ header. agrees (word_of word.now) (header_bits header)) result }
     ensures decision { result.decision ≡ decision }
@@ -60,7 +61,7 @@ pub(crate) fn word_rule(word: &Word, decision: u32) -> Rule
 }
 
 /// Puts a rule behind the others.
-pub(crate) fn put_rule(rules: &mut Vec<Rule>, rule: Rule) -> Result<(), Memory>
+fn put_rule(rules: &mut Vec<Rule>, rule: Rule) -> Result<(), Memory>
     ensures { IfOk result (λ _. rules.new.items ≡ rules.old.items ++ rule ∷ []) }
 {
     rules.extend_from_slice(&[rule])?;
@@ -69,7 +70,7 @@ pub(crate) fn put_rule(rules: &mut Vec<Rule>, rule: Rule) -> Result<(), Memory>
 
 /// The rules, which decide their places, counted from 1.
 pub(crate) fn rules_by_place(alloc: Global, rules: &[Rule]) -> Result<Vec<Rule>, Memory>
-    requires { length rules.now ≤ 65536 }
+    requires { length rules.now ≤ MOST_RULES }
     ensures { IfOk result (λ standing. StandFor rule_matches counted rules.now standing.items) }
 {
     let mut standing = Vec::new(alloc);
@@ -81,13 +82,25 @@ pub(crate) fn rules_by_place(alloc: Global, rules: &[Rule]) -> Result<Vec<Rule>,
 
 /// The entries as rules, which decide their places, counted from 1.
 pub(crate) fn entries_by_place(alloc: Global, entries: &[Entry]) -> Result<Vec<Rule>, Memory>
-    requires few { length entries.now ≤ 262144 }
+    requires few { length entries.now ≤ MOST_ENTRIES }
     requires prefixes { ArePrefixes entries.now }
     ensures { IfOk result (λ standing. StandFor entry_matches counted entries.now standing.items) }
 {
     let mut standing = Vec::new(alloc);
     for (place, entry) in entries.iter().enumerate() {
         put_rule(&mut standing, word_rule(&entry.word, place as u32 + 1))?;
+    }
+    Ok(standing)
+}
+
+/// The entries as rules, which decide the same numbers.
+pub(crate) fn entries_by_number(alloc: Global, entries: &[Entry]) -> Result<Vec<Rule>, Memory>
+    requires { ArePrefixes entries.now }
+    ensures { IfOk result (λ standing. StandFor entry_matches own_number entries.now standing.items) }
+{
+    let mut standing = Vec::new(alloc);
+    for entry in entries {
+        put_rule(&mut standing, word_rule(&entry.word, entry.decision))?;
     }
     Ok(standing)
 }

@@ -1,22 +1,17 @@
 -- Boxes that are grouped and hold the headers with a property: there is one list of them at most.
-use Rattle.std.proofs.Common.{◌≡◌, ◌∷◌, ℕ, List, [], ◌≤◌, ◌<◌, ◌^◌, arith, ap, sym, ◌∙◌, subst, inl, inr}
-use Rattle.std.specs.Prelude.{◌↔◌, Option}
-use Rattle.std.specs.List.{Any}
-use Rattle.std.proofs.lemmas.Nat.{pow_pos}
+use Rattle.std.proofs.Common.{◌≡◌, ◌∷◌, ℕ, List, [], ◌≤◌, ap, sym, ◌∙◌, subst, inl, inr, ◌↔◌, Option, Any}
 use Rattle.field_boxes.specs.Classifier.{Interval, Rule, source}
-use Rattle.field_boxes.specs.Fields.{stated, width, greatest_of, AreValues}
-use Rattle.box_query.specs.Boxes.{Group, Holds, boxes_of, AreRising, AreGrouped, AreBoxesOf}
-use Rattle.box_query.proofs.Held.{IsHeld, held-any, any-held}
+use Rattle.field_boxes.specs.Fields.{stated, greatest_of, AreValues}
+use Rattle.box_query.specs.Boxes.{Group, boxes_of, AreRising, AreGrouped, AreBoxesOf}
+use Rattle.field_boxes.specs.Boxes.{LiesIn}
+use Rattle.field_boxes.proofs.Held.{LiesInOne, held-any, any-held}
 use Rattle.box_query.proofs.Runs.{rest_at, groups-same}
 use Rattle.box_query.proofs.Parts.{held-at_value, held-from_value, none-grouped, at-has}
-
--- the values up to the greatest
-pub in_width : (field v : ℕ) → v ≤ greatest_of field → v < 2 ^ width field
-in_width field v h = let p = pow_pos (width field) in omega (arith, h, p)
+use Rattle.node_store.proofs.Values.{in_width}
 
 -- of the values of these fields the boxes hold those with the property
 abbrev pub IsRight : (List ℕ → Type 0) → List ℕ → List (List Interval) → Type 0
-IsRight P fields boxes = (vs : List ℕ) → AreValues fields vs → IsHeld boxes vs ↔ P vs
+IsRight P fields boxes = (vs : List ℕ) → AreValues fields vs → LiesInOne boxes vs ↔ P vs
 
 -- so do the boxes at a value of the property there
 right-at : (P : List ℕ → Type 0) (f : ℕ) (fields : List ℕ) (groups : List Group) (v : ℕ) → AreRising (AreGrouped fields) 0 (greatest_of f) groups →
@@ -27,8 +22,8 @@ right-at P f fields groups v h r high vs ok =
       (λ p. (held-at_value groups (AreGrouped fields) 0 (greatest_of f) v vs h (both.1 p)).2),
     )
 
-held-back : (xs ys : List (List Interval)) (vs : List ℕ) → xs ≡ ys → IsHeld ys vs → IsHeld xs vs
-held-back xs ys vs e h = subst (λ boxes. IsHeld boxes vs) (sym e) h
+held-back : (xs ys : List (List Interval)) (vs : List ℕ) → xs ≡ ys → LiesInOne ys vs → LiesInOne xs vs
+held-back xs ys vs e h = subst (λ boxes. LiesInOne boxes vs) (sym e) h
 
 -- a box or none, over no fields
 one-box : (P : List ℕ → Type 0) (xs ys : List (List Interval)) → xs ≡ [] → ys ≡ [] ∷ [] → IsRight P [] xs → IsRight P [] ys → ⊥
@@ -52,15 +47,15 @@ right-one (f ∷ fields) P xs ys p q l m =
 
 -- by the words of the definition
 
-pub exact-right : (P : List ℕ → Type 0) (fields : List ℕ) (boxes : List (List Interval)) → ((vs : List ℕ) → AreValues fields vs → Any (λ b. Holds b vs) boxes ↔ P vs) → IsRight P fields boxes
+pub exact-right : (P : List ℕ → Type 0) (fields : List ℕ) (boxes : List (List Interval)) → ((vs : List ℕ) → AreValues fields vs → Any (λ b. LiesIn b vs) boxes ↔ P vs) → IsRight P fields boxes
 exact-right P fields boxes e vs ok = ((λ h. (e vs ok).0 (held-any boxes vs h)), (λ t. any-held boxes vs ((e vs ok).1 t)))
 
-pub right-exact : (P : List ℕ → Type 0) (fields : List ℕ) (boxes : List (List Interval)) → IsRight P fields boxes → (vs : List ℕ) → AreValues fields vs → Any (λ b. Holds b vs) boxes ↔ P vs
+pub right-exact : (P : List ℕ → Type 0) (fields : List ℕ) (boxes : List (List Interval)) → IsRight P fields boxes → (vs : List ℕ) → AreValues fields vs → Any (λ b. LiesIn b vs) boxes ↔ P vs
 right-exact P fields boxes r vs ok = ((λ h. (r vs ok).0 (any-held boxes vs h)), (λ t. held-any boxes vs ((r vs ok).1 t)))
 
 pub one-list : (rules : List (Rule (List ℕ))) (box : List Interval) (name : Option (List ℕ)) (boxes others : List (List Interval)) →
     AreBoxesOf rules box name boxes → AreBoxesOf rules box name others → boxes ≡ others
 one-list rules box name boxes others a b =
-    right-one stated (λ header. Holds box header × (source stated header rules ≡ name)) boxes others a.grouped b.grouped
-    (exact-right (λ header. Holds box header × (source stated header rules ≡ name)) stated boxes a.exact)
-    (exact-right (λ header. Holds box header × (source stated header rules ≡ name)) stated others b.exact)
+    right-one stated (λ header. LiesIn box header × (source stated header rules ≡ name)) boxes others a.grouped b.grouped
+    (exact-right (λ header. LiesIn box header × (source stated header rules ≡ name)) stated boxes a.exact)
+    (exact-right (λ header. LiesIn box header × (source stated header rules ≡ name)) stated others b.exact)

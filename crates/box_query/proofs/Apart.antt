@@ -1,16 +1,15 @@
 -- No header lies in two grouped boxes.
-use Rattle.std.proofs.Common.{◌∷◌, ℕ, List, [], ◌++◌, ◌≤◌, arith, sym, subst, inl, inr}
-use Rattle.std.specs.Prelude.{suc, map}
-use Rattle.std.specs.List.{AllPairs}
+use Rattle.std.proofs.Common.{◌∷◌, ℕ, List, [], ◌++◌, ◌≤◌, arith, sym, subst, inl, inr, suc, map, AllPairs}
 use Rattle.field_boxes.specs.Classifier.{Interval}
 use Rattle.field_boxes.specs.Fields.{greatest_of}
-use Rattle.box_query.specs.Boxes.{Group, Holds, boxes_of, put_first, AreRising, AreGrouped}
-use Rattle.box_query.proofs.Held.{IsHeld, AreApart, apart-pairs}
+use Rattle.box_query.specs.Boxes.{Group, boxes_of, put_first, AreRising, AreGrouped}
+use Rattle.field_boxes.specs.Boxes.{LiesIn}
+use Rattle.field_boxes.proofs.Held.{LiesInOne, AreApart, apart-pairs}
 use Rattle.box_query.proofs.Parts.{held-parts, held-at_value}
 
 -- no header lies in two rows
 apart-front : (i : Interval) (rest more : List (List Interval)) (v : ℕ) (vs : List ℕ) → AreApart rest vs → AreApart more (v ∷ vs) →
-    (i.lo ≤ v → v ≤ i.hi → IsHeld more (v ∷ vs) → ⊥) → AreApart (map (put_first i) rest ++ more) (v ∷ vs)
+    (i.lo ≤ v → v ≤ i.hi → LiesInOne more (v ∷ vs) → ⊥) → AreApart (map (put_first i) rest ++ more) (v ∷ vs)
 apart-front i [] more v vs a k sep = k
 apart-front i (b ∷ rest) more v vs a k sep = (
   λ h held. elim (held-parts i rest more v vs held) [ inl p ↦ a.0 h.2 p.2 | inr p ↦ sep h.0 h.1 p ],
@@ -38,5 +37,5 @@ apart [] rows vs (inr e) = subst (λ rows. AreApart rows vs) (sym e) ((λ h held
 apart (f ∷ fields) rows [] p = subst (λ rows. AreApart rows []) (sym p.1) (apart-none p.0)
 apart (f ∷ fields) rows (v ∷ vs) p = subst (λ rows. AreApart rows (v ∷ vs)) (sym p.1) (apart-groups (AreGrouped fields) 0 (greatest_of f) p.0 v vs (λ rest h. apart fields rest vs h) p.2)
 
-pub rows-apart : (fields : List ℕ) (rows : List (List Interval)) (vs : List ℕ) → AreGrouped fields rows → AllPairs (λ b c. Holds b vs → Holds c vs → ⊥) rows
+pub rows-apart : (fields : List ℕ) (rows : List (List Interval)) (vs : List ℕ) → AreGrouped fields rows → AllPairs (λ b c. LiesIn b vs → LiesIn c vs → ⊥) rows
 rows-apart fields rows vs p = apart-pairs rows vs (apart fields rows vs p)

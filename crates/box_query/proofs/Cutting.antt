@@ -1,15 +1,13 @@
 -- A rule whose sets are cut to a box matches the headers of the box that the rule matches.
-use Rattle.std.proofs.Common.{◌≡◌, ◌∷◌, ℕ, zero, suc, ◌<◌, List, [], Bool, true, false, refl, ap, sym, ◌∙◌, arith, length, get_or, subst}
-use Rattle.std.specs.Prelude.{◌&&◌, slice_get, slice_index_or, unwrap_or}
+use Rattle.std.proofs.Common.{◌≡◌, ◌∷◌, ℕ, zero, suc, ◌<◌, List, [], Bool, true, false, refl, ap, ◌∙◌, length, get_or, subst, ◌&&◌, slice_get, slice_index_or, unwrap_or}
 use Rattle.std.proofs.lemmas.List.{get_or_default}
 use Rattle.field_boxes.specs.declared.rule.Rule as code
 use Rattle.field_boxes.specs.declared.span.Span.{Span}
 use Rattle.field_boxes.specs.Boxes.{box_of, box_holds}
 use Rattle.field_boxes.specs.Classifier.{Interval, Rule, union_holds, set_holds, matches}
-use Rattle.field_boxes.specs.Fields.{stated, IsHeader}
+use Rattle.field_boxes.specs.Fields.{stated}
 use Rattle.field_boxes.specs.Rules.{rule_of}
 use Rattle.field_boxes.specs.Spans.{interval_of}
-use Rattle.field_boxes.proofs.FieldByField.{header_at}
 use Rattle.fdd_build.specs.Sets.{box_rule}
 
 and-four : (a b c d : Bool) → ((a && b) && (c && d)) ≡ ((a && c) && (b && d))
@@ -20,11 +18,10 @@ and-four true true c d = refl
 
 both-match : (p q r : Rule ℕ) (fields values : List ℕ) → ((k v : ℕ) → set_holds k v p ≡ (set_holds k v q && set_holds k v r)) →
     matches fields values p ≡ (matches fields values q && matches fields values r)
-both-match p q r [] values each = refl
-both-match p q r (f ∷ fields) [] each = refl
 both-match p q r (f ∷ fields) (v ∷ values) each =
     ap (λ b. b && matches fields values p) (each f v) ∙ ap (λ b. (set_holds f v q && set_holds f v r) && b) (both-match p q r fields values each)
     ∙ and-four (set_holds f v q) (set_holds f v r) (matches fields values q) (matches fields values r)
+both-match p q r fields values each = refl
 
 -- a set has the values that two sets have in common
 abbrev pub IsCommon : List Interval → List Interval → List Interval → Type 0
@@ -54,20 +51,6 @@ cut-match a0 a1 a2 a3 a4 rule spans s0 s1 s2 s3 s4 values same h i j k l =
     (each-field a0 a1 a2 a3 a4 (interval_of rule.source ∷ []) (interval_of rule.destination ∷ []) (port_at rule 0) (port_at rule 1) (interval_of rule.protocol ∷ [])
     (interval_of s0 ∷ []) (interval_of s1 ∷ []) (interval_of s2 ∷ []) (interval_of s3 ∷ []) (interval_of s4 ∷ []) h i j k l)
     ∙ ap (λ (ss : List Span). matches stated values (rule_of rule) && box_holds (box_of ss) values) same
-
--- where a set is empty, no header matches
-pub misses : (k : ℕ) (sets : List (List Interval)) (header : List ℕ) → k < 5 → IsHeader header → unwrap_or (slice_get sets k) [] ≡ [] → false ≡ matches stated header (box_rule sets)
-misses k sets header low is none =
-    let at = header_at k header low is in sym (at.3 (box_rule sets) (ap (union_holds at.0) none))
-
-pub five-spans : (spans : List Span) (a b c d e : Span) → length spans ≡ 5 → get_or spans 0 a ∷ get_or spans 1 b ∷ get_or spans 2 c ∷ get_or spans 3 d ∷ get_or spans 4 e ∷ [] ≡ spans
-five-spans [] a b c d e h = absurd (omega (arith, h))
-five-spans (v ∷ []) a b c d e h = absurd (omega (arith, h))
-five-spans (v ∷ w ∷ []) a b c d e h = absurd (omega (arith, h))
-five-spans (v ∷ w ∷ x ∷ []) a b c d e h = absurd (omega (arith, h))
-five-spans (v ∷ w ∷ x ∷ y ∷ []) a b c d e h = absurd (omega (arith, h))
-five-spans (v ∷ w ∷ x ∷ y ∷ z ∷ []) a b c d e h = refl
-five-spans (v ∷ w ∷ x ∷ y ∷ z ∷ u ∷ spans) a b c d e h = absurd (omega (arith, h))
 
 -- the set of ports that the code reads
 pub ports-there : (rule : code.Rule) (k : ℕ) (d a c : List Interval) → k < length rule.ports → IsCommon a (get_or rule.ports k d) c → IsCommon a (port_at rule k) c

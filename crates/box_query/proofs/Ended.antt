@@ -1,6 +1,5 @@
 -- How a query ends, by what was written of the boxes.
-use Rattle.std.proofs.Common.{◌≡◌, ℕ, List, Option, Result, Ok, Err, sym, subst}
-use Rattle.std.specs.Prelude.{IsErrAnd, IfErr, length}
+use Rattle.std.proofs.Common.{◌≡◌, ℕ, List, Option, Result, Ok, Err, sym, subst, IsErrAnd, IfErr, length}
 use Rattle.std.proofs.KnownBytes.{Keeps-refl}
 use Rattle.razor_base.specs.Output.{Writes}
 use Rattle.field_boxes.specs.Classifier.{Interval, Rule}

@@ -1,8 +1,5 @@
 -- How many boxes a node can have.
-use Rattle.std.proofs.Common.{◌≡◌, ◌∷◌, ℕ, suc, ◌+◌, ◌*◌, ◌^◌, ◌-◌, ◌≤◌, List, [], length, ap, sym, ◌∙◌, subst, arith, mul-le-mul_right, suc-mul, length-append}
-use Rattle.std.specs.Prelude.{nat_eq, cond, Bool, true, false}
-use Rattle.std.specs.List.{flat_map}
-use Rattle.std.proofs.lemmas.Nat.{pow_pos, pow-add}
+use Rattle.std.proofs.Common.{◌≡◌, ◌∷◌, ℕ, suc, ◌+◌, ◌*◌, ◌^◌, ◌-◌, ◌≤◌, List, [], length, ap, sym, ◌∙◌, subst, arith, mul-le-mul_right, suc-mul, length-append, nat_eq, cond, Bool, true, false, flat_map, pow_pos, pow-add}
 use Rattle.std.proofs.Math.Pow.{pow_mono}
 use Rattle.std.proofs.lemmas.List.{length-map}
 use Rattle.field_boxes.specs.Classifier.{Interval}
@@ -27,20 +24,17 @@ few-edges : (boxes : ℕ → List (List Interval)) (g lo : ℕ) (es : List Edge)
     length (flat_map (branch_boxes boxes) (branches lo es)) + lo * most ≤ suc g * most
 few-edges boxes g lo [] most r each = absurd r
 few-edges boxes g lo (e ∷ []) most r each =
-    let one = one-count boxes (branch lo e) [] in
-    let here = leads-first (λ n. length (boxes n) ≤ most) lo g e [] r each in
     let le : lo ≤ g = omega (arith, r.0, r.1) in
     let times : lo * most ≤ g * most = mul-le-mul_right most le in
     let all : suc g * most ≡ g * most + most = suc-mul g most in
-    omega (arith, one, here, times, all)
+    omega (arith, one-count boxes (branch lo e) [], leads-first (λ n. length (boxes n) ≤ most) lo g e [] r each, times, all)
 few-edges boxes g lo (e ∷ d ∷ es) most r each =
-    let one = one-count boxes (branch lo e) (branches (suc e.hi) (d ∷ es)) in
     let here = leads-first (λ n. length (boxes n) ≤ most) lo g e (d ∷ es) r each in
     let rest = few-edges boxes g (suc e.hi) (d ∷ es) most r.1 (leads-rest (λ n. length (boxes n) ≤ most) lo g e (d ∷ es) r.0 each) in
     let le : suc lo ≤ suc e.hi = omega (arith, r.0) in
     let times : suc lo * most ≤ suc e.hi * most = mul-le-mul_right most le in
     let step : suc lo * most ≡ lo * most + most = suc-mul lo most in
-    omega (arith, one, here, rest, times, step)
+    omega (arith, one-count boxes (branch lo e) (branches (suc e.hi) (d ∷ es)), here, rest, times, step)
 
 leaf-few : (t : Bool) → length (let none : List (List Interval) = [] in cond t ([] ∷ none) none) ≤ 1
 leaf-few true = omega arith
@@ -48,8 +42,7 @@ leaf-few false = omega arith
 
 few-in : (n w m : ℕ) → n + 0 * m ≤ suc (2 ^ w - 1) * m → n ≤ 2 ^ w * m
 few-in n w m h =
-    let p = pow_pos w in
-    let e : suc (2 ^ w - 1) ≡ 2 ^ w = omega (arith, p) in
+    let e : suc (2 ^ w - 1) ≡ 2 ^ w = omega (arith, pow_pos w) in
     let k : n + 0 * m ≤ 2 ^ w * m = subst (λ x. n + 0 * m ≤ x * m) e h in omega (arith, k)
 
 pub few : (nodes : List Node) (level : List ℕ) → IsStore nodes → IsLevel level → (id : ℕ) → level_of nodes id ≡ level → length (node_boxes nodes level id) ≤ 2 ^ bits_of level
@@ -67,5 +60,4 @@ few nodes (f ∷ level) s is id at =
 pub few-headers : (nodes : List Node) (level : List ℕ) → IsStore nodes → HasField level → (id : ℕ) → level_of nodes id ≡ level → length (node_boxes nodes level id) ≤ 2 ^ 104
 few-headers nodes [] s is id at = absurd is
 few-headers nodes (f ∷ level) s is id at =
-    let n = few nodes (f ∷ level) s is id at in
-    let p = pow_mono {i = bits_of (f ∷ level)} {j = 104} is.0.1 in omega (arith, n, p)
+    let p = pow_mono {i = bits_of (f ∷ level)} {j = 104} is.0.1 in omega (arith, few nodes (f ∷ level) s is id at, p)

@@ -1,4 +1,3 @@
-pub mod Held
 pub mod Runs
 pub mod Parts
 pub mod Alone

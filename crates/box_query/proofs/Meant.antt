@@ -1,15 +1,13 @@
 -- What the two answers of a query's diagram mean.
-use Rattle.std.proofs.Common.{◌≡◌, ◌∷◌, ℕ, ◌≤◌, List, [], Bool, true, false, cond, refl, ap, sym, ◌∙◌, arith, length, inl, inr, subst, rules}
-use Rattle.std.specs.Prelude.{◌⊎◌, ◌&&◌, nat_eq}
+use Rattle.std.proofs.Common.{◌≡◌, ◌∷◌, ℕ, ◌≤◌, List, [], Bool, true, false, cond, refl, ap, sym, ◌∙◌, arith, length, inl, inr, subst, rules, ◌⊎◌, ◌&&◌, nat_eq}
 use Rattle.std.proofs.lemmas.Bool.{and_parts, and_from}
 use Rattle.std.proofs.lemmas.Bool.Decides.{Decides-eqb}
 use Rattle.std.proofs.lemmas.List.Elements.{recursion_from_All}
 use Rattle.field_boxes.specs.declared.span.Span.{Span}
-use Rattle.field_boxes.specs.Boxes.{box_of, box_holds}
+use Rattle.field_boxes.specs.Boxes.{box_of, box_holds, LiesIn}
 use Rattle.field_boxes.specs.Classifier.{Interval, union_holds, source}
 use Rattle.field_boxes.specs.Fields.{stated, IsHeader}
 use Rattle.field_boxes.specs.NamedRules.{IsNumberedBy}
-use Rattle.node_store.specs.Levels.{HasField}
 use Rattle.field_boxes.specs.Names.{name_at, AreNames}
 use Rattle.field_boxes.specs.Spans.{interval_of, intervals_of}
 use Rattle.filter_reader.specs.declared.list.RuleList.{RuleList}
@@ -20,11 +18,12 @@ use Rattle.node_store.proofs.Values.{count}
 use Rattle.fdd_build.specs.Rules.{decided}
 use Rattle.fdd_build.proofs.Decided.{named, within}
 use Rattle.box_query.specs.Asked.{label}
-use Rattle.box_query.specs.Boxes.{Holds, AreBoxesOf}
+use Rattle.box_query.specs.Boxes.{AreBoxesOf}
 use Rattle.box_query.specs.NodeBoxes.{node_boxes}
 use Rattle.box_query.proofs.Alone.{IsRight, right-exact}
 use Rattle.box_query.proofs.Shared.{interval-true, true-interval}
 use Rattle.box_query.proofs.NodeBoxes.{IsFit, has-boxes}
+use Rattle.node_store.proofs.Stated.{all_fields}
 
 -- lists of five
 record Five {X : Type 0} (xs : List X) : Type 0 where
@@ -36,13 +35,8 @@ record Five {X : Type 0} (xs : List X) : Type 0 where
   is : xs ≡ a ∷ b ∷ c ∷ d ∷ e ∷ []
 
 five-of : {X : Type 0} (xs : List X) → length xs ≡ 5 → Five xs
-five-of [] h = absurd (omega (arith, h))
-five-of (a ∷ []) h = absurd (omega (arith, h))
-five-of (a ∷ b ∷ []) h = absurd (omega (arith, h))
-five-of (a ∷ b ∷ c ∷ []) h = absurd (omega (arith, h))
-five-of (a ∷ b ∷ c ∷ d ∷ []) h = absurd (omega (arith, h))
 five-of (a ∷ b ∷ c ∷ d ∷ e ∷ []) h = record { a = a; b = b; c = c; d = d; e = e; is = refl }
-five-of (a ∷ b ∷ c ∷ d ∷ e ∷ f ∷ xs) h = absurd (omega (arith, h))
+five-of xs h = absurd (omega arith)
 
 -- one field of a box, and the fields after it
 field-to : (v : ℕ) (i : Interval) (t : Bool) (P : Type 0) → (t ≡ true → P) → (union_holds v (i ∷ []) && t) ≡ true → (i.lo ≤ v) × (v ≤ i.hi) × P
@@ -57,16 +51,15 @@ box_has [] values = true
 box_has (s ∷ spans) [] = true
 box_has (s ∷ spans) (v ∷ values) = union_holds v (interval_of s ∷ []) && box_has spans values
 
-has-holds : (spans : List Span) (values : List ℕ) → length values ≡ length spans → box_has spans values ≡ true → Holds (intervals_of spans) values
+has-holds : (spans : List Span) (values : List ℕ) → length values ≡ length spans → box_has spans values ≡ true → LiesIn (intervals_of spans) values
 has-holds [] [] e h = tt
-has-holds [] (v ∷ values) e h = absurd (omega (arith, e))
-has-holds (s ∷ spans) [] e h = absurd (omega (arith, e))
-has-holds (s ∷ spans) (v ∷ values) e h = field-to v (interval_of s) (box_has spans values) (Holds (intervals_of spans) values) (has-holds spans values (omega (arith, e))) h
+has-holds (s ∷ spans) (v ∷ values) e h = field-to v (interval_of s) (box_has spans values) (LiesIn (intervals_of spans) values) (has-holds spans values (omega (arith, e))) h
+has-holds spans values e h = absurd (omega arith)
 
-holds-has : (spans : List Span) (values : List ℕ) → Holds (intervals_of spans) values → box_has spans values ≡ true
+holds-has : (spans : List Span) (values : List ℕ) → LiesIn (intervals_of spans) values → box_has spans values ≡ true
 holds-has [] values h = refl
 holds-has (s ∷ spans) [] h = absurd h
-holds-has (s ∷ spans) (v ∷ values) h = field-from v (interval_of s) (box_has spans values) (Holds (intervals_of spans) values) (holds-has spans values) h
+holds-has (s ∷ spans) (v ∷ values) h = field-from v (interval_of s) (box_has spans values) (LiesIn (intervals_of spans) values) (holds-has spans values) h
 
 -- a header lies in the box of five spans where the test says so
 test-has : (spans : List Span) (header : List ℕ) → Five spans → Five header → box_holds (box_of spans) header ≡ box_has spans header
@@ -74,15 +67,12 @@ test-has spans header s h =
     ap (λ (ss : List Span). box_holds (box_of ss) header) s.is ∙ ap (λ values. box_holds (box_of (s.a ∷ s.b ∷ s.c ∷ s.d ∷ s.e ∷ [])) values) h.is
     ∙ sym (ap (λ (ss : List Span). box_has ss header) s.is ∙ ap (λ values. box_has (s.a ∷ s.b ∷ s.c ∷ s.d ∷ s.e ∷ []) values) h.is)
 
-pub all_fields : HasField stated
-all_fields = search rules
-
-pub box-holds : (spans : List Span) (header : List ℕ) → length spans ≡ 5 → IsHeader header → (box_holds (box_of spans) header ≡ true) → Holds (intervals_of spans) header
+pub box-holds : (spans : List Span) (header : List ℕ) → length spans ≡ 5 → IsHeader header → (box_holds (box_of spans) header ≡ true) → LiesIn (intervals_of spans) header
 box-holds spans header five is h =
     let n : length header ≡ 5 = count stated header is in
     has-holds spans header (omega (arith, n, five)) (sym (test-has spans header (five-of spans five) (five-of header n)) ∙ h)
 
-pub holds-box : (spans : List Span) (header : List ℕ) → length spans ≡ 5 → IsHeader header → Holds (intervals_of spans) header → box_holds (box_of spans) header ≡ true
+pub holds-box : (spans : List Span) (header : List ℕ) → length spans ≡ 5 → IsHeader header → LiesIn (intervals_of spans) header → box_holds (box_of spans) header ≡ true
 holds-box spans header five is h = test-has spans header (five-of spans five) (five-of header (count stated header is)) ∙ holds-has spans header h
 
 -- The two answers.
@@ -136,7 +126,7 @@ pub boxes-of : (nodes : List Node) (id : ℕ) (list : RuleList) (spans : List Sp
     Tells nodes id list spans w → AreBoxesOf (filter_list list).rules (intervals_of spans) (name_at list.names w) (node_boxes nodes stated id)
 boxes-of nodes id list spans w s at five names few tells =
     let has = has-boxes nodes stated s all_fields id (fits nodes id list spans w at tells) in
-    let right : IsRight (λ header. Holds (intervals_of spans) header × (source stated header (filter_list list).rules ≡ name_at list.names w)) stated (node_boxes nodes stated id) = λ header is. (
+    let right : IsRight (λ header. LiesIn (intervals_of spans) header × (source stated header (filter_list list).rules ≡ name_at list.names w)) stated (node_boxes nodes stated id) = λ header is. (
       λ held.
           let one = one-answer (box_holds (box_of spans) header) w (decided stated list.rules.items header) (sym (tells header is) ∙ (has.right header is).0 held) in
           (box-holds spans header five is one.0, name-is list header ∙ ap (name_at list.names) one.1),
@@ -146,5 +136,5 @@ boxes-of nodes id list spans w s at five names few tells =
     ) in
     record {
       grouped = has.grouped;
-      exact = right-exact (λ header. Holds (intervals_of spans) header × (source stated header (filter_list list).rules ≡ name_at list.names w)) stated (node_boxes nodes stated id) right;
+      exact = right-exact (λ header. LiesIn (intervals_of spans) header × (source stated header (filter_list list).rules ≡ name_at list.names w)) stated (node_boxes nodes stated id) right;
     }

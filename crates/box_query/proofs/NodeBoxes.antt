@@ -1,12 +1,9 @@
 -- The boxes of a node that answers 1 and 2: they are grouped, hold the values at which it answers 1, and no other node has them.
-use Rattle.std.proofs.Common.{◌≡◌, ◌≢◌, ◌∷◌, ◌++◌, ℕ, List, [], Bool, true, false, ◌≤◌, ◌<◌, arith, ap, refl, sym, ◌∙◌, subst, inl, inr, true≢false}
-use Rattle.std.specs.Prelude.{◌⊎◌, ◌↔◌, suc, cond, map, nat_eq, Option, Some, None, slice_get}
-use Rattle.std.specs.List.{flat_map}
+use Rattle.std.proofs.Common.{◌≡◌, ◌≢◌, ◌∷◌, ◌++◌, ℕ, List, [], Bool, true, false, ◌≤◌, ◌<◌, arith, ap, refl, sym, ◌∙◌, subst, inl, inr, true≢false, ◌⊎◌, ◌↔◌, suc, cond, map, nat_eq, Option, Some, None, slice_get, flat_map}
 use Rattle.std.proofs.lemmas.Bool.Decides.{Decides-eqb}
 use Rattle.field_boxes.specs.Classifier.{Interval}
 use Rattle.field_boxes.specs.Fields.{greatest_of}
 use Rattle.node_store.specs.declared.edge.Edge.{Edge}
-use Rattle.node_store.specs.declared.edge.NodeId.{NodeId}
 use Rattle.node_store.specs.Edges.{child_of}
 use Rattle.node_store.specs.Levels.{HasField, IsLevel, next as next_level, top_of}
 use Rattle.node_store.specs.Diagram.{Node, node_level, node_edges, level_of, edges_of, answer}
@@ -16,10 +13,12 @@ use Rattle.node_store.proofs.Canonical.{one, leads_on}
 use Rattle.node_store.proofs.Edges as edges
 use Rattle.box_query.specs.Boxes.{Group, boxes_of, put_first, AreRising, Differ, AreGrouped}
 use Rattle.box_query.specs.NodeBoxes.{branches, branch_boxes, node_boxes, AnswersTwo}
-use Rattle.box_query.proofs.Held.{IsHeld}
+use Rattle.field_boxes.proofs.Held.{LiesInOne}
 use Rattle.box_query.proofs.Runs.{rest_at, at-first, at-past, at-before}
 use Rattle.box_query.proofs.Parts.{held-at_value, held-from_value}
-use Rattle.box_query.proofs.Alone.{IsRight, in_width}
+use Rattle.box_query.proofs.Alone.{IsRight}
+use Rattle.node_store.proofs.Values.{in_width}
+use Rattle.node_store.proofs.Edges.{same_id}
 
 pub leaf_boxes : (nodes : List Node) (id : ℕ) → node_boxes nodes [] id ≡ cond (nat_eq (answer nodes id []) 1) ([] ∷ []) []
 unfolding node_boxes
@@ -29,9 +28,6 @@ pub inner_boxes : (nodes : List Node) (f : ℕ) (level : List ℕ) (id : ℕ) �
     node_boxes nodes (f ∷ level) id ≡ flat_map (branch_boxes (node_boxes nodes level)) (branches 0 (edges_of nodes id))
 unfolding node_boxes
 inner_boxes nodes f level id = refl
-
-same_id : (a b : NodeId) → a.0 ≡ b.0 → a ≡ b
-same_id a b p = ap (λ (n : ℕ). let r : NodeId = record { 0 = n } in r) p
 
 -- Groups of edges: one for each that leads to some box.
 
@@ -184,13 +180,13 @@ leaf-grouped : (t : Bool) → AreGrouped [] (cond t ([] ∷ []) [])
 leaf-grouped true = inr refl
 leaf-grouped false = inl refl
 
-leaf-held : (n : ℕ) (t : Bool) → nat_eq n 1 ≡ t → IsHeld (cond t ([] ∷ []) []) [] ↔ (n ≡ 1)
+leaf-held : (n : ℕ) (t : Bool) → nat_eq n 1 ≡ t → LiesInOne (cond t ([] ∷ []) []) [] ↔ (n ≡ 1)
 leaf-held n true e = ((λ h. (Decides-eqb n 1).0 e), (λ h. inl tt))
 leaf-held n false e = ((λ h. absurd h), (λ h. absurd (true≢false (sym ((Decides-eqb n 1).1 h) ∙ e))))
 
 leaf-right : (nodes : List Node) (id : ℕ) (boxes : List (List Interval)) → boxes ≡ cond (nat_eq (answer nodes id []) 1) ([] ∷ []) [] →
     IsRight (λ values. answer nodes id values ≡ 1) [] boxes
-leaf-right nodes id boxes e [] ok = subst (λ bs. IsHeld bs [] ↔ (answer nodes id [] ≡ 1)) (sym e) (leaf-held (answer nodes id []) (nat_eq (answer nodes id []) 1) refl)
+leaf-right nodes id boxes e [] ok = subst (λ bs. LiesInOne bs [] ↔ (answer nodes id [] ≡ 1)) (sym e) (leaf-held (answer nodes id []) (nat_eq (answer nodes id []) 1) refl)
 leaf-right nodes id boxes e (v ∷ values) ok = absurd ok
 
 one-of-two : (a b : ℕ) → (a ≡ 1) ⊎ (a ≡ 2) → (b ≡ 1) ⊎ (b ≡ 2) → (a ≡ 1 → b ≡ 1) → (b ≡ 1 → a ≡ 1) → a ≡ b
@@ -204,7 +200,7 @@ same-boxes : (nodes : List Node) (level : List ℕ) (a b : ℕ) → IsStore node
 same-boxes nodes level a b s is p q h k e =
     one nodes level a b s is p.at q.at (λ values ok.
     let left = h.right values ok in
-    let right = subst (λ bs. IsHeld bs values ↔ (answer nodes b values ≡ 1)) (sym e) (k.right values ok) in
+    let right = subst (λ bs. LiesInOne bs values ↔ (answer nodes b values ≡ 1)) (sym e) (k.right values ok) in
     one-of-two (answer nodes a values) (answer nodes b values) (p.two values ok) (q.two values ok) (λ x. right.0 (left.1 x)) (λ x. left.0 (right.1 x)))
 
 inner-right : (nodes : List Node) (f : ℕ) (level : List ℕ) (id : ℕ) (boxes : List (List Interval)) (groups : List Group) → boxes ≡ boxes_of groups →
@@ -214,8 +210,8 @@ inner-right nodes f level id boxes groups e rise rest below [] ok = absurd ok
 inner-right nodes f level id boxes groups e rise rest below (v ∷ values) ok =
     let high : v ≤ greatest_of f = omega (arith, ok.0) in
     let child = (below v high).right values ok.1 in (
-      (λ h. child.0 (subst (λ bs. IsHeld bs values) (rest v high) (held-at_value groups (AreGrouped level) 0 (greatest_of f) v values rise (subst (λ bs. IsHeld bs (v ∷ values)) e h)).2)),
-      (λ h. subst (λ bs. IsHeld bs (v ∷ values)) (sym e) (held-from_value groups v values (subst (λ bs. IsHeld bs values) (sym (rest v high)) (child.1 h)))),
+      (λ h. child.0 (subst (λ bs. LiesInOne bs values) (rest v high) (held-at_value groups (AreGrouped level) 0 (greatest_of f) v values rise (subst (λ bs. LiesInOne bs (v ∷ values)) e h)).2)),
+      (λ h. subst (λ bs. LiesInOne bs (v ∷ values)) (sym e) (held-from_value groups v values (subst (λ bs. LiesInOne bs values) (sym (rest v high)) (child.1 h)))),
     )
 
 pub has-boxes : (nodes : List Node) (level : List ℕ) → IsStore nodes → IsLevel level → (id : ℕ) → IsFit nodes level id → HasBoxes nodes level id

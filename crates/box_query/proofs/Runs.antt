@@ -1,37 +1,25 @@
 -- Groups over the values of one field are the runs of values with one list of rows.
-use Rattle.std.proofs.Common.{◌≡◌, ◌∷◌, ℕ, List, [], true, false, ◌≤◌, ◌<◌, arith, ap, refl, sym, ◌∙◌, subst, inl, inr}
-use Rattle.std.specs.Prelude.{◌⊎◌, suc, cond, length}
-use Rattle.std.proofs.lemmas.Bool.Decides.{nat_tests}
+use Rattle.std.proofs.Common.{◌≡◌, ◌∷◌, ℕ, List, [], ◌≤◌, ◌<◌, arith, ap, refl, sym, ◌∙◌, subst, inl, inr, ◌⊎◌, suc, cond, length}
 use Rattle.field_boxes.specs.Classifier.{Interval, interval_holds}
 use Rattle.box_query.specs.Boxes.{Group, AreRising, Differ}
+use Rattle.field_boxes.proofs.Unions.{not_past, not_below, holds_between}
+use Rattle.field_boxes.proofs.SameValues.{same_interval}
 
 -- the rows of the group whose interval holds the value, or none
 abbrev pub rest_at : ℕ → List Group → List (List Interval)
 rest_at v [] = []
 rest_at v (x ∷ groups) = cond (interval_holds v x.first) x.rest (rest_at v groups)
 
-pub holds-within : (v : ℕ) (i : Interval) → i.lo ≤ v → v ≤ i.hi → interval_holds v i ≡ true
-holds-within v i low high = grind (arith, nat_tests)
-
-pub holds-past : (v : ℕ) (i : Interval) → i.hi < v → interval_holds v i ≡ false
-holds-past v i past = grind (arith, nat_tests)
-
-pub holds-before : (v : ℕ) (i : Interval) → v < i.lo → interval_holds v i ≡ false
-holds-before v i before = grind (arith, nat_tests)
-
 pub at-first : (v : ℕ) (x : Group) (groups : List Group) → x.first.lo ≤ v → v ≤ x.first.hi → rest_at v (x ∷ groups) ≡ x.rest
-at-first v x groups low high = ap (λ t. cond t x.rest (rest_at v groups)) (holds-within v x.first low high)
+at-first v x groups low high = ap (λ t. cond t x.rest (rest_at v groups)) (holds_between v x.first low high)
 
 pub at-past : (v : ℕ) (x : Group) (groups : List Group) → x.first.hi < v → rest_at v (x ∷ groups) ≡ rest_at v groups
-at-past v x groups past = ap (λ t. cond t x.rest (rest_at v groups)) (holds-past v x.first past)
+at-past v x groups past = ap (λ t. cond t x.rest (rest_at v groups)) (not_past v x.first past)
 
 pub at-before : (P : List (List Interval) → Type 0) (lo hi v : ℕ) (groups : List Group) → AreRising P lo hi groups → v < lo → rest_at v groups ≡ []
 at-before P lo hi v [] h less = refl
 at-before P lo hi v (x ∷ groups) h less =
-    ap (λ t. cond t x.rest (rest_at v groups)) (holds-before v x.first (omega (arith, h.1))) ∙ at-before P (suc x.first.hi) hi v groups h.5 (omega (arith, h.1, h.2))
-
-interval-same : (i j : Interval) → i.lo ≡ j.lo → i.hi ≡ j.hi → i ≡ j
-interval-same i j p q = ap (λ (n : ℕ). let r : Interval = record { lo = n; hi = i.hi } in r) p ∙ ap (λ (n : ℕ). let r : Interval = record { lo = j.lo; hi = n } in r) q
+    ap (λ t. cond t x.rest (rest_at v groups)) (not_below v x.first (omega (arith, h.1))) ∙ at-before P (suc x.first.hi) hi v groups h.5 (omega (arith, h.1, h.2))
 
 no-rows : (rows : List (List Interval)) → 0 < length rows → rows ≡ [] → ⊥
 no-rows [] some e = omega (arith, some)
@@ -104,4 +92,4 @@ groups-same P lo hi (x ∷ xs) (y ∷ ys) hx hy dx dy same =
     let ends = order x.first.hi y.first.hi (no-longer P lo hi x y xs ys hx hy dx same starts e) (no-longer P lo hi y x ys xs hy hx dy back (sym starts) (sym e)) in
     let tail = groups-same P (suc x.first.hi) hi xs ys hx.5 (subst (λ n. AreRising P (suc n) hi ys) (sym ends) hy.5) (differ-rest x xs dx) (differ-rest y ys dy)
     (λ v low high. sym (at-past v x xs (omega (arith, low))) ∙ same v (omega (arith, hx.1, hx.2, low)) high ∙ at-past v y ys (omega (arith, low, ends))) in
-    ap (λ z. z ∷ xs) (group-same x y (interval-same x.first y.first starts ends) e) ∙ ap (λ zs. y ∷ zs) tail
+    ap (λ z. z ∷ xs) (group-same x y (same_interval x.first y.first starts ends) e) ∙ ap (λ zs. y ∷ zs) tail

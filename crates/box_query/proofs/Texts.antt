@@ -1,8 +1,6 @@
 -- The lines of the boxes of a node, edge by edge.
-use Rattle.std.proofs.Common.{◌≡◌, ◌∷◌, ◌++◌, ℕ, zero, suc, ◌+◌, ◌<◌, ◌≤◌, List, [], length, get_or, take, map, refl, ap, sym, ◌∙◌, arith, append_assoc, append-nil, add-one, length-append}
-use Rattle.std.specs.Prelude.{min}
+use Rattle.std.proofs.Common.{◌≡◌, ◌∷◌, ◌++◌, ℕ, zero, suc, ◌+◌, ◌<◌, ◌≤◌, List, [], length, get_or, take, map, refl, ap, sym, ◌∙◌, arith, append_assoc, append-nil, add-one, length-append, min, decimal}
 use Rattle.std.specs.List.{flat_map, join_with_byte}
-use Rattle.std.specs.Fmt.{decimal}
 use Rattle.std.proofs.lemmas.List.{take_more}
 use Rattle.std.proofs.lemmas.List.Concat.{flat_map-append}
 use Rattle.field_boxes.specs.Classifier.{Interval}
@@ -102,5 +100,4 @@ front-count boxes bs zero = omega arith
 front-count boxes [] (suc k) = omega arith
 front-count boxes (b ∷ bs) (suc k) =
     let one = length-append (branch_boxes boxes b) (flat_map (branch_boxes boxes) (take k bs)) in
-    let all = length-append (branch_boxes boxes b) (flat_map (branch_boxes boxes) bs) in
-    let rest = front-count boxes bs k in omega (arith, one, all, rest)
+    let rest = front-count boxes bs k in omega (arith, one, length-append (branch_boxes boxes b) (flat_map (branch_boxes boxes) bs), rest)

@@ -1,14 +1,12 @@
 -- What the walk needs of the nodes that it goes through.
-use Rattle.std.proofs.Common.{◌≡◌, ◌∷◌, ◌++◌, ℕ, zero, suc, ◌^◌, ◌<◌, ◌≤◌, List, [], Bool, true, false, cond, Option, Ok, refl, ap, sym, ◌∙◌, subst, arith, append-nil, length, get_or, map}
-use Rattle.std.specs.Prelude.{nat_eq, not}
+use Rattle.std.proofs.Common.{◌≡◌, ◌∷◌, ◌++◌, ℕ, ◌^◌, ◌<◌, ◌≤◌, List, [], Bool, true, false, cond, Option, Ok, refl, ap, sym, ◌∙◌, subst, arith, append-nil, length, get_or, map, nat_eq, not, flat_map, decimal}
 use Rattle.std.specs.Bool.{OnTrue}
-use Rattle.std.specs.List.{flat_map}
-use Rattle.std.specs.Fmt.{decimal}
+use Rattle.std.proofs.lemmas.Bool.{OnTrue_from, not-true}
 use Rattle.std.proofs.lemmas.Bool.Decides.{Decides-eqb}
 use Rattle.razor_base.specs.Output.{Puts}
 use Rattle.razor_base.proofs.Output.{leaves_out-none}
 use Rattle.field_boxes.specs.Classifier.{Interval}
-use Rattle.field_boxes.specs.Fields.{stated, greatest_of}
+use Rattle.field_boxes.specs.Fields.{stated}
 use Rattle.node_store.specs.declared.edge.Edge.{Edge}
 use Rattle.node_store.specs.Levels.{HasField, next, top_of}
 use Rattle.node_store.specs.Diagram.{Node, edges_of, answer}
@@ -17,6 +15,11 @@ use Rattle.box_query.specs.BoxText.{boxes_text}
 use Rattle.box_query.specs.NodeBoxes.{branches, branch_boxes, front_text, node_boxes}
 use Rattle.box_query.proofs.NodeBoxes.{leaf_boxes, inner_boxes}
 use Rattle.box_query.proofs.Texts.{AreLonger, longer-branches, more-front, last-line}
+use Rattle.field_boxes.proofs.Orders.{field_few}
+
+-- read where no edge stands
+abbrev pub no_edge : Edge
+no_edge = record { hi = 0; to = record { 0 = 0 } }
 
 pub empty-level : (level : List ℕ) → nat_eq (length level) 0 ≡ true → level ≡ []
 empty-level [] h = refl
@@ -26,31 +29,21 @@ empty-level (f ∷ level) h = absurd (let e = (Decides-eqb (length (f ∷ level)
 leaf-at : (nodes : List Node) (id : ℕ) (b t : Bool) → b ≡ nat_eq (answer nodes id []) 1 → b ≡ t → node_boxes nodes [] id ≡ cond t ([] ∷ []) []
 leaf-at nodes id b t e is = leaf_boxes nodes id ∙ ap (λ x. cond x ([] ∷ []) []) (sym e ∙ is)
 
-not-on : (t : Bool) (P : Type 0) → (t ≡ false → P) → OnTrue (not t) P
-not-on true P h = tt
-not-on false P h = h refl
-
 pub leaf-empty : (nodes : List Node) (level : List ℕ) (id : ℕ) (b : Bool) → level ≡ [] → b ≡ nat_eq (answer nodes id []) 1 → OnTrue (not b) (node_boxes nodes level id ≡ [])
-leaf-empty nodes level id b e is = subst (λ l. OnTrue (not b) (node_boxes nodes l id ≡ [])) (sym e) (not-on b (node_boxes nodes [] id ≡ []) (λ no. leaf-at nodes id b false is no))
+leaf-empty nodes level id b e is = subst (λ l. OnTrue (not b) (node_boxes nodes l id ≡ [])) (sym e) (OnTrue_from (not b) (node_boxes nodes [] id ≡ []) (λ no. leaf-at nodes id b false is (not-true b no)))
 
-pub no-text : (front : List ℕ) (i : Interval) (boxes : List (List Interval)) → boxes ≡ [] → [] ≡ front_text front (map (put_first i) boxes)
-no-text front i boxes e = sym (ap (λ bs. front_text front (map (put_first i) bs)) e)
+module _ (front : List ℕ) (i : Interval) (nodes : List Node) (id : ℕ) (b : Bool) (wanted : b ≡ nat_eq (answer nodes id []) 1) where
+  pub no-text : b ≡ false → [] ≡ front_text front (map (put_first i) (node_boxes nodes [] id))
+  no-text is = sym (ap (λ bs. front_text front (map (put_first i) bs)) (leaf-at nodes id b false wanted is))
 
-pub no-count : (i : Interval) (boxes : List (List Interval)) → boxes ≡ [] → 0 ≡ length (map (put_first i) boxes)
-no-count i boxes e = sym (ap (λ bs. length (map (put_first i) bs)) e)
+  pub no-count : b ≡ false → 0 ≡ length (map (put_first i) (node_boxes nodes [] id))
+  no-count is = sym (ap (λ bs. length (map (put_first i) bs)) (leaf-at nodes id b false wanted is))
 
-pub leaf-none : (nodes : List Node) (id : ℕ) (b : Bool) → b ≡ nat_eq (answer nodes id []) 1 → b ≡ false → node_boxes nodes [] id ≡ []
-leaf-none nodes id b e is = leaf-at nodes id b false e is
+  pub one-text : (line : List ℕ) → line ≡ ((front ++ decimal i.lo) ++ (45 ∷ decimal i.hi)) ++ (10 ∷ []) → b ≡ true → line ≡ front_text front (map (put_first i) (node_boxes nodes [] id))
+  one-text line e is = e ∙ last-line front i ∙ sym (ap (λ bs. front_text front (map (put_first i) bs)) (leaf-at nodes id b true wanted is))
 
-pub leaf-one : (nodes : List Node) (id : ℕ) (b : Bool) → b ≡ nat_eq (answer nodes id []) 1 → b ≡ true → node_boxes nodes [] id ≡ [] ∷ []
-leaf-one nodes id b e is = leaf-at nodes id b true e is
-
-pub one-text : (front line : List ℕ) (i : Interval) (boxes : List (List Interval)) → line ≡ ((front ++ decimal i.lo) ++ (45 ∷ decimal i.hi)) ++ (10 ∷ []) → boxes ≡ [] ∷ [] →
-    line ≡ front_text front (map (put_first i) boxes)
-one-text front line i boxes e is = e ∙ last-line front i ∙ sym (ap (λ bs. front_text front (map (put_first i) bs)) is)
-
-pub one-count : (i : Interval) (boxes : List (List Interval)) → boxes ≡ [] ∷ [] → 1 ≡ length (map (put_first i) boxes)
-one-count i boxes e = sym (ap (λ bs. length (map (put_first i) bs)) e)
+  pub one-count : b ≡ true → 1 ≡ length (map (put_first i) (node_boxes nodes [] id))
+  one-count is = sym (ap (λ bs. length (map (put_first i) bs)) (leaf-at nodes id b true wanted is))
 
 -- an inner node
 
@@ -72,9 +65,8 @@ boxes-by nodes (f ∷ level) rest id es h r e =
     ap (λ l. flat_map (branch_boxes (node_boxes nodes l)) (branches 0 es)) r ∙ ap (λ xs. flat_map (branch_boxes (node_boxes nodes level)) (branches 0 xs)) e ∙ sym (inner_boxes nodes f level id)
 
 single : (es : List Edge) (d : Edge) → 0 < length es → length es ≤ 1 → get_or es 0 d ∷ [] ≡ es
-single [] d some one = absurd (omega (arith, some))
 single (e ∷ []) d some one = refl
-single (e ∷ c ∷ es) d some one = absurd (omega (arith, one))
+single es d some one = absurd (omega arith)
 
 -- one edge to a node without a box
 pub single-empty : (nodes : List Node) (level rest : List ℕ) (id : ℕ) (es : List Edge) (d : Edge) (t : Bool) → HasField level → rest ≡ next level → es ≡ edges_of nodes id → 0 < length es → length es ≤ 1 →
@@ -102,18 +94,10 @@ pub puts-ok : {S T U E : Type 0} {w : S → Option (List ℕ)} {f : S → ℕ} {
     Puts {T = T} {E = E} w f a b waited waits text (Ok x) → Puts {T = U} {E = E} w f a b waited waits text (Ok y)
 puts-ok p = record { ok = p.ok; err = tt; lost = tt; failed = tt; calm = p.calm; counts = p.counts }
 
-field-small : (field : ℕ) → field < 5 → greatest_of field ≤ 4294967295
-field-small zero h = omega arith
-field-small (suc zero) h = omega arith
-field-small (suc (suc zero)) h = omega arith
-field-small (suc (suc (suc zero))) h = omega arith
-field-small (suc (suc (suc (suc zero)))) h = omega arith
-field-small (suc (suc (suc (suc (suc n))))) h = absurd (omega (arith, h))
-
 -- no field has a value above 32 bits
 pub top-small : (level : List ℕ) → HasField level → top_of level ≤ 4294967295
 top-small [] h = absurd h
-top-small (f ∷ level) h = field-small f h.0.0
+top-small (f ∷ level) h = omega (arith, field_few f h.0.0)
 
 -- the boxes so far and those of the next edge are few enough to count
 pub few-sum : (sum part all : ℕ) → sum ≡ part → part ≤ all → all ≤ 2 ^ 104 → sum < 2 ^ 128

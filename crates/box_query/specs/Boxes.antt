@@ -1,15 +1,9 @@
 -- The boxes in which a list decides as asked: inside a given box, by a given name.
 use Rattle.std.specs.Prelude.{◌≡◌, ◌≢◌, ◌↔◌, ◌⊎◌, ℕ, suc, ◌≤◌, ◌<◌, List, [], ◌∷◌, length, map, Option}
 use Rattle.std.specs.List.{Any, flat_map}
+use Rattle.field_boxes.specs.Boxes.{LiesIn}
 use Rattle.field_boxes.specs.Classifier.{Interval, Rule, source}
 use Rattle.field_boxes.specs.Fields.{stated, greatest_of, IsHeader}
-
--- the box holds the header: each value lies in the interval of its field
-abbrev pub Holds : List Interval → List ℕ → Type 0
-Holds [] [] = Unit {0}
-Holds [] (v ∷ vs) = ⊥
-Holds (i ∷ box) [] = ⊥
-Holds (i ∷ box) (v ∷ vs) = (i.lo ≤ v) × (v ≤ i.hi) × Holds box vs
 
 -- boxes with one interval in the first field: that interval, and the boxes without it
 pub record Group : Type 0 where
@@ -44,4 +38,4 @@ AreGrouped (f ∷ fields) boxes = (groups : List Group) × (boxes ≡ boxes_of g
 -- the boxes of rules, a box and a name, or none: grouped over the five fields, and they hold exactly the headers of the box that the rules decide so
 pub record AreBoxesOf (rules : List (Rule (List ℕ))) (box : List Interval) (name : Option (List ℕ)) (boxes : List (List Interval)) : Type 0 where
   pub grouped : AreGrouped stated boxes
-  pub exact : (header : List ℕ) → IsHeader header → Any (λ b. Holds b header) boxes ↔ (Holds box header × (source stated header rules ≡ name))
+  pub exact : (header : List ℕ) → IsHeader header → Any (λ b. LiesIn b header) boxes ↔ (LiesIn box header × (source stated header rules ≡ name))

@@ -1,6 +1,7 @@
 -- Rules cut to a box.
 use Rattle.std.specs.Prelude.{ℕ, Bool, false, ◌&&◌, nat_le, List, [], ◌∷◌, ◌++◌, Option, Some, None, IsTrue}
 use Rattle.std.specs.List.{list_all}
+use Rattle.razor_base.specs.declared.limits.TheConstants.{GREATEST_PORT}
 use Rattle.field_boxes.specs.declared.span.Span.{Span}
 use Rattle.field_boxes.specs.declared.rule.Rule as code
 use Rattle.field_boxes.specs.Classifier.{Interval, union_holds, matches}
@@ -24,7 +25,7 @@ port_set (Some ports) = ports
 
 -- no span reaches past the greatest port
 abbrev pub AreLow : List Span → Type 0
-AreLow spans = IsTrue (list_all (λ s. nat_le s.hi 65535) spans)
+AreLow spans = IsTrue (list_all (λ s. nat_le s.hi GREATEST_PORT) spans)
 
 -- whether there is a rule, and it matches the header
 abbrev pub matches_some : List ℕ → Option code.Rule → Bool

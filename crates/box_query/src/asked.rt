@@ -1,15 +1,13 @@
 //! The rules of a list as a query needs them: cut to the box, and told apart by what is wanted.
-ghost use Rattle.std.specs.Prelude.{◌≡◌, ◌≢◌, ◌≤◌, ◌<◌, true, ℕ, List, length, slice_index_or, if◌then◌else◌, None, option_map, IfOk};
+ghost use Rattle.std.specs.Prelude.{◌≡◌, ◌≢◌, ◌≤◌, ◌<◌, ℕ, List, length, slice_index_or, if◌then◌else◌, None, option_map, IfOk};
 ghost use Rattle.field_boxes.specs.declared.rule.Rule.{Rule as SeenRule};
 ghost use Rattle.field_boxes.specs.Boxes.{box_of, box_holds};
-ghost use Rattle.field_boxes.specs.Classifier.{matches, union_holds};
 ghost use Rattle.field_boxes.specs.Fields.{stated, IsHeader};
-ghost use Rattle.field_boxes.specs.Rules.{rule_of};
 ghost use Rattle.fdd_build.specs.Rules.{decided};
 ghost use Rattle.box_query.specs.Asked.{label, number_decided};
 
 use crate::cut::{put_cut, put_rule};
-use field_boxes::{Ports, Rule, Span};
+use field_boxes::{Rule, Span};
 use razor_base::Memory;
 use std::alloc::Global;
 
@@ -37,35 +35,6 @@ fn needed(rules: &[Rule], wanted: u32) -> usize
         }
     }
     count
-}
-
-/// The rule that matches every header.
-fn open(decision: u32) -> Rule
-    ensures decision { result.decision ≡ decision }
-    ensures matched { (header : List ℕ) → IsHeader header → matches stated header (rule_of result) ≡ true }
-{
-    let ports = all_ports();
-    let addresses = Span {
-        lo: 0,
-        hi: u32::MAX,
-    };
-    Rule {
-        source: addresses,
-        destination: addresses,
-        ports: [ports, ports],
-        protocol: Span { lo: 0, hi: 255 },
-        decision,
-    }
-}
-
-/// All ports.
-fn all_ports() -> Ports
-    ensures { (v : ℕ) → v ≤ 65535 → union_holds v result ≡ true }
-{
-    match Ports::of(&[Span { lo: 0, hi: 65_535 }]) {
-        Some(ports) => ports,
-        None => unreachable!(),
-    }
 }
 
 /// The rules, cut to the box, with labels in place of decisions.
@@ -97,7 +66,7 @@ pub(crate) fn asked(
 {
     let count = needed(rules, wanted);
     let mut kept = cut_all(alloc, &rules[..count], spans, wanted)?;
-    put_cut(alloc, &mut kept, &open(0), spans, label(wanted, 0))?;
-    put_rule(&mut kept, open(2))?;
+    put_cut(alloc, &mut kept, &Rule::open(0), spans, label(wanted, 0))?;
+    put_rule(&mut kept, Rule::open(2))?;
     Ok(kept)
 }

@@ -1,5 +1,6 @@
 //! Rules cut to a box.
 ghost use Rattle.std.specs.Prelude.{◌≡◌, ◌≤◌, ◌+◌, ◌&&◌, ◌||◌, ℕ, List, ◌++◌, ◌∷◌, [], length, IfOk, IfSome};
+ghost use Rattle.razor_base.specs.declared.limits.TheConstants.{GREATEST_PORT, GREATEST_PROTOCOL};
 ghost use Rattle.field_boxes.specs.Boxes.{box_of, box_holds};
 ghost use Rattle.field_boxes.specs.Classifier.{union_holds, matches};
 ghost use Rattle.field_boxes.specs.Fields.{stated, IsHeader};
@@ -23,7 +24,7 @@ fn common(a: Span, b: Span) -> Option<Span>
 
 /// Puts what two spans have in common behind the others.
 fn put_common(kept: &mut Vec<Span>, span: Span, to: Span) -> Result<(), Memory>
-    requires { span.hi ≤ 65535 }
+    requires { span.hi ≤ GREATEST_PORT }
     ensures values { IfOk result (λ _. (v : ℕ) → union_holds v (intervals_of kept.new.items) ≡
         (union_holds v (intervals_of kept.old.items) || both_hold v (interval_of span) (interval_of to))) }
     ensures few { IfOk result (λ _. length kept.new.items ≤ length kept.old.items + 1) }
@@ -55,7 +56,7 @@ fn joined(
     protocol: Option<Span>,
     decision: u32,
 ) -> Option<Rule>
-    requires { IfSome protocol (λ s. s.hi ≤ 255) }
+    requires { IfSome protocol (λ s. s.hi ≤ GREATEST_PROTOCOL) }
     ensures decision { IfSome result (λ r. r.decision ≡ decision) }
     ensures matched { (header : List ℕ) → IsHeader header →
         matches_some header result ≡ matches stated header (box_rule (span_set source ∷ span_set destination ∷ port_set source_ports ∷ port_set destination_ports ∷ span_set protocol ∷ [])) }

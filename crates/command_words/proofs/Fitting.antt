@@ -1,17 +1,14 @@
 -- The words of a command, as its form takes them.
-use Rattle.std.proofs.Common.{◌≡◌, ◌∷◌, ℕ, ◌-◌, ◌≤◌, List, [], Bool, true, false, length, map, take, get_or, refl, ap, sym, ◌∙◌, arith, Bor}
-use Rattle.std.specs.Prelude.{Option, Some, None, not, ◌&&◌, ◌||◌, cond, find}
+use Rattle.std.proofs.Common.{◌≡◌, ◌∷◌, ℕ, ◌-◌, ◌≤◌, List, [], Bool, true, false, length, map, take, get_or, refl, ap, sym, ◌∙◌, arith, Bor, Option, Some, None, not, ◌&&◌, ◌||◌, cond, find, option_map, bytes_eq}
 use Rattle.std.specs.List.{list_any}
-use Rattle.std.specs.Option.{option_map}
-use Rattle.std.specs.Str.{bytes_eq}
 use Rattle.std.proofs.Math.Seq.{take-length}
 use Rattle.command_words.specs.declared.form.CommandForm.{CommandForm}
 use Rattle.command_words.specs.Command.{Command}
 use Rattle.command_words.specs.Forms.{Form, forms}
 use Rattle.command_words.specs.Items.{items_of}
-use Rattle.command_words.specs.Naming.{all_differ, command_named}
+use Rattle.command_words.specs.Naming.{Settings, all_differ, command_named}
 use Rattle.command_words.specs.Spelling.{Found, command_of, found_among, settings_of}
-use Rattle.command_words.specs.Steps.{◌>>=◌}
+use Rattle.text_lines.specs.Steps.{◌>>=◌}
 use Rattle.command_words.specs.Views.{form_seen}
 use Rattle.command_words.proofs.Taking.{behind, first}
 
@@ -60,3 +57,16 @@ no_words = refl
 pub some_words : (name : List ℕ) (words : List (List ℕ)) → command_of (name ∷ words) ≡ (find (λ form. bytes_eq form.name name) forms >>= makes_of (items_of None words >>= found_among))
 unfolding command_of
 some_words name words = same_then (find (λ form. bytes_eq form.name name) forms) _ _ (λ form. sym (first (items_of None words) found_among (makes form)))
+
+-- the command of words that begin with a name, as far as is known what its parts come to
+module _ (words rest : List (List ℕ)) (name : List ℕ) (begins : words ≡ name ∷ rest) where
+  pub by_form : (form : Option Form) → form ≡ find (λ form. bytes_eq form.name name) forms → command_of words ≡ (form >>= makes_of (items_of None rest >>= found_among))
+  by_form form h = ap command_of begins ∙ some_words name rest ∙ ap (λ f. f >>= makes_of (items_of None rest >>= found_among)) (sym h)
+
+  module _ (form : Form) (h : Some form ≡ find (λ form. bytes_eq form.name name) forms) where
+    pub by_parts : (found : Option Found) → found ≡ (items_of None rest >>= found_among) → command_of words ≡ (found >>= makes form)
+    by_parts found k = by_form (Some form) h ∙ ap (λ f. f >>= makes form) (sym k)
+
+    pub by_settings : (found : Found) (settings : Option Settings) → Some found ≡ (items_of None rest >>= found_among) → settings ≡ settings_of form found →
+        command_of words ≡ (settings >>= (λ s. command_named form.command s found.plain))
+    by_settings found settings k s = by_parts (Some found) k ∙ ap (λ x. x >>= (λ s. command_named form.command s found.plain)) (sym s)

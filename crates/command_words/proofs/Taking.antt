@@ -1,18 +1,16 @@
 -- What the first of some words adds to what was found before them.
-use Rattle.std.proofs.Common.{◌≡◌, ◌∷◌, ◌++◌, ℕ, ◌-◌, ◌≤◌, ◌<◌, List, [], Bool, true, false, length, map, take, drop, get_or, refl, ap, sym, ◌∙◌, arith, append_assoc}
-use Rattle.std.specs.Prelude.{Option, Some, None, nat_le, if◌then◌else◌}
-use Rattle.std.specs.Option.{option_map}
+use Rattle.std.proofs.Common.{◌≡◌, ◌∷◌, ◌++◌, ℕ, ◌-◌, ◌≤◌, ◌<◌, List, [], Bool, true, false, length, map, take, drop, get_or, refl, ap, sym, ◌∙◌, arith, append_assoc, Option, Some, None, nat_le, if◌then◌else◌, option_map}
 use Rattle.std.proofs.Math.Seq.{take-length}
 use Rattle.std.proofs.lemmas.Bool.{le-leb, leb-false, lt-leb}
 use Rattle.std.proofs.lemmas.List.{append-nil, length-append, length-map, length-take}
 use Rattle.command_words.specs.declared.option.OptionName.{OptionName}
 use Rattle.command_words.specs.declared.option.OptionName.TheVariants.{Limit, Slot, Slots, Order}
-use Rattle.command_words.specs.Items.{Item, Given, Plain, Reading, Ends, Awaits, Gives, Stands, Fails, items_of, plain_of, reading_of, values_of}
+use Rattle.command_words.specs.Items.{Item, Given, Plain, Reading, Ends, Awaits, Gives, Stands, Fails, in_front, items_of, plain_of, reading_of, values_of}
 use Rattle.command_words.specs.Parts.{first_value, nothing_found, one_in_all, with_items, with_plain, with_value, with_words}
 use Rattle.command_words.specs.Spelling.{Found, few_words, found_among}
 use Rattle.command_words.specs.declared.plain.PlainWords.{PlainWords}
 use Rattle.command_words.specs.PlainWords.{plain_seen}
-use Rattle.command_words.specs.Steps.{◌>>=◌, in_front}
+use Rattle.text_lines.specs.Steps.{◌>>=◌}
 
 in_front-then : {A B : Type 0} (x : A) (xs : Option (List A)) (f : List A → Option B) → (in_front x xs >>= f) ≡ (xs >>= (λ ys. f (x ∷ ys)))
 in_front-then x None f = refl
@@ -23,29 +21,28 @@ pub first : {K S B : Type 0} (r : Option K) (g : K → Option S) (k : S → Opti
 first None g k = refl
 first (Some y) g k = refl
 
+-- a step that doesn't depend on an earlier one
+swap : {A B C : Type 0} (items : Option A) (r : Option B) (f : A → Option C) (g : B → A → Option C) → ((x : A) → f x ≡ (r >>= (λ y. g y x))) → (items >>= f) ≡ (r >>= (λ y. items >>= g y))
+swap None None f g h = refl
+swap None (Some y) f g h = refl
+swap (Some x) r f g h = h x
+
 second : {A K S B : Type 0} (a : Option A) (r : Option K) (g : K → Option S) (k : A → S → Option B) →
     (a >>= (λ x. (r >>= g) >>= k x)) ≡ (r >>= (λ y. a >>= (λ x. g y >>= k x)))
-second None None g k = refl
-second (Some x) None g k = refl
-second a (Some y) g k = refl
+second a r g k = swap a r (λ x. (r >>= g) >>= k x) (λ y x. g y >>= k x) (λ x. first r g (k x))
 
 third : {A C K S B : Type 0} (a : Option A) (c : Option C) (r : Option K) (g : K → Option S) (k : A → C → S → Option B) →
     (a >>= (λ x. c >>= (λ z. (r >>= g) >>= k x z))) ≡ (r >>= (λ y. a >>= (λ x. c >>= (λ z. g y >>= k x z))))
-third None c None g k = refl
-third (Some x) c None g k = second c None g (k x)
-third a c (Some y) g k = refl
+third a c r g k = swap a r (λ x. c >>= (λ z. (r >>= g) >>= k x z)) (λ y x. c >>= (λ z. g y >>= k x z)) (λ x. second c r g (k x))
 
 fourth : {A C D K S B : Type 0} (a : Option A) (c : Option C) (d : Option D) (r : Option K) (g : K → Option S) (k : A → C → D → S → Option B) →
     (a >>= (λ x. c >>= (λ z. d >>= (λ w. (r >>= g) >>= k x z w)))) ≡ (r >>= (λ y. a >>= (λ x. c >>= (λ z. d >>= (λ w. g y >>= k x z w)))))
-fourth None c d None g k = refl
-fourth (Some x) c d None g k = third c d None g (k x)
-fourth a c d (Some y) g k = refl
+fourth a c d r g k = swap a r (λ x. c >>= (λ z. d >>= (λ w. (r >>= g) >>= k x z w))) (λ y x. c >>= (λ z. d >>= (λ w. g y >>= k x z w))) (λ x. third c d r g (k x))
 
 fifth : {A C D E K S B : Type 0} (a : Option A) (c : Option C) (d : Option D) (e : Option E) (r : Option K) (g : K → Option S) (k : A → C → D → E → S → Option B) →
     (a >>= (λ x. c >>= (λ z. d >>= (λ w. e >>= (λ v. (r >>= g) >>= k x z w v))))) ≡ (r >>= (λ y. a >>= (λ x. c >>= (λ z. d >>= (λ w. e >>= (λ v. g y >>= k x z w v))))))
-fifth None c d e None g k = refl
-fifth (Some x) c d e None g k = fourth c d e None g (k x)
-fifth a c d e (Some y) g k = refl
+fifth a c d e r g k =
+    swap a r (λ x. c >>= (λ z. d >>= (λ w. e >>= (λ v. (r >>= g) >>= k x z w v)))) (λ y x. c >>= (λ z. d >>= (λ w. e >>= (λ v. g y >>= k x z w v)))) (λ x. fourth c d e r g (k x))
 
 mapped : {A B C : Type 0} (h : A → B) (x : Option A) (f : B → Option C) → (option_map h x >>= f) ≡ (x >>= (λ y. f (h y)))
 mapped h None f = refl
@@ -76,9 +73,8 @@ one_more (Some first) value values = refl
 few_test : (xs ys : List (List ℕ)) (t : Bool) → nat_le (length xs) 9 ≡ t → few_words (xs ++ ys) ≡ ((if t then Some xs else None) >>= (λ zs. few_words (zs ++ ys)))
 few_test xs ys true h = refl
 few_test xs ys false h =
-    let sum = length-append xs ys in
     let many : 9 < length xs = leb-false (length xs) 9 h in
-    ap (λ t. if t then Some (xs ++ ys) else None) (lt-leb (length (xs ++ ys)) 9 (omega (arith, sum, many)))
+    ap (λ t. if t then Some (xs ++ ys) else None) (lt-leb (length (xs ++ ys)) 9 (omega (arith, length-append xs ys, many)))
 
 few-more : (xs ys : List (List ℕ)) → few_words (xs ++ ys) ≡ (few_words xs >>= (λ zs. few_words (zs ++ ys)))
 few-more xs ys = few_test xs ys (nat_le (length xs) 9) refl
@@ -141,12 +137,6 @@ at_end found few =
     let same = append-nil found.plain in
     rw (none_more found.limit, none_more found.slot, none_more found.slots, none_more found.order, same, le-leb (length found.plain) 9 few) refl
 
--- a step that doesn't depend on the items
-swap : {A B C : Type 0} (items : Option A) (r : Option B) (f : A → Option C) (g : B → A → Option C) → ((x : A) → f x ≡ (r >>= (λ y. g y x))) → (items >>= f) ≡ (r >>= (λ y. items >>= g y))
-swap None None f g h = refl
-swap None (Some y) f g h = refl
-swap (Some x) r f g h = h x
-
 -- the items of a word that reads so, and of the words behind it
 abbrev items_at : List ℕ → List (List ℕ) → Reading → Option (List Item)
 items_at word words Ends = Some (map Plain words)
@@ -154,10 +144,6 @@ items_at word words (Awaits option) = items_of (Some option) words
 items_at word words (Gives option value) = in_front (Given option value) (items_of None words)
 items_at word words Stands = in_front (Plain word) (items_of None words)
 items_at word words Fails = None
-
-read_so : (found : Found) (word : List ℕ) (words : List (List ℕ)) (reading : Reading) → reading_of word ≡ reading → with_words found (word ∷ words) ≡ (items_at word words reading >>= with_items found)
-unfolding with_words
-read_so found word words reading e = ap (λ r. items_at word words r >>= with_items found) e
 
 with_given : (found : Found) (option : OptionName) (value : List ℕ) (words : List (List ℕ)) → (in_front (Given option value) (items_of None words) >>= with_items found) ≡ (with_value found option value >>= (λ more. with_words more words))
 unfolding with_words
@@ -170,27 +156,6 @@ unfolding with_words
 with_word found word words =
     in_front-then (Plain word) (items_of None words) (with_items found)
     ∙ swap (items_of None words) (with_plain found (word ∷ [])) (λ items. with_items found (Plain word ∷ items)) (λ more. with_items more) (plain found word)
-
-pub as_ended : (found : Found) (word : List ℕ) (words : List (List ℕ)) → reading_of word ≡ Ends → with_words found (word ∷ words) ≡ with_plain found words
-as_ended found word words e = read_so found word words Ends e ∙ ended found words
-
-pub as_given : (found : Found) (word : List ℕ) (words : List (List ℕ)) (option : OptionName) (value : List ℕ) → reading_of word ≡ Gives option value →
-    with_words found (word ∷ words) ≡ (with_value found option value >>= (λ more. with_words more words))
-as_given found word words option value e = read_so found word words (Gives option value) e ∙ with_given found option value words
-
-pub as_awaited : (found : Found) (word value : List ℕ) (words : List (List ℕ)) (option : OptionName) → reading_of word ≡ Awaits option →
-    with_words found (word ∷ value ∷ words) ≡ (with_value found option value >>= (λ more. with_words more words))
-as_awaited found word value words option e = read_so found word (value ∷ words) (Awaits option) e ∙ with_given found option value words
-
-pub as_plain : (found : Found) (word : List ℕ) (words : List (List ℕ)) → reading_of word ≡ Stands →
-    with_words found (word ∷ words) ≡ (with_plain found (word ∷ []) >>= (λ more. with_words more words))
-as_plain found word words e = read_so found word words Stands e ∙ with_word found word words
-
-pub as_none : (found : Found) (word : List ℕ) (words : List (List ℕ)) → reading_of word ≡ Fails → with_words found (word ∷ words) ≡ None
-as_none found word words e = read_so found word words Fails e
-
-pub as_valueless : (found : Found) (word : List ℕ) (option : OptionName) → reading_of word ≡ Awaits option → with_words found (word ∷ []) ≡ None
-as_valueless found word option e = read_so found word [] (Awaits option) e
 
 -- what a step says once it is known to give something, or nothing
 pub on_some : {A B : Type 0} (r : Option A) (x : A) (f : A → Option B) (whole : Option B) → Some x ≡ r → whole ≡ (r >>= f) → f x ≡ whole
@@ -217,9 +182,7 @@ none_behind text (x ∷ xs) few = absurd (omega (arith, few))
 pub few_seen : (kept : PlainWords) → length (plain_seen kept) ≤ 9
 few_seen kept =
     let most = kept.within in
-    let seen = length-map (take kept.count kept.words) (λ word. word.now) in
-    let taken = length-take kept.count kept.words in
-    omega (arith, seen, taken)
+    omega (arith, length-map (take kept.count kept.words) (λ word. word.now), length-take kept.count kept.words)
 
 -- what was found, with other plain words
 pub replaced : (found : Found) (words plain : List (List ℕ)) → Some plain ≡ few_words (found.plain ++ words) → Some (record found { plain = plain }) ≡ with_plain found words
@@ -227,6 +190,55 @@ replaced found words plain h = ap (option_map (λ p. record found { plain = p })
 
 pub nothing : (found : Found) (words : List (List ℕ)) → None ≡ few_words (found.plain ++ words) → None ≡ with_plain found words
 nothing found words h = ap (option_map (λ p. record found { plain = p })) h
+
+-- what the first word adds, once it is known how it reads, and whether what it adds has a place
+module _ (found : Found) (all rest : List (List ℕ)) (word : List ℕ) (begins : all ≡ word ∷ rest) where
+  read_so : (reading : Reading) → reading_of word ≡ reading → with_words found all ≡ (items_at word rest reading >>= with_items found)
+  unfolding with_words
+  read_so reading e = ap (with_words found) begins ∙ ap (λ r. items_at word rest r >>= with_items found) e
+
+  pub fails : reading_of word ≡ Fails → None ≡ with_words found all
+  fails e = sym (read_so Fails e)
+
+  pub ends-none : reading_of word ≡ Ends → None ≡ few_words (found.plain ++ rest) → None ≡ with_words found all
+  ends-none e h = nothing found rest h ∙ sym (read_so Ends e ∙ ended found rest)
+
+  pub ends-some : (kept : PlainWords) → reading_of word ≡ Ends → Some (plain_seen kept) ≡ few_words (found.plain ++ rest) → with_words (record found { plain = plain_seen kept }) [] ≡ with_words found all
+  ends-some kept e h =
+      let plain = plain_seen kept in
+      at_end (record found { plain = plain }) (few_seen kept) ∙ replaced found rest plain h ∙ sym (read_so Ends e ∙ ended found rest)
+
+  as_given : (option : OptionName) (value : List ℕ) → reading_of word ≡ Gives option value → with_words found all ≡ (with_value found option value >>= (λ more. with_words more rest))
+  as_given option value e = read_so (Gives option value) e ∙ with_given found option value rest
+
+  pub gives-none : (option : OptionName) (value : List ℕ) → reading_of word ≡ Gives option value → None ≡ with_value found option value → None ≡ with_words found all
+  gives-none option value e h = on_none (with_value found option value) (λ more. with_words more rest) (with_words found all) h (as_given option value e)
+
+  pub gives-some : (option : OptionName) (value : List ℕ) (now : Found) → reading_of word ≡ Gives option value → Some now ≡ with_value found option value → with_words now rest ≡ with_words found all
+  gives-some option value now e h = on_some (with_value found option value) now (λ more. with_words more rest) (with_words found all) h (as_given option value e)
+
+  as_plain : reading_of word ≡ Stands → with_words found all ≡ (with_plain found (word ∷ []) >>= (λ more. with_words more rest))
+  as_plain e = read_so Stands e ∙ with_word found word rest
+
+  pub stands-none : reading_of word ≡ Stands → None ≡ few_words (found.plain ++ word ∷ []) → None ≡ with_words found all
+  stands-none e h = on_none (with_plain found (word ∷ [])) (λ more. with_words more rest) (with_words found all) (nothing found (word ∷ []) h) (as_plain e)
+
+  pub stands-some : (plain : List (List ℕ)) → reading_of word ≡ Stands → Some plain ≡ few_words (found.plain ++ word ∷ []) → with_words (record found { plain = plain }) rest ≡ with_words found all
+  stands-some plain e h =
+      on_some (with_plain found (word ∷ [])) (record found { plain = plain }) (λ more. with_words more rest) (with_words found all) (replaced found (word ∷ []) plain h) (as_plain e)
+
+  pub awaits-end : (option : OptionName) → reading_of word ≡ Awaits option → rest ≡ [] → None ≡ with_words found all
+  awaits-end option e none = sym (read_so (Awaits option) e ∙ ap (λ ws. items_of (Some option) ws >>= with_items found) none)
+
+  module _ (option : OptionName) (value : List ℕ) (after : List (List ℕ)) (next : rest ≡ value ∷ after) (e : reading_of word ≡ Awaits option) where
+    as_awaited : with_words found all ≡ (with_value found option value >>= (λ more. with_words more after))
+    as_awaited = read_so (Awaits option) e ∙ ap (λ ws. items_of (Some option) ws >>= with_items found) next ∙ with_given found option value after
+
+    pub awaits-none : None ≡ with_value found option value → None ≡ with_words found all
+    awaits-none h = on_none (with_value found option value) (λ more. with_words more after) (with_words found all) h as_awaited
+
+    pub awaits-some : (now : Found) → Some now ≡ with_value found option value → with_words now after ≡ with_words found all
+    awaits-some now h = on_some (with_value found option value) now (λ more. with_words more after) (with_words found all) h as_awaited
 
 -- what is found among all words
 pub all_words : (words : List (List ℕ)) → with_words nothing_found words ≡ (items_of None words >>= found_among)

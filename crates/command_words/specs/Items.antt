@@ -1,11 +1,11 @@
 -- The words after a command's name, as options with their values and plain words.
-use Rattle.std.specs.Prelude.{ℕ, Bool, false, ◌==◌, List, [], ◌∷◌, length, take, drop, map, Option, Some, None, unwrap_or, codes, if◌then◌else◌}
+use Rattle.std.specs.Prelude.{ℕ, Bool, false, ◌==◌, List, [], ◌∷◌, length, take, drop, map, Option, Some, None, option_map, unwrap_or, codes, if◌then◌else◌}
 use Rattle.std.specs.Option.{option_or}
 use Rattle.std.specs.Str.{bytes_eq}
 use Rattle.command_words.specs.declared.option.OptionName.{OptionName}
 use Rattle.command_words.specs.declared.option.OptionName.TheVariants.{Limit, Slot, Slots, Order}
 use Rattle.command_words.specs.Options.{option_text, same_option}
-use Rattle.command_words.specs.Steps.{◌>>=◌, in_front}
+use Rattle.text_lines.specs.Steps.{◌>>=◌}
 
 -- an option and its value, or a plain word
 pub data Item : Type 0 where
@@ -46,6 +46,10 @@ unfoldable pub reading_of : List ℕ → Reading
 reading_of word =
     if bytes_eq word (codes "--") then Ends
     else unwrap_or (as_some_option word) (if is_dashed word then Fails else Stands)
+
+-- the item in front of the list, where there is one
+abbrev pub in_front : {A : Type 0} → A → Option (List A) → Option (List A)
+in_front x xs = option_map (λ ys. x ∷ ys) xs
 
 -- the words as items, where a value of the option is due, if any
 abbrev pub items_of : Option OptionName → List (List ℕ) → Option (List Item)

@@ -2,6 +2,7 @@
 use Rattle.std.specs.Prelude.{ℕ, Bool, true, not, ◌&&◌, List, [], ◌∷◌, length, nat_le, Option, Some, None, if◌then◌else◌}
 use Rattle.std.specs.List.{list_any}
 use Rattle.std.specs.Str.{bytes_eq}
+use Rattle.razor_base.specs.declared.limits.TheConstants.{MOST_RULES}
 use Rattle.field_boxes.specs.Classifier.{Interval}
 use Rattle.command_words.specs.declared.form.CommandName.{CommandName}
 use Rattle.command_words.specs.declared.form.CommandName.TheVariants as names
@@ -9,7 +10,7 @@ use Rattle.command_words.specs.Command.{Command, Sizes, Expand, Compile, Arrange
 use Rattle.command_words.specs.Questions.{decision_asked, spans_asked}
 use Rattle.command_words.specs.Orders.{Wanted}
 use Rattle.command_words.specs.Numbers.{number_between}
-use Rattle.command_words.specs.Steps.{◌>>=◌}
+use Rattle.text_lines.specs.Steps.{◌>>=◌}
 
 -- what the options come to
 pub record Settings : Type 0 where
@@ -54,7 +55,7 @@ over_script slots words = if is_script_run words then Some (driving slots words)
 abbrev pub drawing : (ℕ → ℕ → Command) → List (List ℕ) → Option Command
 drawing command (seed ∷ rules ∷ []) = do
   seed ← number_between 0 2147483647 seed
-  rules ← number_between 0 65536 rules
+  rules ← number_between 0 MOST_RULES rules
   Some (command seed rules)
 drawing command words = None
 

@@ -1,17 +1,10 @@
 -- Number words.
-use Rattle.std.specs.Prelude.{ℕ, ◌+◌, ◌*◌, ◌-◌, Bool, ◌&&◌, List, fold, length, nat_le, Option, Some, None, if◌then◌else◌}
-use Rattle.std.specs.List.{list_all}
-use Rattle.std.specs.Char.{is_ascii_digit}
+use Rattle.std.specs.Prelude.{ℕ, List, nat_le, Option, Some, None, if◌then◌else◌}
+use Rattle.text_lines.specs.Numbers.{short_number}
+use Rattle.text_lines.specs.Steps.{◌>>=◌}
 
--- one to ten digits, leading zeros allowed
-abbrev pub is_number : List ℕ → Bool
-is_number word = nat_le 1 (length word) && nat_le (length word) 10 && list_all is_ascii_digit word
-
--- what the digits stand for, the highest first
-abbrev pub number_of : List ℕ → ℕ
-number_of word = fold (λ n b. n * 10 + (b - 48)) 0 word
-
--- the number that the word writes, where it lies between these
+-- the number that the word writes in one to ten digits, leading zeros allowed, where it lies between these
 unfoldable pub number_between : ℕ → ℕ → List ℕ → Option ℕ
-number_between least greatest word =
-    if is_number word && nat_le least (number_of word) && nat_le (number_of word) greatest then Some (number_of word) else None
+number_between least greatest word = do
+  number ← short_number 10 10 greatest word
+  if nat_le least number then Some number else None

@@ -1,11 +1,12 @@
 -- The options: how they are written, and which values they take.
 use Rattle.std.specs.Prelude.{◌≡◌, ◌≤◌, ◌⊎◌, ℕ, Bool, true, false, ◌||◌, ◌==◌, List, Option, Some, None, codes, if◌then◌else◌}
+use Rattle.razor_base.specs.declared.limits.TheConstants.{MOST_ENTRIES}
 use Rattle.command_words.specs.declared.option.OptionName.{OptionName}
 use Rattle.command_words.specs.declared.option.OptionName.TheVariants.{Limit, Slot, Slots, Order}
 use Rattle.command_words.specs.declared.form.Need.{Need}
 use Rattle.command_words.specs.declared.form.Need.TheVariants.{Never, Always}
 use Rattle.command_words.specs.Numbers.{number_between}
-use Rattle.command_words.specs.Steps.{◌>>=◌}
+use Rattle.text_lines.specs.Steps.{◌>>=◌}
 
 -- how the option is written
 abbrev pub option_text : OptionName → List ℕ
@@ -31,7 +32,7 @@ IsSlotWidth bits = (bits ≡ 104) ⊎ (bits ≡ 144) ⊎ (bits ≡ 288)
 
 -- a number of entries or slots that a value of an option writes, where the option takes it
 unfoldable pub size_in : List ℕ → Option ℕ
-size_in value = number_between 1 262144 value
+size_in value = number_between 1 MOST_ENTRIES value
 
 -- a width of a slot that a value of the option writes, where the option takes it
 unfoldable pub width_in : List ℕ → Option ℕ

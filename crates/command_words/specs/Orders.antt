@@ -1,21 +1,13 @@
 -- Orders of the five fields, and how they are written.
-use Rattle.std.specs.Prelude.{ℕ, ◌-◌, Bool, true, not, ◌&&◌, ◌==◌, nat_eq, nat_lt, List, [], ◌∷◌, length, map, Option, Some, None, codes, if◌then◌else◌}
-use Rattle.std.specs.List.{list_all, list_any}
+use Rattle.std.specs.Prelude.{ℕ, ◌-◌, Bool, ◌&&◌, ◌==◌, List, length, map, Option, Some, None, codes, if◌then◌else◌}
+use Rattle.std.specs.List.{list_all}
 use Rattle.std.specs.Char.{is_ascii_digit}
 use Rattle.std.specs.Str.{bytes_eq}
-
--- no number stands twice
-abbrev pub are_apart : List ℕ → Bool
-are_apart [] = true
-are_apart (f ∷ fields) = not (list_any (nat_eq f) fields) && are_apart fields
-
--- all of them are fields, which are numbered from 0
-abbrev pub are_fields : List ℕ → Bool
-are_fields fields = list_all (λ f. nat_lt f 5) fields
+use Rattle.field_boxes.specs.Orders.{are_distinct, are_fields}
 
 -- five fields, each once
 abbrev pub is_order : List ℕ → Bool
-is_order fields = length fields == 5 && (are_fields fields && are_apart fields)
+is_order fields = length fields == 5 && (are_fields fields && are_distinct fields)
 
 -- the numbers of the digits of a word
 abbrev pub digits_of : List ℕ → List ℕ

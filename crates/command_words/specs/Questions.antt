@@ -1,16 +1,14 @@
 -- What is asked of a list: in which spans, and where it decides what.
-use Rattle.std.specs.Prelude.{ℕ, ◌+◌, ◌==◌, Bool, false, not, ◌&&◌, ◌||◌, List, [], ◌∷◌, take, drop, codes, position, Option, Some, None, option_map, if◌then◌else◌}
+use Rattle.std.specs.Prelude.{ℕ, ◌+◌, ◌==◌, Bool, false, not, ◌&&◌, ◌||◌, List, [], ◌∷◌, codes, Option, Some, None, if◌then◌else◌}
 use Rattle.std.specs.Option.{is_some}
 use Rattle.std.specs.Str.{bytes_eq}
+use Rattle.razor_base.specs.declared.limits.TheConstants.{MOST_RULES}
 use Rattle.field_boxes.specs.Classifier.{Interval}
 use Rattle.field_boxes.specs.Fields.{greatest_of}
 use Rattle.field_boxes.specs.Names.{is_decision_word, miss}
 use Rattle.command_words.specs.Numbers.{number_between}
-use Rattle.command_words.specs.Steps.{◌>>=◌}
-
--- what stands before the first separator, and what stands after it
-abbrev pub split_once : ℕ → List ℕ → Option (List ℕ × List ℕ)
-split_once separator word = option_map (λ i. (take i word, drop (i + 1) word)) (position (λ b. b == separator) word)
+use Rattle.text_lines.specs.Cuts.{split_once}
+use Rattle.text_lines.specs.Steps.{◌>>=◌}
 
 abbrev pub span : ℕ → ℕ → Interval
 span lo hi = record { lo = lo; hi = hi }
@@ -37,7 +35,7 @@ spans_asked field (word ∷ words) = do
 
 -- '#' and the number of a rule, 1 to 65536, without leading zeros
 abbrev pub is_own_name : List ℕ → Bool
-is_own_name (hash ∷ digit ∷ digits) = hash == 35 && (not (digit == 48) && is_some (number_between 1 65536 (digit ∷ digits)))
+is_own_name (hash ∷ digit ∷ digits) = hash == 35 && (not (digit == 48) && is_some (number_between 1 MOST_RULES (digit ∷ digits)))
 is_own_name word = false
 
 -- what a query may name: a decision word, the name of a rule without one, or miss

@@ -1,6 +1,7 @@
 -- The command that words spell.
 use Rattle.std.specs.Prelude.{ℕ, List, [], ◌∷◌, length, nat_le, find, Option, Some, None, if◌then◌else◌}
 use Rattle.std.specs.Str.{bytes_eq}
+use Rattle.razor_base.specs.declared.limits.TheConstants.{MOST_ENTRIES}
 use Rattle.command_words.specs.declared.option.OptionName.TheVariants.{Limit, Slot, Slots, Order}
 use Rattle.command_words.specs.Command.{Command}
 use Rattle.command_words.specs.Forms.{Form, forms}
@@ -8,7 +9,7 @@ use Rattle.command_words.specs.Items.{Item, items_of, plain_of, values_of}
 use Rattle.command_words.specs.Naming.{Settings, command_named}
 use Rattle.command_words.specs.Options.{given, or_usual, size_in, width_in}
 use Rattle.command_words.specs.Orders.{Best, order_wanted}
-use Rattle.command_words.specs.Steps.{◌>>=◌}
+use Rattle.text_lines.specs.Steps.{◌>>=◌}
 
 -- the value of each option, where one is given, and the other words
 pub record Found : Type 0 where
@@ -42,9 +43,9 @@ found_among items = do
 -- order that costs least
 abbrev pub settings_of : Form → Found → Option Settings
 settings_of form found = do
-  limit ← given form.limit found.limit >>= or_usual 262144 size_in
+  limit ← given form.limit found.limit >>= or_usual MOST_ENTRIES size_in
   slot ← given form.slot found.slot >>= or_usual 144 width_in
-  slots ← given form.slots found.slots >>= or_usual 262144 size_in
+  slots ← given form.slots found.slots >>= or_usual MOST_ENTRIES size_in
   order ← given form.order found.order >>= or_usual Best order_wanted
   Some (record { sizes = record { limit = limit; slot = slot }; slots = slots; order = order })
 

@@ -1,8 +1,10 @@
 //! The options that commands take.
 ghost use Rattle.std.specs.Prelude.{◌≡◌, ◌≤◌, IfSome};
+ghost use Rattle.razor_base.specs.declared.limits.TheConstants.{MOST_ENTRIES};
 ghost use Rattle.command_words.specs.Options.{IsSlotWidth, option_text, size_in, slot_width, width_in};
 
 use crate::number::number_between;
+use razor_base::limits::MOST_ENTRIES;
 
 /// The options that commands take.
 #[derive(Clone, Copy, Debug, PartialEq, Eq)]
@@ -53,7 +55,7 @@ pub(crate) fn width_in(value: &[u8]) -> Option<u32>
 #[tactic(auto, unfolding(crate::specs::Options::size_in))]
 pub(crate) fn size_in(value: &[u8]) -> Option<u32>
     ensures value { result ≡ size_in value.now }
-    ensures taken { IfSome result (λ n. (1 ≤ n) × (n ≤ 262144)) }
+    ensures taken { IfSome result (λ n. (1 ≤ n) × (n ≤ MOST_ENTRIES)) }
 {
-    number_between(value, 1, 262_144)
+    number_between(value, 1, MOST_ENTRIES)
 }

@@ -3,7 +3,8 @@ ghost use Rattle.std.specs.Prelude.{◌≡◌, ◌-◌, IsTrue, nat_eq};
 ghost use Rattle.std.specs.List.{list_all, list_any};
 ghost use Rattle.std.specs.Char.{is_ascii_digit};
 ghost use Rattle.std.specs.Option.{option_map};
-ghost use Rattle.command_words.specs.Orders.{are_apart, are_fields, is_order, order_written};
+ghost use Rattle.field_boxes.specs.Orders.{are_distinct, are_fields};
+ghost use Rattle.command_words.specs.Orders.{is_order, order_written};
 
 /// An order of the five fields, which are numbered from 0: each once.
 #[derive(Clone, Copy, Debug, PartialEq, Eq)]
@@ -20,12 +21,12 @@ fn has(fields: &[u8], field: u8) -> bool
 }
 
 /// Whether no field stands twice.
-fn are_apart(fields: &[u8]) -> bool
-    ensures { result ≡ are_apart fields.now }
+fn are_distinct(fields: &[u8]) -> bool
+    ensures { result ≡ are_distinct fields.now }
 {
     match fields {
         [] => true,
-        [first, rest @ ..] => !has(rest, *first) && are_apart(rest),
+        [first, rest @ ..] => !has(rest, *first) && are_distinct(rest),
     }
 }
 
@@ -40,7 +41,7 @@ fn are_fields(fields: &[u8]) -> bool
 fn is_order(fields: &[u8; 5]) -> bool
     ensures { result ≡ is_order fields.now }
 {
-    are_fields(fields) && are_apart(fields)
+    are_fields(fields) && are_distinct(fields)
 }
 
 /// Whether the word has digits alone.

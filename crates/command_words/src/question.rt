@@ -1,14 +1,16 @@
 //! What is asked of a list.
-ghost use Rattle.std.specs.Prelude.{◌≡◌, ◌≤◌, ◌==◌, ◌∷◌, [], List, ℕ, Option, IfSome, map, position};
+ghost use Rattle.std.specs.Prelude.{◌≡◌, ◌≤◌, ◌∷◌, [], List, ℕ, Option, IfSome, map};
 ghost use Rattle.std.specs.Option.{option_map};
 ghost use Rattle.field_boxes.specs.Classifier.{Interval};
 ghost use Rattle.field_boxes.specs.Spans.{AreInside, interval_of, intervals_of};
 ghost use Rattle.command_words.specs.Command.{Command};
 ghost use Rattle.command_words.specs.Naming.{asking};
-ghost use Rattle.command_words.specs.Questions.{is_decision, is_own_name, name_in, span_asked, span_written, spans_asked, split_once};
+ghost use Rattle.command_words.specs.Questions.{is_decision, is_own_name, name_in, span_asked, span_written, spans_asked};
 
 use crate::number::number_between;
 use field_boxes::{Span, decision_word, greatest};
+use razor_base::limits::MOST_RULES;
+use text_lines::split_once;
 
 /// Where a list is asked for a decision: inside five spans, each within its field. The decision is the text of a
 /// name, or `miss` for none.
@@ -18,21 +20,6 @@ pub struct Question<'a> {
     pub spans: [Span; 5],
     pub decision: &'a str,
     pub ghost inside: { AreInside spans },
-}
-
-/// The place of the first separator.
-fn place_of(word: &[u8], separator: u8) -> Option<usize>
-    ensures { result ≡ position (λ b. b == separator) word.now }
-{
-    word.iter().position(|&byte| byte == separator)
-}
-
-/// What stands before the first separator, and what stands after it.
-fn split_once(word: &[u8], separator: u8) -> Option<(&[u8], &[u8])>
-    ensures { option_map (λ parts. (parts.0.now, parts.1.now)) result ≡ split_once separator word.now }
-{
-    let place = place_of(word, separator)?;
-    Some((&word[..place], &word[place + 1..]))
 }
 
 /// The values from one number to another, no greater than the greatest.
@@ -87,7 +74,7 @@ fn own_name(word: &[u8]) -> bool
     ensures { result ≡ is_own_name word.now }
 {
     match word {
-        [b'#', first, ..] => *first != b'0' && number_between(&word[1..], 1, 65_536).is_some(),
+        [b'#', first, ..] => *first != b'0' && number_between(&word[1..], 1, MOST_RULES).is_some(),
         _ => false,
     }
 }

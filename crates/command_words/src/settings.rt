@@ -1,6 +1,7 @@
 //! What the options of a command come to.
 ghost use Rattle.std.specs.Prelude.{◌≡◌, ◌≤◌, Some, IfSome, option_and_then};
 ghost use Rattle.std.specs.Option.{option_map};
+ghost use Rattle.razor_base.specs.declared.limits.TheConstants.{MOST_ENTRIES};
 ghost use Rattle.command_words.specs.Options.{IsSlotWidth, given, or_usual, size_in, width_in};
 ghost use Rattle.command_words.specs.Orders.{Best, order_wanted};
 ghost use Rattle.command_words.specs.Parts.{found_seen};
@@ -12,6 +13,7 @@ use crate::option::{size_in, width_in};
 use crate::parts::Parts;
 use crate::sizes::{Sizes, Slots};
 use crate::wanted::{Wanted, order_wanted};
+use razor_base::limits::MOST_ENTRIES;
 
 /// What the options come to, each that is left out to its usual value.
 #[derive(Clone, Copy)]
@@ -35,12 +37,12 @@ fn given<'a>(need: Need, value: Option<&'a [u8]>) -> Option<Option<&'a [u8]>>
 
 /// A number of entries or slots, the greatest where it is left out.
 fn size(need: Need, value: Option<&[u8]>) -> Option<u32>
-    ensures value { result ≡ option_and_then (or_usual 262144 size_in) (given need (option_map (λ bytes. bytes.now) value.entry)) }
-    ensures taken { IfSome result (λ n. (1 ≤ n) × (n ≤ 262144)) }
+    ensures value { result ≡ option_and_then (or_usual MOST_ENTRIES size_in) (given need (option_map (λ bytes. bytes.now) value.entry)) }
+    ensures taken { IfSome result (λ n. (1 ≤ n) × (n ≤ MOST_ENTRIES)) }
 {
     match given(need, value)? {
         Some(value) => size_in(value),
-        None => Some(262_144),
+        None => Some(MOST_ENTRIES),
     }
 }
 

@@ -1,5 +1,6 @@
 //! The sizes of tables and memories.
 ghost use Rattle.std.specs.Prelude.{◌≤◌};
+ghost use Rattle.razor_base.specs.declared.limits.TheConstants.{MOST_ENTRIES};
 ghost use Rattle.command_words.specs.Options.{IsSlotWidth};
 
 /// The greatest number of entries of a table, 1 to 262,144, and the width of its slots: 104, 144 or
@@ -9,7 +10,7 @@ pub struct Sizes {
     pub limit: u32,
     pub slot: u16,
     pub ghost some: { 1 ≤ limit },
-    pub ghost few: { limit ≤ 262144 },
+    pub ghost few: { limit ≤ MOST_ENTRIES },
     pub ghost width: { ∥ IsSlotWidth slot ∥₁ },
 }
 
@@ -18,5 +19,5 @@ pub struct Sizes {
 pub struct Slots {
     pub count: u32,
     pub ghost some: { 1 ≤ count },
-    pub ghost few: { count ≤ 262144 },
+    pub ghost few: { count ≤ MOST_ENTRIES },
 }

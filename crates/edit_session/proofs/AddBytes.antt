@@ -6,14 +6,13 @@ use Rattle.std.specs.Str.{bytes_eq}
 use Rattle.std.proofs.lemmas.Option.{option_and_then_some}
 use Rattle.std.proofs.lemmas.Slice.Eq.{bytes_eq-Decides}
 use Rattle.field_boxes.specs.Classifier.{Rule}
-use Rattle.field_boxes.specs.Fields.{greatest_of}
 use Rattle.filter_reader.specs.RuleLine.{rule_line}
 use Rattle.filter_reader.specs.declared.reason.Reason.{Reason}
-use Rattle.trace_run.specs.Columns.{columns, first_column}
-use Rattle.bank_update.specs.Script.{value_column}
+use Rattle.text_lines.specs.Columns.{columns, first_column, behind_column}
+use Rattle.bank_update.specs.Script.{values_of}
 use Rattle.edit_session.specs.declared.reason.SessionReason.{SessionReason}
 use Rattle.edit_session.specs.declared.reason.SessionReason.TheVariants.{Arguments}
-use Rattle.edit_session.specs.SessionText.{SessionEvent, TakeOut, Commit, Step, Abort, Look, Stage, add_of, behind_column, event_behind, event_named, event_of_line, is_add, look_of, other_named, place_column, rule_of, take_out_of, when_done}
+use Rattle.edit_session.specs.SessionText.{SessionEvent, TakeOut, Commit, Step, Abort, Look, Stage, add_of, event_behind, event_named, event_of_line, is_add, look_of, other_named, place_column, rule_of, take_out_of, when_done}
 use Rattle.edit_session.proofs.Behind.{cut}
 use Rattle.edit_session.proofs.RuleBytes.{rule_bytes}
 
@@ -56,12 +55,7 @@ took_out cs e h = option_and_then_some _ (place_column cs) e h (λ place ep hp. 
 looked : (cs : List (List ℕ)) (e : SessionEvent) → look_of cs ≡ Some e → is_add e ≡ false
 unfolding look_of
 looked cs e h =
-    option_and_then_some _ (value_column (greatest_of 0) cs) e h (λ source es hs.
-    option_and_then_some _ (value_column (greatest_of 1) source.1) e hs (λ destination ed hd.
-    option_and_then_some _ (value_column (greatest_of 2) destination.1) e hd (λ first ef hf.
-    option_and_then_some _ (value_column (greatest_of 3) first.1) e hf (λ second en hn.
-    option_and_then_some _ (value_column (greatest_of 4) second.1) e hn (λ protocol ep hp.
-    done (Look (source.0 ∷ destination.0 ∷ first.0 ∷ second.0 ∷ protocol.0 ∷ [])) protocol.1 refl e hp)))))
+    option_and_then_some _ (values_of cs) e h (λ values ev hv. done (Look values.0) values.1 refl e hv)
 
 -- one command or the others
 either : (t : Bool) (o : Option SessionEvent) (r : Result SessionEvent SessionReason) (e : SessionEvent) → ((x : SessionEvent) → o ≡ Some x → is_add x ≡ false) → (r ≡ Ok e → is_add e ≡ false) → cond t (ok_or o Arguments) r ≡ Ok e → is_add e ≡ false

@@ -1,24 +1,9 @@
 -- The columns of a line, and the text behind the first of them.
-use Rattle.std.proofs.Common.{◌≡◌, ◌∷◌, ℕ, ◌+◌, ◌≤◌, List, Bool, true, false, cond, [], ap, refl, sym, subst, ◌∙◌, arith, length, drop, add-one, Some, None}
-use Rattle.std.specs.Prelude.{position, Option, option_map, MatchOption, if◌then◌else◌}
+use Rattle.std.proofs.Common.{◌≡◌, ◌∷◌, ℕ, ◌+◌, ◌≤◌, List, Bool, true, false, [], ap, refl, sym, subst, ◌∙◌, arith, length}
+use Rattle.std.specs.Prelude.{if◌then◌else◌}
 use Rattle.std.specs.List.{onto_first}
-use Rattle.filter_reader.specs.Lines.{is_blank}
-use Rattle.filter_reader.proofs.Positions.{position-cons}
-use Rattle.trace_run.specs.Columns.{columns}
-use Rattle.edit_session.specs.SessionText.{behind_column, from_first}
-
--- what the first place at which a test passes says of the text from there on
-abbrev pub StartsAt : (ℕ → Bool) → List ℕ → Option ℕ → Type 0
-StartsAt test text o = MatchOption o (from_first test text ≡ []) (λ i. from_first test text ≡ drop i text)
-
-starts_step : (test : ℕ → Bool) (b : ℕ) (text : List ℕ) (t : Bool) (o : Option ℕ) → test b ≡ t → StartsAt test text o → StartsAt test (b ∷ text) (cond t (Some 0) (option_map (λ i. i + 1) o))
-starts_step test b text true o e h = rw e refl
-starts_step test b text false None e h = rw e h
-starts_step test b text false (Some i) e h = rw (e, add-one) h
-
-pub starts_at : (test : ℕ → Bool) (text : List ℕ) → StartsAt test text (position test text)
-starts_at test [] = refl
-starts_at test (b ∷ text) = rw (position-cons test b text) (starts_step test b text (test b) (position test text) refl (starts_at test text))
+use Rattle.text_lines.specs.Columns.{columns, behind_column, from_first}
+use Rattle.text_lines.specs.Lines.{is_blank}
 
 -- the bytes up to the first blank
 abbrev to_blank : List ℕ → List ℕ

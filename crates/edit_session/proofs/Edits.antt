@@ -1,8 +1,8 @@
 -- What adding a rule and taking one out leaves of a list as the code keeps it.
-use Rattle.std.proofs.Common.{◌≡◌, ◌∷◌, ◌++◌, ℕ, ◌-◌, ◌<◌, ◌≤◌, List, Bool, true, false, [], ap, refl, sym, ◌∙◌, arith, suc, length, take, drop, Some}
+use Rattle.std.proofs.Common.{◌≡◌, ◌∷◌, ◌++◌, ℕ, ◌-◌, ◌<◌, ◌≤◌, List, Bool, true, false, [], ap, sym, ◌∙◌, arith, suc, length, take, drop, Some}
 use Rattle.std.proofs.Math.Nat.{le_trans}
 use Rattle.std.specs.Prelude.{All, Option, if◌then◌else◌, map}
-use Rattle.std.specs.List.{AllByRecursion, insert, remove}
+use Rattle.std.specs.List.{insert, remove}
 use Rattle.std.proofs.lemmas.List.{map-append, length-append, take-map, drop-map}
 use Rattle.std.proofs.lemmas.List.Elements.{recursion_from_All, All-append, All-cons, All-take, All-drop, All-weaker}
 use Rattle.field_boxes.specs.declared.rule.Rule as code
@@ -11,6 +11,7 @@ use Rattle.field_boxes.specs.NamedRules.{IsNumberedBy, named_rule, named_rules}
 use Rattle.field_boxes.specs.Names.{is_known, name_at, text_of, with_name}
 use Rattle.field_boxes.specs.Rules.{sets_of}
 use Rattle.edit_session.specs.Lists.{Listed, rule_named, with_name_alone, with_rule, without_rule}
+use Rattle.filter_reader.proofs.SoFar.{same_rules as same_by}
 
 -- the first names keep their numbers
 abbrev pub KeepsNames : List (List ℕ) → List (List ℕ) → Type 0
@@ -47,12 +48,6 @@ map-remove f xs i =
     map-append f (take i xs) (drop (suc i) xs)
     ∙ ap (λ ys. ys ++ map f (drop (suc i) xs)) (sym (take-map f i xs))
     ∙ ap (λ ys. take i (map f xs) ++ ys) (sym (drop-map f (suc i) xs))
-
-same_by : (old new : List (List ℕ)) → KeepsNames old new → (rules : List code.Rule) → AllByRecursion (IsNumberedBy old) rules → named_rules new rules ≡ named_rules old rules
-same_by old new keeps [] h = refl
-same_by old new keeps (r ∷ rules) h =
-    ap (λ (o : Option (List ℕ)). let rule : Rule (List ℕ) = record { sets = sets_of r; decision = text_of o } in rule ∷ named_rules new rules) (keeps r.decision h.0.1)
-    ∙ ap (λ rs. named_rule old r ∷ rs) (same_by old new keeps rules h.1)
 
 -- rules keep their names when names are added
 pub same_rules : (old new : List (List ℕ)) (rules : List code.Rule) → All (IsNumberedBy old) rules → KeepsNames old new → named_rules new rules ≡ named_rules old rules

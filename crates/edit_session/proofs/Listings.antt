@@ -19,7 +19,7 @@ use Rattle.edit_session.specs.Editing.{IsAddRefused}
 use Rattle.edit_session.specs.Kept.{IsListing, IsPut, listed}
 use Rattle.edit_session.specs.Lists.{Listed, add_answer, is_within, rule_named, taken_out, with_name_alone, with_rule, without_rule}
 use Rattle.edit_session.proofs.Edits.{All-insert, All-remove, IsInterned, name_added, rule_added, rule_taken_out, still_numbered}
-use Rattle.edit_session.proofs.Places.{Fits, fits, placed, refused-place}
+use Rattle.edit_session.proofs.Places.{Fits, fits, placed}
 
 -- the same rules and names
 pub same-listing : (a b : Inside) → a.rules.items ≡ b.rules.items → a.names ≡ b.names → IsListing b → IsListing a
@@ -68,13 +68,6 @@ pub named-list : (a b : Inside) (list : Listed) (name : List ℕ) (given : ℕ) 
     listed a ≡ with_name_alone list name
 named-list a b list name given seen items interned h =
     ap (list_of a.names) items ∙ name_added b.rules.items interned h.numbered ∙ ap (λ (l : Listed). with_name_alone l name) seen
-
--- there is no place for the rule
-pub count-refused : (list new : Listed) (place : ℕ) (name : List ℕ) (refusal : PlaceRefusal) (r : Result ℕ PlaceRefusal) → IsErrAnd r (λ e. e ≡ refusal) → add_answer list place ≡ Err refusal → new ≡ list →
-    IfErr r (λ e. IsAddRefused list new place name e)
-count-refused list new place name refusal (Ok n) is answer same = absurd is
-count-refused list new place name refusal (Err e) is answer same =
-    subst (λ (l : Listed). IsAddRefused list l place name e) (sym same) (refused-place list place name e (answer ∙ ap (λ (x : PlaceRefusal). Err x) (sym is)))
 
 -- memory was refused before the name was given a number
 pub list-stays : (list new : Listed) (place count : ℕ) (name : List ℕ) (r : Result ℕ PlaceRefusal) → IsErrAnd r (λ e. e ≡ places.Memory) → add_answer list place ≡ Ok count → new ≡ list →

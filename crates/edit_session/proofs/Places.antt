@@ -1,10 +1,8 @@
 -- The places at which a rule may be added.
-use Rattle.std.proofs.Common.{◌≡◌, ℕ, ◌+◌, ◌==◌, ◌≤◌, List, Bool, true, false, length, Ok, Err, if◌then◌else◌, refl, ap, leb-true}
+use Rattle.std.proofs.Common.{◌≡◌, ℕ, ◌+◌, ◌==◌, ◌≤◌, Bool, true, false, length, Ok, Err, if◌then◌else◌, refl, ap, leb-true}
 use Rattle.std.specs.Prelude.{◌&&◌, ◌≢◌, nat_le, is_ok, IsOk}
 use Rattle.std.proofs.lemmas.Bool.{eqb-false}
-use Rattle.edit_session.specs.Editing.{IsAddRefused}
 use Rattle.edit_session.specs.Lists.{Listed, add_answer}
-use Rattle.edit_session.specs.declared.refusal.PlaceRefusal.{PlaceRefusal}
 use Rattle.edit_session.specs.declared.refusal.PlaceRefusal.TheVariants as places
 
 -- a rule fits at this place of a list of so many rules, which is not full, and then there are so many
@@ -25,17 +23,6 @@ pub fits : (list : Listed) (place count : ℕ) → add_answer list place ≡ Ok 
 fits list place count is =
     let rules = length list.rules in
     fits_by (nat_le 1 place) (nat_le place (rules + 1)) (rules == 65536) place rules count refl refl refl is
-
-not_memory : (within full : Bool) (rules : ℕ) → (if within then (if full then Err places.Full else Ok (rules + 1)) else Err (places.NoPlace rules)) ≡ Err places.Memory → ⊥
-not_memory true true rules is = cc
-not_memory true false rules is = cc
-not_memory false full rules is = cc
-
--- a list in which there is no place for a rule stays as it is
-pub refused-place : (list : Listed) (place : ℕ) (name : List ℕ) (refusal : PlaceRefusal) → add_answer list place ≡ Err refusal → IsAddRefused list list place name refusal
-refused-place list place name (places.NoPlace count) is = (is, refl)
-refused-place list place name places.Full is = (is, refl)
-refused-place list place name places.Memory is = absurd (not_memory (nat_le 1 place && nat_le place (length list.rules + 1)) (length list.rules == 65536) (length list.rules) is)
 
 -- a place was found
 pub placed : (list : Listed) (place count : ℕ) → add_answer list place ≡ Ok count → IsOk (add_answer list place)

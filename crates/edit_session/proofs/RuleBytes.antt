@@ -1,6 +1,6 @@
 -- How many bytes a good rule line has at least.
-use Rattle.std.proofs.Common.{◌≡◌, ◌∷◌, ℕ, ◌+◌, ◌≤◌, List, Bool, true, false, cond, [], ap, refl, sym, subst, ◌∙◌, arith, length, Some, None, Ok, Err}
-use Rattle.std.specs.Prelude.{Option, Result, option_map, unwrap_or, not, ◌&&◌, ◌||◌, ◌==◌, nat_eq, nat_lt, nat_le, ok_or}
+use Rattle.std.proofs.Common.{◌≡◌, ◌∷◌, ℕ, ◌+◌, ◌≤◌, List, Bool, true, false, cond, [], ap, refl, subst, arith, length, Some, None, Ok, Err}
+use Rattle.std.specs.Prelude.{Option, Result, option_map, not, ◌&&◌, ◌||◌, ◌==◌, nat_lt, nat_le, ok_or}
 use Rattle.std.specs.List.{list_all}
 use Rattle.std.specs.Char.{digit_value, is_ascii}
 use Rattle.std.specs.Str.{bytes_eq}
@@ -11,14 +11,14 @@ use Rattle.filter_reader.specs.declared.reason.Reason.{Reason}
 use Rattle.filter_reader.specs.declared.reason.Reason.TheVariants.{NoAt, Address, Length, PortForm, ProtocolForm, NotAscii, TooManyRules}
 use Rattle.filter_reader.specs.Addresses.{address_of, length_of}
 use Rattle.filter_reader.specs.Columns.{behind_at, prefix_set, source_column, destination_column, port_column, protocol_column, under_mask}
-use Rattle.filter_reader.specs.Fallible.{◌>>=◌}
+use Rattle.text_lines.specs.Fallible.{◌>>=◌}
 use Rattle.filter_reader.specs.Masks.{hex_number, value_and_mask}
-use Rattle.filter_reader.specs.Numbers.{is_number, number_of, number_within, short_number}
-use Rattle.filter_reader.specs.Optional.{parts_at, split_once}
+use Rattle.text_lines.specs.Cuts.{cut_parts, parts_at, split_once}
+use Rattle.text_lines.specs.Numbers.{is_number, number_of, number_within, short_number}
+use Rattle.text_lines.proofs.Joins.{cut_length}
 use Rattle.filter_reader.specs.Ports.{range_before, range_of, ranges_of, ports_of}
 use Rattle.filter_reader.specs.RuleLine.{SpelledRule, rule_line, rule_of_tokens}
 use Rattle.filter_reader.specs.Tokens.{tokens}
-use Rattle.filter_reader.proofs.Cuts.{split_once-cons}
 use Rattle.edit_session.proofs.Rooms.{weight, room, tokens_fit, number_weight, long_weight}
 
 -- a step that was taken
@@ -37,22 +37,6 @@ some_if false o x h = absurd (cc)
 ok_unless : {A : Type 0} (t : Bool) (e : Reason) (r : Result A Reason) (x : A) → cond t (Err e) r ≡ Ok x → r ≡ Ok x
 ok_unless true e r x h = absurd (cc)
 ok_unless false e r x h = h
-
--- a text that was cut at a separator
-cut_step : (s b : ℕ) (bs : List ℕ) (p : List ℕ × List ℕ) (t : Bool) (o : Option (List ℕ × List ℕ)) → ((q : List ℕ × List ℕ) → o ≡ Some q → length q.0 + length q.1 + 1 ≡ length bs) →
-    cond t (Some ([], bs)) (option_map {U = List ℕ × List ℕ} (λ q. (b ∷ q.0, q.1)) o) ≡ Some p → length p.0 + length p.1 + 1 ≡ length (b ∷ bs)
-cut_step s b bs p true o h is =
-    let same : ([], bs) ≡ p = cc in
-    subst (λ (q : List ℕ × List ℕ). length q.0 + length q.1 + 1 ≡ length (b ∷ bs)) same (omega arith)
-cut_step s b bs p false None h is = absurd (cc)
-cut_step s b bs p false (Some q) h is =
-    let same : (b ∷ q.0, q.1) ≡ p = cc in
-    let fits = h q refl in
-    subst (λ (r : List ℕ × List ℕ). length r.0 + length r.1 + 1 ≡ length (b ∷ bs)) same (omega (arith, fits))
-
-cut_length : (s : ℕ) (text : List ℕ) (p : List ℕ × List ℕ) → split_once s text ≡ Some p → length p.0 + length p.1 + 1 ≡ length text
-cut_length s [] p h = absurd (cc)
-cut_length s (b ∷ bs) p h = cut_step s b bs p (nat_eq b s) (split_once s bs) (λ q e. cut_length s bs q e) (sym (split_once-cons s b bs) ∙ h)
 
 -- a number has a digit
 number_length : (base : ℕ) (text : List ℕ) → is_number base text ≡ true → 1 ≤ length text
@@ -89,9 +73,6 @@ unfolding length_of
 no_length len h = absurd (cc)
 
 -- an address, '/' and a length, by where the text is cut
-abbrev cut_parts : List ℕ → Option (List ℕ × List ℕ) → List ℕ × Option (List ℕ)
-cut_parts text o = unwrap_or (option_map {U = List ℕ × Option (List ℕ)} (λ parts. (parts.0, Some parts.1)) o) (text, None)
-
 prefix_step : (text : List ℕ) (o : Option (List ℕ × List ℕ)) (address len : ℕ) → split_once 47 text ≡ o → address_of (cut_parts text o).0 ≡ Some address → length_of (cut_parts text o).1 ≡ Some len → 9 ≤ length text
 prefix_step text None address len e a l = no_length len l
 prefix_step text (Some p) address len e a l = omega (arith, cut_length 47 text p e, address_length p.0 address a, len_length p.1 len l)

@@ -2,12 +2,11 @@
 use Rattle.std.proofs.Common.{◌≡◌, ℕ, ◌+◌, ◌≤◌, ◌<◌, Bool, List, [], ◌∷◌, ◌++◌, Option, Result, Ok, Err, inl, refl, sym, ap, subst, ◌∙◌, append-nil, append_assoc, length, get_or, take, drop, take-append-drop, arith}
 use Rattle.std.specs.List.{concat}
 use Rattle.std.specs.Prelude.{All, IsErrAnd}
-use Rattle.std.proofs.lemmas.List.{get_or-map, length-map, map-append, take_all, take_more}
+use Rattle.std.proofs.lemmas.List.{get_or-map, length-map, map-append, take_more}
 use Rattle.std.proofs.lemmas.List.Elements.{All-get_or}
 use Rattle.std.proofs.lemmas.List.Folds.{concat-append}
 use Rattle.std.specs.Io.KnownBytes.{Appends}
-use Rattle.std.proofs.KnownBytes.{Appends-nil}
-use Rattle.razor_base.proofs.Output.{appends-then}
+use Rattle.std.proofs.KnownBytes.{Appends-nil, Appends-trans}
 use Rattle.razor_base.specs.Output.{Writes}
 use Rattle.bank_update.specs.Runs.{RoseBy}
 use Rattle.bank_update.proofs.Driving.{rose-more}
@@ -67,7 +66,7 @@ goes-on w {f = f} o a b {start = start} {old = old} {new = new} {m = m} {n = n} 
       lines = h.lines ++ t.printed ∷ [];
       ran = subst (λ es. IsSessionRun start new m p es (h.lines ++ t.printed ∷ [])) (sym is) (run-turn event t.breaks t.printed h.ran t.turn t.counted t.counts);
       written = subst (Appends o (w b)) (ap (λ t. concat h.lines ++ t) (sym (append-nil t.printed)) ∙ sym (concat-append h.lines (t.printed ∷ [])))
-          (appends-then o (w a) (w b) (concat h.lines) t.printed h.written writes.ok);
+          (Appends-trans o (w a) (w b) (concat h.lines) t.printed h.written writes.ok);
     }
 
 -- the next command takes its turn, and its line is cut off
@@ -87,7 +86,7 @@ is-cut-off w {f = f} o a b {start = start} {old = old} {new = new} {m = m} {n = 
       lost = cut.0;
       ran = subst (λ es. IsSessionRun start new m p es (h.lines ++ t.printed ∷ [])) (sym is) (run-turn event t.breaks t.printed h.ran t.turn t.counted t.counts);
       cut = cut.1.2;
-      written = appends-then o (w a) (w b) (concat h.lines) cut.1.0 h.written cut.1.1;
+      written = Appends-trans o (w a) (w b) (concat h.lines) cut.1.0 h.written cut.1.1;
     }
 
 -- the next command wanted memory
@@ -141,11 +140,3 @@ next-event session items i item seen within is =
 
 pub good-command : (items : List SessionCommand) (i : ℕ) (item : SessionCommand) → i < length items → item ≡ get_or items i item → All IsCommand items → IsCommand item
 good-command items i item within is all = subst IsCommand (sym is) (All-get_or IsCommand items i item within all)
-
--- as many commands as the session has ran
-pub has-run-all : {Ran : SessionState → List SessionEvent → List (List ℕ) → Type 0} {Appended : List ℕ → Type 0} {last : SessionState} (session : List SessionEvent) (items : List SessionCommand) (i : ℕ) → events_of items ≡ session → length items ≤ i →
-    HasRunSession Ran Appended last (take i session) → (length items ≡ length session) × HasRunSession Ran Appended last session
-has-run-all {Ran = Ran} {Appended = Appended} {last = last} session items i seen ended h =
-    let same : length items ≡ length session = sym (length-map items event_of) ∙ ap length seen in
-    let past : length session ≤ i = omega (arith, same, ended) in
-    (same, subst (HasRunSession Ran Appended last) (take_all i session past) h)

@@ -1,6 +1,6 @@
 -- A command of a session takes its turn, or is left where memory is refused.
 use Rattle.std.proofs.Common.{◌≡◌, ℕ, ◌≤◌, true, false, List, Option, Some, None, Result, Ok, Err, inl, inr, refl, sym, ap, subst, ◌∙◌, arith}
-use Rattle.std.specs.Prelude.{◌↔◌, ◌⊎◌, IfOk, IfErr, OnOk, OnErr, is_some, option_map, if◌then◌else◌}
+use Rattle.std.specs.Prelude.{◌↔◌, ◌⊎◌, IfOk, IfErr, OnOk, OnErr, option_map, if◌then◌else◌}
 use Rattle.razor_base.specs.Faults.{Rose}
 use Rattle.razor_base.specs.Output.{Writes}
 use Rattle.field_boxes.specs.Classifier.{Rule}
@@ -23,6 +23,7 @@ use Rattle.edit_session.specs.declared.refusal.CommitRefusal.{CommitRefusal}
 use Rattle.edit_session.specs.declared.refusal.CommitRefusal.TheVariants as commits
 use Rattle.edit_session.specs.declared.refusal.PlaceRefusal.{PlaceRefusal}
 use Rattle.edit_session.specs.declared.refusal.PlaceRefusal.TheVariants as places
+use Rattle.bank_update.proofs.Taking.{some_of, rose_one}
 
 -- a command that doesn't write to the device
 pub takes-quietly : {S T E : Type 0} {w : S → Option (List ℕ)} {f : S → ℕ} {a b : S} {old new : SessionState} {m n : ℕ} {event : texts.SessionEvent} {x : Result T E} (line : List ℕ) →
@@ -35,14 +36,6 @@ takes-quietly line turn none same writes = record {
   counts = omega (arith, same);
   line = writes;
 }
-
-some_of : {X : Type 0} (o : Option X) → (o ≡ None → ⊥) → is_some o ≡ true
-some_of None h = absurd (h refl)
-some_of (Some x) h = refl
-
-rose_one : (m n : ℕ) → Rose m n → RoseBy 1 m n
-rose_one m n (inl less) = inl (omega (arith, less))
-rose_one m n (inr last) = inr last
 
 add_turn : (old new : SessionState) (place : ℕ) (rule : Rule (List ℕ)) (r : Result ℕ PlaceRefusal) → IfOk r (λ count. add_answer old.list place ≡ Ok count) → OnOk r (new.list ≡ with_rule old.list place rule) →
     IfErr r (λ e. IsAddRefused old.list new.list place rule.decision e) → new ≡ with_list old new.list → IsKnownAdd r → IsTurn old (texts.Add place rule) false new (add_line r)

@@ -1,5 +1,6 @@
 -- Lists as the code keeps them.
 use Rattle.std.specs.Prelude.{◌≡◌, ◌≤◌, ℕ, List, length, insert, All}
+use Rattle.razor_base.specs.declared.limits.TheConstants.{MOST_RULES}
 use Rattle.field_boxes.specs.declared.rule.Rule.{Rule}
 use Rattle.field_boxes.specs.NamedRules.{IsNumberedBy, named_rules}
 use Rattle.field_boxes.specs.Rules.{sets_of}
@@ -13,7 +14,7 @@ listed l = record { rules = named_rules l.names l.rules.items; names = l.names }
 
 -- there are at most so many rules, each is a filter rule, and its decision is the number of a name
 pub record IsListing (l : Inside) : Type 0 where
-  pub few : length l.rules.items ≤ 65536
+  pub few : length l.rules.items ≤ MOST_RULES
   pub spelled : All IsFilterRule l.rules.items
   pub numbered : All (IsNumberedBy l.names) l.rules.items
 

@@ -1,5 +1,6 @@
 -- Rule lists that are edited, and what the edits answer and do.
 use Rattle.std.specs.Prelude.{ℕ, ◌+◌, ◌-◌, ◌==◌, Bool, ◌&&◌, nat_le, List, length, insert, remove, Result, Ok, Err, if◌then◌else◌}
+use Rattle.razor_base.specs.declared.limits.TheConstants.{MOST_RULES}
 use Rattle.field_boxes.specs.declared.rule.Rule as code
 use Rattle.field_boxes.specs.Classifier.{Rule}
 use Rattle.field_boxes.specs.Names.{with_name}
@@ -42,7 +43,7 @@ is_within number greatest = nat_le 1 number && nat_le number greatest
 -- the number of rules with one more, or why none is added
 abbrev pub add_answer : Listed → ℕ → Result ℕ PlaceRefusal
 add_answer list place =
-    if is_within place (length list.rules + 1) then (if length list.rules == 65536 then Err places.Full else Ok (length list.rules + 1))
+    if is_within place (length list.rules + 1) then (if length list.rules == MOST_RULES then Err places.Full else Ok (length list.rules + 1))
     else Err (places.NoPlace (length list.rules))
 
 -- the list after a rule was to be added, which had this answer

@@ -1,16 +1,14 @@
 -- The text of an editing session: its commands, and the lines that spell them.
-use Rattle.std.specs.Prelude.{ℕ, ◌+◌, Bool, true, false, not, List, [], ◌∷◌, codes, Option, Some, None, Result, Ok, Err, ok_or, if◌then◌else◌}
+use Rattle.std.specs.Prelude.{ℕ, ◌+◌, Bool, true, false, List, [], ◌∷◌, codes, Option, Some, None, Result, Ok, Err, ok_or, if◌then◌else◌}
 use Rattle.std.specs.Result.{result_ok}
 use Rattle.std.specs.Str.{bytes_eq}
 use Rattle.field_boxes.specs.Classifier.{Rule}
-use Rattle.field_boxes.specs.Fields.{greatest_of}
-use Rattle.filter_reader.specs.FilterList.{text_lines}
-use Rattle.filter_reader.specs.Lines.{is_blank, is_skipped}
-use Rattle.filter_reader.specs.Numbers.{short_number}
-use Rattle.filter_reader.specs.Optional.{◌>>=◌}
+use Rattle.text_lines.specs.Columns.{behind_column, columns, first_column}
+use Rattle.text_lines.specs.Lines.{is_skipped, text_lines}
+use Rattle.text_lines.specs.Numbers.{short_number}
+use Rattle.text_lines.specs.Steps.{◌>>=◌}
 use Rattle.filter_reader.specs.RuleLine.{rule_line}
-use Rattle.trace_run.specs.Columns.{columns, first_column}
-use Rattle.bank_update.specs.Script.{value_column}
+use Rattle.bank_update.specs.Script.{values_of}
 use Rattle.edit_session.specs.declared.reason.SessionReason.{SessionReason}
 use Rattle.edit_session.specs.declared.reason.SessionReason.TheVariants as reasons
 
@@ -33,15 +31,6 @@ is_add Step = false
 is_add Abort = false
 is_add (Look values) = false
 is_add Stage = false
-
--- the text from the first byte on that passes a test
-abbrev pub from_first : (ℕ → Bool) → List ℕ → List ℕ
-from_first test [] = []
-from_first test (b ∷ text) = if test b then b ∷ text else from_first test text
-
--- what stands behind the first column
-abbrev pub behind_column : List ℕ → List ℕ
-behind_column text = from_first is_blank (from_first (λ b. not (is_blank b)) text)
 
 -- a place of one to ten digits, at most 4294967295, and the columns behind it
 unfoldable pub place_column : List (List ℕ) → Option (ℕ × List (List ℕ))
@@ -68,15 +57,11 @@ take_out_of columns = do
   place ← place_column columns
   when_done (TakeOut place.0) place.1
 
--- a value for each of the five fields, from left to right
+-- the values of a header alone
 unfoldable pub look_of : List (List ℕ) → Option SessionEvent
 look_of columns = do
-  source ← value_column (greatest_of 0) columns
-  destination ← value_column (greatest_of 1) source.1
-  source_port ← value_column (greatest_of 2) destination.1
-  destination_port ← value_column (greatest_of 3) source_port.1
-  protocol ← value_column (greatest_of 4) destination_port.1
-  when_done (Look (source.0 ∷ destination.0 ∷ source_port.0 ∷ destination_port.0 ∷ protocol.0 ∷ [])) protocol.1
+  values ← values_of columns
+  when_done (Look values.0) values.1
 
 -- to add a rule takes a place, and then a rule
 abbrev pub add_of : Option (ℕ × List (List ℕ)) → Option (Rule (List ℕ)) → Result SessionEvent SessionReason

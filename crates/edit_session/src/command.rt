@@ -3,19 +3,19 @@ ghost use Rattle.std.specs.Prelude.{◌≡◌, IfOk, IfSome, MatchResult, Ok, ok
 ghost use Rattle.field_boxes.specs.Rules.{sets_of};
 ghost use Rattle.filter_reader.specs.FilterRules.{IsFilterRule};
 ghost use Rattle.filter_reader.specs.LineRules.{IsLineRule, spelled_rule};
-ghost use Rattle.trace_run.specs.Columns.{columns};
-ghost use Rattle.edit_session.specs.SessionText.{add_of, behind_column, event_named, event_of_line, look_of, other_named, place_column, rule_of, take_out_of, when_done};
+ghost use Rattle.text_lines.specs.Columns.{behind_column, columns};
+ghost use Rattle.bank_update.specs.Commands.{column_seen};
+ghost use Rattle.edit_session.specs.SessionText.{add_of, event_named, event_of_line, look_of, other_named, place_column, rule_of, take_out_of, when_done};
 ghost use Rattle.edit_session.specs.SessionViews.{IsCommand, IsLineRefused, event_of, event_seen};
 ghost use Rattle.edit_session.specs.declared.reason.SessionReason.TheVariants.{Arguments};
 
-use crate::line_text::{behind_column, place_column};
 use crate::reason::SessionReason;
 use crate::session::SessionCommand;
-use bank_update::value_column;
-use field_boxes::{Header, Rule};
+use bank_update::header_of;
+use field_boxes::Rule;
 use filter_reader::{LineRule, rule_of_line};
 use std::alloc::Global;
-use trace_run::next_column;
+use text_lines::{next_column, short_number};
 
 /// Why a line was refused.
 #[derive(Clone, Copy)]
@@ -36,6 +36,17 @@ fn when_done(command: SessionCommand, line: &[u8]) -> Option<SessionCommand>
     }
 }
 
+/// The place in the first column, a number of one to ten digits, and what stands behind it.
+#[tactic(auto, unfolding(crate::specs::SessionText::place_column))]
+fn place_column(line: &[u8]) -> Option<(u32, &[u8])>
+    ensures read { column_seen result ≡ place_column (columns line.now) }
+    ensures behind { IfSome result (λ column. column.1.now ≡ behind_column line.now) }
+{
+    let (column, rest) = next_column(line)?;
+    let place = short_number(column, 10, 10, u32::MAX)?;
+    Some((place, rest))
+}
+
 /// A place alone.
 #[tactic(auto, unfolding(crate::specs::SessionText::take_out_of))]
 fn take_out_of(line: &[u8]) -> Option<SessionCommand>
@@ -46,20 +57,13 @@ fn take_out_of(line: &[u8]) -> Option<SessionCommand>
     when_done(SessionCommand::TakeOut { place }, rest)
 }
 
-/// A value for each of the five fields, from left to right.
+/// The values of a header alone.
 #[tactic(auto, unfolding(crate::specs::SessionText::look_of))]
 fn look_of(line: &[u8]) -> Option<SessionCommand>
     ensures read { option_map event_of result ≡ look_of (columns line.now) }
     ensures good { IfSome result IsCommand }
 {
-    let (source, rest) = value_column(line, u32::MAX)?;
-    let (destination, rest) = value_column(rest, u32::MAX)?;
-    let (source_port, rest) = value_column(rest, 65_535)?;
-    let (destination_port, rest) = value_column(rest, 65_535)?;
-    let (protocol, rest) = value_column(rest, 255)?;
-    let header = Header {
-        values: [source, destination, source_port, destination_port, protocol],
-    };
+    let (header, rest) = header_of(line)?;
     when_done(SessionCommand::Look { header }, rest)
 }
 
@@ -126,10 +130,10 @@ fn add_of(alloc: Global, text: &[u8]) -> Result<SessionCommand, LineError>
         (λ e. IsLineRefused e (add_of (place_column (columns text.now)) (rule_of (behind_column text.now)))) }
     ensures good { IfOk result IsCommand }
 {
-    let Some((place, _rest)) = place_column(text) else {
+    let Some((place, rest)) = place_column(text) else {
         return Err(LineError::Bad(SessionReason::Arguments));
     };
-    let Ok(line) = rule_of_line(behind_column(text), 0) else {
+    let Ok(line) = rule_of_line(rest, 0) else {
         return Err(LineError::Bad(SessionReason::Rule));
     };
     let Some(word) = line.word else {
@@ -169,7 +173,7 @@ pub(crate) fn command_of_line(alloc: Global, line: &[u8]) -> Result<SessionComma
     ensures good { IfOk result IsCommand }
 {
     match next_column(line) {
-        Some((word, _rest)) => command_named(alloc, word, behind_column(line)),
+        Some((word, rest)) => command_named(alloc, word, rest),
         None => Err(LineError::Bad(SessionReason::Command)),
     }
 }

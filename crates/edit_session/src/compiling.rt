@@ -1,5 +1,6 @@
 //! The table that a commit hands over.
 ghost use Rattle.std.specs.Prelude.{◌≤◌, IfOk, IfErr};
+ghost use Rattle.razor_base.specs.declared.limits.TheConstants.{MOST_ENTRIES};
 ghost use Rattle.ternary_words.specs.Limits.{IsSlotWidth};
 ghost use Rattle.rule_compilation.specs.Compiled.{IsRefused};
 ghost use Rattle.edit_session.specs.Machine.{IsTableFor};
@@ -19,7 +20,7 @@ pub(crate) fn compiled(
     limit: u32,
 ) -> Result<Table, ComposeError>
     requires slot { ∥ IsSlotWidth slot ∥₁ }
-    requires limit { limit ≤ 262144 }
+    requires limit { limit ≤ MOST_ENTRIES }
     ensures table { IfOk result (IsTableFor list.now slot limit) }
     ensures refused { IfErr result (IsRefused list.now.rules limit) }
 {

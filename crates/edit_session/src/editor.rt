@@ -1,4 +1,6 @@
 //! The editing session over a memory: its events, one call each.
+ghost use Rattle.razor_base.specs.declared.limits.TheConstants.{MOST_ENTRIES, MOST_RULES};
+
 use crate::compiling::compiled;
 use crate::list_swapper::ListSwapper;
 use crate::listing::Listing;
@@ -31,6 +33,7 @@ pub struct Editor<V: Device> {
 
 impl<V: Device> Model for Editor<V> {
     ghost use Rattle.std.specs.Prelude.{◌≤◌};
+    ghost use Rattle.razor_base.specs.declared.limits.TheConstants.{MOST_ENTRIES};
     ghost use Rattle.ternary_words.specs.Limits.{IsSlotWidth};
     ghost use Rattle.edit_session.specs.Editing.{Editing};
 
@@ -38,7 +41,7 @@ impl<V: Device> Model for Editor<V> {
 
     ghost view = { λ e. record { device = e.swapper.device; session = record { list = e.list; state = e.swapper.state; copies = e.swapper.copies; slot = e.slot; limit = e.limit } } };
 
-    ghost invariant = { λ e. (e.limit ≤ 262144) × ∥ IsSlotWidth e.slot ∥₁ };
+    ghost invariant = { λ e. (e.limit ≤ MOST_ENTRIES) × ∥ IsSlotWidth e.slot ∥₁ };
 }
 
 impl<V: Device> Editor<V> {
@@ -63,7 +66,7 @@ impl<V: Device> Editor<V> {
     /// least cost is at most `limit` (to 262,144).
     pub fn new(alloc: Global, list: RuleList, slot: u16, limit: u32, device: V) -> Self
         requires slot { ∥ IsSlotWidth slot ∥₁ }
-        requires limit { limit ≤ 262144 }
+        requires limit { limit ≤ MOST_ENTRIES }
         requires empty { V.held device ≡ replicate (length (V.held device)) None }
         ensures device { result.device ≡ device }
         ensures session { result.session ≡ opened (record { rules = named_rules list.names list.rules.items; names = list.names }) (length (V.held device)) slot limit }
@@ -91,7 +94,7 @@ impl<V: Device> Editor<V> {
         ensures rules { named_rules self.now.session.list.names result.now ≡ self.now.session.list.rules }
         ensures numbered { All (IsNumberedBy self.now.session.list.names) result.now }
         ensures spelled { All IsFilterRule result.now }
-        ensures few { length result.now ≤ 65536 }
+        ensures few { length result.now ≤ MOST_RULES }
     {
         self.list.rules()
     }
@@ -110,7 +113,7 @@ impl<V: Device> Editor<V> {
     pub fn add(&mut self, place: u32, rule: &Rule, name: &str) -> Result<u32, PlaceRefusal>
         requires rule { IsEditable rule.now }
         requires word { IsTrue (is_decision_word name.now) }
-        requires room { length self.old.session.list.names < 262144 }
+        requires room { length self.old.session.list.names < MOST_ENTRIES }
         ensures ok { IfOk result (λ count. add_answer self.old.session.list place ≡ Ok count) }
         ensures added { OnOk result (self.new.session.list ≡ with_rule self.old.session.list place (rule_named name.now rule.now)) }
         ensures refused { IfErr result (λ refusal. IsAddRefused self.old.session.list self.new.session.list place name.now refusal) }

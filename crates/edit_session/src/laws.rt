@@ -2,9 +2,8 @@
 ghost use Rattle.std.specs.Prelude.{◌≡◌, ◌<◌, ◌∷◌, ℕ, List, None, Ok};
 ghost use Rattle.field_boxes.specs.Classifier.{source};
 ghost use Rattle.field_boxes.specs.Fields.{stated};
-ghost use Rattle.trace_run.specs.Columns.{columns};
+ghost use Rattle.text_lines.specs.Columns.{columns, behind_column};
 ghost use Rattle.edit_session.specs.Machine.{HasSettled, IsCommit, SessionState, after_steps, decided};
-ghost use Rattle.edit_session.specs.SessionText.{behind_column};
 
 /// While no swap is pending, the settled table's list decides.
 pub fn with_no_swap_the_settled_list_decides()

@@ -23,7 +23,6 @@ mod compiling;
 mod editor;
 pub mod laws;
 mod line;
-mod line_text;
 mod list_swapper;
 mod listing;
 mod read;

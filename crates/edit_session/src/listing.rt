@@ -1,5 +1,6 @@
 //! Rules with the names of their decisions, and their edits.
 ghost use Rattle.std.specs.Prelude.{◌≡◌, ◌≤◌, vec_len, OnOk, OnErr};
+ghost use Rattle.razor_base.specs.declared.limits.TheConstants.{MOST_RULES, MOST_ENTRIES};
 ghost use Rattle.filter_reader.specs.FilterRules.{IsFilterRule};
 ghost use Rattle.edit_session.specs.Kept.{IsPut};
 ghost use Rattle.edit_session.specs.Lists.{IsEditable, is_within};
@@ -8,11 +9,9 @@ use crate::refusal::{NoPlace, PlaceRefusal};
 use field_boxes::{Decisions, Ports, Rule};
 use filter_reader::RuleList;
 use razor_base::Memory;
+use razor_base::limits::MOST_RULES;
 use std::alloc::Global;
 use std::marker::Model;
-
-/// As many rules as a list may have.
-const MOST_RULES: u32 = 65_536;
 
 /// The rules of a list in their order, and the names of their decisions.
 #[derive(Drop)]
@@ -66,7 +65,7 @@ impl Listing {
         ensures rules { named_rules self.now.names result.now ≡ self.now.rules }
         ensures numbered { All (IsNumberedBy self.now.names) result.now }
         ensures spelled { All IsFilterRule result.now }
-        ensures few { length result.now ≤ 65536 }
+        ensures few { length result.now ≤ MOST_RULES }
     {
         &self.rules
     }
@@ -91,7 +90,7 @@ impl Listing {
     /// How many rules there are.
     fn count(&self) -> u32
         ensures count { result ≡ length self.now.rules }
-        ensures few { result ≤ 65536 }
+        ensures few { result ≤ MOST_RULES }
     {
         self.rules.len() as u32
     }
@@ -116,7 +115,7 @@ impl Listing {
     pub(crate) fn add(&mut self, place: u32, rule: &Rule, name: &str) -> Result<u32, PlaceRefusal>
         requires rule { IsEditable rule.now }
         requires word { IsTrue (is_decision_word name.now) }
-        requires room { length self.old.names < 262144 }
+        requires room { length self.old.names < MOST_ENTRIES }
         ensures ok { IfOk result (λ count. add_answer self.old place ≡ Ok count) }
         ensures added { OnOk result (self.new ≡ with_rule self.old place (rule_named name.now rule.now)) }
         ensures refused { IfErr result (λ refusal. IsAddRefused self.old self.new place name.now refusal) }

@@ -6,8 +6,8 @@ ghost use Rattle.edit_session.specs.SessionViews.{BecomesSessionError, IsCommand
 use crate::command::{LineError, command_of_line};
 use crate::reason::SessionReason;
 use crate::session::{Session, SessionCommand};
-use filter_reader::{is_skipped, next_line};
 use std::alloc::Global;
+use text_lines::{is_skipped, next_line};
 use thiserror::Error;
 
 /// Why the text of a session was refused.

@@ -3,6 +3,7 @@ ghost use Rattle.std.specs.Prelude.{◌≡◌, ◌≤◌, ◌<◌, ◌+◌, [], 
 ghost use Rattle.std.specs.Io.KnownBytes.{Appends};
 ghost use Rattle.std.specs.String.{string_bytes};
 ghost use Rattle.razor_base.specs.Faults.{Rose};
+ghost use Rattle.razor_base.specs.declared.limits.TheConstants.{MOST_ENTRIES};
 ghost use Rattle.field_boxes.specs.Names.{is_decision_word};
 ghost use Rattle.filter_reader.specs.FilterRules.{IsFilterRule};
 ghost use Rattle.bank_update.specs.Driven.{UnlessWriteFault};
@@ -33,7 +34,7 @@ fn add<K: Sink, V: Device>(
 ) -> Result<Result<(), Failed>, Memory>
     requires rule { IsFilterRule rule.now }
     requires word { IsTrue (is_decision_word name.now) }
-    requires room { length editor.old.session.list.names < 262144 }
+    requires room { length editor.old.session.list.names < MOST_ENTRIES }
     requires nothing { pending.old ≡ [] }
     ensures turn { IfOk result (λ written. TakesTurn K.written K.faults out.old out.new editor.old.session editor.new.session (V.faults editor.old.device) (V.faults editor.new.device) (Add place (rule_named name.now rule.now)) written) }
     ensures none { pending.new ≡ [] }
@@ -65,7 +66,7 @@ fn take_turn<K: Sink, V: Device>(
     out: &mut K,
 ) -> Result<Result<(), Failed>, Memory>
     requires good { IsCommand command.now }
-    requires room { IsTrue (is_add (event_of command.now)) → length editor.old.session.list.names < 262144 }
+    requires room { IsTrue (is_add (event_of command.now)) → length editor.old.session.list.names < MOST_ENTRIES }
     requires nothing { pending.old ≡ [] }
     ensures turn { IfOk result (λ written. TakesTurn K.written K.faults out.old out.new editor.old.session editor.new.session (V.faults editor.old.device) (V.faults editor.new.device) (event_of command.now) written) }
     ensures none { pending.new ≡ [] }
@@ -97,7 +98,7 @@ pub fn session_on<K: Sink, V: Device>(
     editor: &mut Editor<V>,
     out: &mut K,
 ) -> Result<u64, DriveError>
-    requires { length editor.old.session.list.names + adds_of session.now < 262144 }
+    requires { length editor.old.session.list.names + adds_of session.now < MOST_ENTRIES }
 
     // What ran by the end is a run of the machine, in which no more steps failed than the device's count rose by.
     ensures outcome { SessionOutcome (λ stood. IsSessionRun editor.old.session stood (V.faults editor.old.device) (V.faults editor.new.device))

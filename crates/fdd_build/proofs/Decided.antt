@@ -1,22 +1,15 @@
 -- What rules decide by number, and by name.
 use Rattle.std.proofs.Common.{◌≡◌, ◌∷◌, ℕ, ◌<◌, ◌≤◌, zero, suc, List, [], Bool, true, false, cond, ap, refl, sym, ◌∙◌, arith, length, get_or, Some}
-use Rattle.std.specs.Prelude.{◌&&◌, map, find, unwrap_or, option_map, slice_get}
+use Rattle.std.specs.Prelude.{map, find, unwrap_or, option_map, slice_get}
 use Rattle.std.specs.List.{AllByRecursion}
 use Rattle.std.proofs.lemmas.Option.{slice_get-get_or}
 use Rattle.field_boxes.specs.declared.rule.Rule as code
-use Rattle.field_boxes.specs.Classifier.{Rule, union_holds, set_holds, matches, source}
+use Rattle.field_boxes.specs.Classifier.{Rule, matches, source}
 use Rattle.field_boxes.specs.NamedRules.{IsNumberedBy, named_rule, named_rules}
 use Rattle.field_boxes.specs.Names.{name_at, text_of}
 use Rattle.field_boxes.specs.Rules.{rule_of}
+use Rattle.field_boxes.proofs.SameSets.{matches_by_sets}
 use Rattle.fdd_build.specs.Rules.{decided}
-
--- what a rule decides has no part in whether it matches
-matches_by_sets : {A B : Type 0} (fields values : List ℕ) (r : Rule A) (s : Rule B) → r.sets ≡ s.sets → matches fields values r ≡ matches fields values s
-matches_by_sets [] values r s e = refl
-matches_by_sets (f ∷ fields) [] r s e = refl
-matches_by_sets (f ∷ fields) (v ∷ values) r s e =
-    ap (λ sets. union_holds v (unwrap_or (slice_get sets f) []) && matches fields values r) e
-    ∙ ap (λ b. set_holds f v s && b) (matches_by_sets fields values r s e)
 
 pub decided_head : (fields header : List ℕ) (rule : code.Rule) (rules : List code.Rule) (m : Bool) → matches fields header (rule_of rule) ≡ m →
     decided fields (rule ∷ rules) header ≡ cond m rule.decision (decided fields rules header)

@@ -1,16 +1,15 @@
 -- Where neighbouring parts differ, any other list of parts with the same children ends too.
-use Rattle.std.proofs.Common.{◌≡◌, ◌≢◌, ◌∷◌, ℕ, List, [], ◌≤◌, ◌<◌, refl, ap, arith, sym, ◌∙◌, subst, inl, inr, length}
-use Rattle.std.specs.Prelude.{◌⊎◌, suc, map, All}
+use Rattle.std.proofs.Common.{◌≡◌, ◌≢◌, ◌∷◌, ℕ, List, [], ◌≤◌, ◌<◌, refl, arith, sym, ◌∙◌, subst, inl, inr, length, ◌⊎◌, suc, map, All}
 use Rattle.std.specs.List.{Any, AllAdjacentBelow}
 use Rattle.std.proofs.lemmas.List.Elements.{All-cons}
 use Rattle.node_store.specs.declared.edge.Edge.{Edge}
-use Rattle.node_store.specs.declared.edge.NodeId.{NodeId}
 use Rattle.node_store.specs.declared.split.Part.{Part}
 use Rattle.node_store.specs.Edges.{child_of}
 use Rattle.node_store.specs.Split.{IsSplit, to_left, to_right}
 use Rattle.node_store.proofs.Adjacent as adjacent
 use Rattle.node_store.proofs.Edges as edges
 use Rattle.fdd_ops.specs.Joint.{IsCoarsest}
+use Rattle.node_store.proofs.Edges.{same_id}
 
 -- one of the parts ends at the value
 abbrev HasEnd : List Part → ℕ → Type 0
@@ -57,9 +56,6 @@ last-end : (greatest lo : ℕ) (ps : List Part) → edges.Rise greatest lo (map 
 last-end greatest lo [] r = absurd r
 last-end greatest lo (p ∷ []) r = inl r.1
 last-end greatest lo (p ∷ q ∷ ps) r = inr (last-end greatest (suc p.hi) (q ∷ ps) r.1)
-
-same_id : (a b : NodeId) → a.0 ≡ b.0 → a ≡ b
-same_id a b p = ap (λ (n : ℕ). let r : NodeId = record { 0 = n } in r) p
 
 abbrev Differ : Part → Part → Type 0
 Differ p q = (p.left ≢ q.left) ⊎ (p.right ≢ q.right)

@@ -1,11 +1,9 @@
 -- The value at which the edges that are left first lead apart.
-use Rattle.std.proofs.Common.{◌≡◌, ◌≢◌, ◌∷◌, ℕ, List, [], ◌≤◌, ◌<◌, ◌+◌, length, get_or, ap, arith, sym, ◌∙◌, inl, inr}
-use Rattle.std.specs.Prelude.{suc}
+use Rattle.std.proofs.Common.{◌≡◌, ◌≢◌, ◌∷◌, ℕ, List, [], ◌≤◌, ◌<◌, ◌+◌, length, get_or, arith, sym, ◌∙◌, inl, inr, suc}
 use Rattle.std.proofs.lemmas.Bool.{cases_lt}
 use Rattle.node_store.specs.declared.edge.Edge.{Edge}
-use Rattle.node_store.specs.declared.edge.NodeId.{NodeId}
 use Rattle.node_store.specs.Edges.{child_of}
-use Rattle.node_store.proofs.Edges.{AreEdges, within, past}
+use Rattle.node_store.proofs.Edges.{AreEdges, within, past, same_id}
 use Rattle.fdd_ops.specs.Parting.{IsFirstValue}
 use Rattle.fdd_ops.proofs.Fronts.{AreLeft, turned, ends}
 
@@ -29,9 +27,8 @@ at_once g first second start [] right d h apart = absurd h.left_edges
 at_once g first second start (e ∷ xs) [] d h apart = absurd h.right_edges
 at_once g first second start (e ∷ xs) (c ∷ ys) d h apart =
     let l = ends g start e xs h.left_edges in
-    let r = ends g start c ys h.right_edges in
     let left_child = h.left_leads start (omega arith) ∙ within e xs start l.0 in
-    let right_child = h.right_leads start (omega arith) ∙ within c ys start r.0 in record {
+    let right_child = h.right_leads start (omega arith) ∙ within c ys start (ends g start c ys h.right_edges).0 in record {
       value = record { inside = omega (arith, l.0, l.1); apart = λ same. apart (sym left_child ∙ same ∙ right_child); before = h.before };
       left_child = left_child;
       right_child = right_child;
@@ -47,9 +44,6 @@ goes_on g lo (e ∷ f ∷ xs) d h low = omega arith
 pub most : (g lo : ℕ) (xs : List Edge) (d : Edge) → AreEdges g lo xs → (get_or xs 0 d).hi ≤ g
 most g lo [] d h = absurd h
 most g lo (e ∷ xs) d h = (ends g lo e xs h).1
-
-same_id : (a b : NodeId) → a.0 ≡ b.0 → a ≡ b
-same_id a b p = ap (λ (n : ℕ). let r : NodeId = record { 0 = n } in r) p
 
 -- they lead to one node, and the left one ends sooner
 pub sooner : (g : ℕ) (first second : List Edge) (start : ℕ) (left right : List Edge) (d : Edge) → AreLeft g first second start left right →

@@ -1,7 +1,5 @@
 -- The first edges as the code reads and compares them.
-use Rattle.std.proofs.Common.{◌≡◌, ◌≢◌, ◌∷◌, ℕ, List, [], ◌+◌, ◌-◌, ◌≤◌, ◌<◌, length, get_or, take, drop, refl, ap, arith, sym, ◌∙◌, subst, true≢false, add-one}
-use Rattle.std.specs.Prelude.{Bool, true, false, not, ◌&&◌, nat_eq}
-use Rattle.std.proofs.lemmas.List.{take_all}
+use Rattle.std.proofs.Common.{◌≡◌, ◌≢◌, ◌∷◌, ℕ, List, [], ◌+◌, ◌-◌, ◌≤◌, ◌<◌, length, get_or, take, drop, refl, ap, arith, sym, ◌∙◌, subst, true≢false, add-one, Bool, true, false, not, ◌&&◌, nat_eq, take_all}
 use Rattle.std.proofs.lemmas.Bool.Decides.{Decides-eqb, Decides-and}
 use Rattle.node_store.specs.declared.edge.Edge.{Edge}
 use Rattle.node_store.proofs.Edges.{edge_same}

@@ -1,6 +1,5 @@
 -- What holds of all pairs that are kept, and of one more.
-use Rattle.std.proofs.Common.{◌≡◌, ap, sym, ◌∙◌, subst, refl, ℕ}
-use Rattle.std.specs.Prelude.{Bool, true, false, cond, nat_eq}
+use Rattle.std.proofs.Common.{◌≡◌, ap, sym, ◌∙◌, subst, refl, ℕ, Bool, true, false, cond, nat_eq}
 use Rattle.std.proofs.lemmas.Bool.Decides.{Decides-eqb, Decides-and}
 use Rattle.fdd_ops.specs.declared.pair.Pair.{Pair}
 use Rattle.fdd_ops.specs.Agreed.{same_pair}

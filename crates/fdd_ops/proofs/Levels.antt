@@ -1,37 +1,30 @@
 -- The fields of two nodes, and that different nodes of one field have different edges.
-use Rattle.std.proofs.Common.{◌≡◌, ◌≢◌, ◌∷◌, ℕ, List, [], ◌≤◌, ◌<◌, ◌^◌, refl, ap, arith, rules, sym, ◌∙◌, subst}
-use Rattle.std.specs.Prelude.{suc, zero}
-use Rattle.field_boxes.specs.Fields.{stated, greatest_of}
+use Rattle.std.proofs.Common.{◌≡◌, ◌≢◌, ◌∷◌, ℕ, List, [], ◌≤◌, ◌<◌, ◌^◌, refl, ap, rules, sym, ◌∙◌, subst}
+use Rattle.field_boxes.specs.Alike.{AreAlikeOver}
+use Rattle.field_boxes.specs.Fields.{stated}
 use Rattle.node_store.specs.Levels.{HasField, next, top_of}
 use Rattle.node_store.specs.declared.edge.Edge.{Edge}
 use Rattle.node_store.specs.Edges.{child_of}
 use Rattle.node_store.specs.Diagram.{Node, level_of, edges_of, answer}
-use Rattle.node_store.specs.Store.{IsStore, IsInner, AnswerAlike}
+use Rattle.node_store.specs.Store.{IsStore, IsInner}
 use Rattle.node_store.proofs.Canonical.{one, leads_on, is_level}
 use Rattle.node_store.proofs.Edges.{AreEdges, edges_of as are_edges}
 use Rattle.fdd_ops.specs.declared.parting.Parting.{Parting}
 use Rattle.fdd_ops.specs.Parting.{IsParting}
 use Rattle.fdd_ops.proofs.Fronts.{AreLeft, all_left}
 use Rattle.fdd_ops.proofs.Ends.{LeadApartAt}
+use Rattle.field_boxes.proofs.Orders.{field_few}
 
 -- the five fields are a level
 pub all_fields : HasField stated
 all_fields = search rules
-
-field_few : (field : ℕ) → field < 5 → greatest_of field < 2 ^ 32
-field_few zero h = omega arith
-field_few (suc zero) h = omega arith
-field_few (suc (suc zero)) h = omega arith
-field_few (suc (suc (suc zero))) h = omega arith
-field_few (suc (suc (suc (suc zero)))) h = omega arith
-field_few (suc (suc (suc (suc (suc n))))) h = absurd (omega (arith, h))
 
 -- no field has a value above 32 bits
 pub few : (level : List ℕ) → HasField level → top_of level < 2 ^ 32
 few [] h = absurd h
 few (f ∷ level) h = field_few f h.0.0
 
-alike : (nodes : List Node) (level : List ℕ) (a b : ℕ) → HasField level → edges_of nodes a ≡ edges_of nodes b → AnswerAlike nodes level a b
+alike : (nodes : List Node) (level : List ℕ) (a b : ℕ) → HasField level → edges_of nodes a ≡ edges_of nodes b → AreAlikeOver level (answer nodes a) (answer nodes b)
 alike nodes [] a b field e values ok = absurd field
 alike nodes (f ∷ level) a b field e [] ok = absurd ok
 alike nodes (f ∷ level) a b field e (v ∷ values) ok = ap (λ es. answer nodes (child_of es v) values) e

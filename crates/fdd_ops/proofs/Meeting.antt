@@ -1,6 +1,5 @@
 -- The parts of a field that a span meets, and the values of the span.
-use Rattle.std.proofs.Common.{◌≡◌, ◌∷◌, ℕ, List, [], ◌≤◌, ◌<◌, length, ap, arith, sym, ◌∙◌, subst, inl, inr}
-use Rattle.std.specs.Prelude.{suc, map, ◌⊎◌, slice_index_or}
+use Rattle.std.proofs.Common.{◌≡◌, ◌∷◌, ℕ, List, [], ◌≤◌, ◌<◌, length, ap, arith, sym, ◌∙◌, subst, inl, inr, suc, map, ◌⊎◌, slice_index_or}
 use Rattle.std.proofs.lemmas.List.{get_or-map, length-map}
 use Rattle.std.proofs.lemmas.Bool.{cases_lt}
 use Rattle.field_boxes.specs.declared.span.Span.{Span}
@@ -63,8 +62,7 @@ module _ (question : Question) (nodes : List Node) (span : Span) where
   found_here g lo p ps low top begins meets differ = elim (cases_lt p.hi span.hi) [
     | inl less ↦ (p.hi, top, low, meets, omega (arith, less), here (Differ question nodes) p ps p.hi (omega arith) differ)
     | inr more ↦
-        let ordered = span.ordered in
-        (span.hi, omega (arith, more, top), begins, ordered, omega arith, here (Differ question nodes) p ps span.hi more differ)
+        (span.hi, omega (arith, more, top), begins, span.ordered, omega arith, here (Differ question nodes) p ps span.hi more differ)
   ]
 
   found : (g lo : ℕ) (ps : List Part) → Rise g lo (map to_left ps) → lo ≤ span.hi → OneDiffers ps → Found g lo ps

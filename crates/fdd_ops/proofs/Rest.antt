@@ -1,13 +1,12 @@
 -- Two nodes agree over the rest of a box as their children do at each value of the span of their field.
-use Rattle.std.proofs.Common.{◌≡◌, ◌∷◌, ℕ, List, [], ◌≤◌, ◌<◌, length, ap, arith, sym, ◌∙◌, subst, get_or}
-use Rattle.std.specs.Prelude.{true, ◌&&◌, map, slice_index_or}
+use Rattle.std.proofs.Common.{◌≡◌, ◌∷◌, ℕ, List, [], ◌≤◌, length, ap, arith, sym, ◌∙◌, subst, get_or, true, ◌&&◌, map, slice_index_or}
 use Rattle.std.proofs.lemmas.Bool.{and_parts, and_from}
 use Rattle.field_boxes.specs.declared.span.Span.{Span}
 use Rattle.field_boxes.specs.Fields.{AreValues}
 use Rattle.node_store.specs.Levels.{HasField, next, top_of}
-use Rattle.field_boxes.specs.Classifier.{Rule, interval_holds, matches}
+use Rattle.field_boxes.specs.Classifier.{interval_holds}
 use Rattle.field_boxes.specs.Spans.{interval_of}
-use Rattle.field_boxes.specs.Boxes.{box_of, EachValue, SomeValue}
+use Rattle.field_boxes.specs.Boxes.{EachValue, SomeValue}
 use Rattle.field_boxes.proofs.FieldByField.{box_set}
 use Rattle.node_store.specs.declared.split.Part.{Part}
 use Rattle.node_store.specs.Diagram.{Node, level_of, edges_of, answer}

@@ -1,4 +1,3 @@
-pub mod Difference
 pub mod Parting
 pub mod Agreement
 pub mod Agreed

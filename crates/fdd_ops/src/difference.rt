@@ -1,8 +1,8 @@
 //! The least header on which two diagrams differ.
-ghost use Rattle.std.specs.Prelude.{◌≡◌, ◌≢◌, ◌↔◌, ℕ, List, IfSome, IsNone};
-ghost use Rattle.field_boxes.specs.Fields.{stated, IsHeader};
+ghost use Rattle.std.specs.Prelude.{◌≡◌, ◌≢◌, MatchOption};
+ghost use Rattle.field_boxes.specs.Fields.{stated};
 ghost use Rattle.node_store.specs.Diagram.{level_of, answer};
-ghost use Rattle.fdd_ops.specs.Difference.{IsLeastDifference};
+ghost use Rattle.field_boxes.specs.Alike.{AreAlike, IsFirstDifference};
 
 use crate::parting::first_parting;
 use field_boxes::Header;
@@ -17,8 +17,8 @@ use node_store::{NodeId, Store};
 pub fn least_difference(store: &Store, a: NodeId, b: NodeId) -> Option<Header>
     requires left { level_of store.now a.0 ≡ stated }
     requires right { level_of store.now b.0 ≡ stated }
-    ensures least { IfSome result (λ header. IsLeastDifference store.now a.0 b.0 header.values) }
-    ensures none { IsNone result ↔ ((values : List ℕ) → IsHeader values → answer store.now a.0 values ≡ answer store.now b.0 values) }
+    ensures { MatchOption result (AreAlike (answer store.now a.0) (answer store.now b.0))
+        (λ header. IsFirstDifference (answer store.now a.0) (answer store.now b.0) header.values) }
 {
     if a == b {
         return None;
@@ -31,7 +31,7 @@ fn first_header(store: &Store, a: NodeId, b: NodeId) -> Header
     requires left { level_of store.now a.0 ≡ stated }
     requires right { level_of store.now b.0 ≡ stated }
     requires differ { a.0 ≢ b.0 }
-    ensures { IsLeastDifference store.now a.0 b.0 result.values }
+    ensures { IsFirstDifference (answer store.now a.0) (answer store.now b.0) result.values }
 {
     store.same_answers();
     let source = first_parting(store, a, b);

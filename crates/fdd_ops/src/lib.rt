@@ -23,7 +23,7 @@
 //! Whoever walks two diagrams at once takes the intervals of a field on which both lead one way:
 //! [`joint`].
 //!
-//! `specs/Difference.antt` says what a least difference is.
+//! `specs/Alike.antt` of `field_boxes` says what a least difference is.
 #![tactic(auto)]
 
 mod agreed;

@@ -43,11 +43,6 @@ same_parts n a b top low = sym (shr_split a n) ∙ ap (λ x. x * 2 ^ n + a % 2 ^
 top_bit : (n a : ℕ) → a < 2 ^ suc n → a / 2 ^ n < 2
 top_bit n a small = shr_below a 1 n (subst (λ m. a < 2 ^ m) (sym (one-add n)) small)
 
--- equal bits begin equally
-begins_same : (b : Bool) (bs cs : List Bool) → begins (b ∷ bs) (b ∷ cs) ≡ begins bs cs
-begins_same true bs cs = refl
-begins_same false bs cs = refl
-
 begins_top : (x y : ℕ) (bs cs : List Bool) → x < 2 → y < 2 → begins (nat_eq (x % 2) 1 ∷ bs) (nat_eq (y % 2) 1 ∷ cs) ≡ nat_eq x y && begins bs cs
 begins_top zero zero bs cs h k = refl
 begins_top zero (suc zero) bs cs h k = refl
@@ -77,3 +72,8 @@ pub prefix-begins : (l k p v : ℕ) → p < 2 ^ (l + k) → v < 2 ^ (l + k) → 
 prefix-begins l k p v h j =
     let front : take l (bits (l + k) p) ≡ bits l (p / 2 ^ k) = ap (take l) (bits-add l k p) ∙ take_at (bits l (p / 2 ^ k)) (bits k p) l (length-bits l (p / 2 ^ k)) in
     rw (front, bits-add l k v) (nat_eq_comm (v / 2 ^ k) (p / 2 ^ k) ∙ sym (begins-bits l (p / 2 ^ k) (v / 2 ^ k) (bits k v) (shr_below p l k h) (shr_below v l k j)))
+
+-- over any width
+pub begins_at : (w l k p v : ℕ) → l + k ≡ w → p < 2 ^ w → v < 2 ^ w → begins (take l (bits w p)) (bits w v) ≡ nat_eq (v / 2 ^ k) (p / 2 ^ k)
+begins_at w l k p v e =
+    subst (λ n. p < 2 ^ n → v < 2 ^ n → begins (take l (bits n p)) (bits n v) ≡ nat_eq (v / 2 ^ k) (p / 2 ^ k)) e (λ h j. sym (prefix-begins l k p v h j))

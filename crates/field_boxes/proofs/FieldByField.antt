@@ -1,5 +1,5 @@
 -- Headers, boxes and rules, field by field.
-use Rattle.std.proofs.Common.{◌≡◌, ℕ, ◌≤◌, ◌<◌, ◌^◌, List, [], ◌∷◌, length, arith, refl, ap, subst, sym, ◌∙◌, inl, inr}
+use Rattle.std.proofs.Common.{◌≡◌, ℕ, ◌≤◌, ◌<◌, ◌^◌, List, [], ◌∷◌, length, get_or, arith, refl, ap, subst, sym, ◌∙◌, inl, inr}
 use Rattle.std.specs.Prelude.{suc, zero, true, false, ◌⊎◌, map, slice_index_or, unwrap_or, option_map}
 use Rattle.std.proofs.lemmas.Bool.{and_parts, and_from, and_left, and_right}
 use Rattle.std.proofs.lemmas.Option.{slice_get-get_or, slice_get-map, unwrap_or-slice_get}
@@ -119,3 +119,13 @@ box_set spans k v d h =
 -- a rule's set by its place
 pub set_at : (r : Rule ℕ) (k v : ℕ) → set_holds k v r ≡ union_holds v (slice_index_or r.sets k [])
 set_at r k v = ap (union_holds v) (unwrap_or-slice_get r.sets k [])
+
+-- five items by their places
+pub five_items : {X : Type 0} (xs : List X) (a b c d e : X) → length xs ≡ 5 → get_or xs 0 a ∷ get_or xs 1 b ∷ get_or xs 2 c ∷ get_or xs 3 d ∷ get_or xs 4 e ∷ [] ≡ xs
+five_items [] a b c d e h = absurd (omega (arith, h))
+five_items (v ∷ []) a b c d e h = absurd (omega (arith, h))
+five_items (v ∷ w ∷ []) a b c d e h = absurd (omega (arith, h))
+five_items (v ∷ w ∷ x ∷ []) a b c d e h = absurd (omega (arith, h))
+five_items (v ∷ w ∷ x ∷ y ∷ []) a b c d e h = absurd (omega (arith, h))
+five_items (v ∷ w ∷ x ∷ y ∷ z ∷ []) a b c d e h = refl
+five_items (v ∷ w ∷ x ∷ y ∷ z ∷ u ∷ xs) a b c d e h = absurd (omega (arith, h))

@@ -4,7 +4,7 @@ use Rattle.std.specs.Prelude.{map, position, slice_get, Option, option_map, ◌|
 use Rattle.std.specs.List.{list_any, prefix_len, AllZip}
 use Rattle.std.specs.Str.{bytes_eq}
 use Rattle.std.proofs.lemmas.List.Quantifiers.{position-Some}
-use Rattle.std.proofs.lemmas.Option.{slice_get-get_or, slice_get-map, slice_get_within, none-some}
+use Rattle.std.proofs.lemmas.Option.{slice_get-get_or, slice_get-map}
 use Rattle.std.proofs.lemmas.List.{length-map, map-append, length-append}
 use Rattle.std.proofs.lemmas.Grind.{common_steps}
 use Rattle.std.proofs.lemmas.Slice.Eq.{bytes_eq-Decides}
@@ -69,10 +69,6 @@ kept_by names name false k h = old_number names name k h
 -- a name keeps its number
 pub name_at-with_name : (names : List (List ℕ)) (name : List ℕ) (k : ℕ) → k ≤ length names → name_at (with_name names name) k ≡ name_at names k
 name_at-with_name names name k h = kept_by names name (list_any (bytes_eq name) names) k h
-
-pub name_at_within : (names : List (List ℕ)) (n : ℕ) (name : List ℕ) → name_at names n ≡ Some name → (0 < n) × (n ≤ length names)
-name_at_within names zero name h = absurd (none-some name h)
-name_at_within names (suc k) name h = (omega arith, omega (arith, slice_get_within names k name h))
 
 -- clones have the same texts
 pub same_texts : {X : Type 0} (f : X → List ℕ) (xs ys : List X) → AllZip (λ x y. f y ≡ f x) xs ys → map f ys ≡ map f xs

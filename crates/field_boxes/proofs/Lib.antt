@@ -6,10 +6,14 @@ pub mod FieldByField
 pub mod Filled
 pub mod FirstSeen
 pub mod Halves
+pub mod Held
 pub mod Residues
-pub mod Order
+pub mod Open
+pub mod Ordered
+pub mod Orders
 pub mod Powers
 pub mod Prefixes
+pub mod SameSets
 pub mod SameValues
 pub mod Unions
 pub mod United

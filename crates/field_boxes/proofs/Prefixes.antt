@@ -3,7 +3,7 @@ use Rattle.std.proofs.Common.{nat_le, nat_eq, ◌&&◌, ap, ◌∙◌, refl, Boo
 use Rattle.std.specs.Int.{w32}
 use Rattle.std.proofs.lemmas.Nat.{pow_pos, pow-add, shr_split, shr_below, one_shl, mod_below, le-div, div_below}
 use Rattle.std.proofs.Math.Nat.{mul-le-mul_right, add-mul, one-mul}
-use Rattle.std.proofs.lemmas.Bool.{false≢true, leb-true, le-leb}
+use Rattle.std.proofs.lemmas.Bool.{false≢true, leb-true, le-leb, and_parts}
 use Rattle.std.proofs.lemmas.Bool.Decides.{eqb_tells}
 use Rattle.std.proofs.Math.Pow.{pow_mono}
 
@@ -29,10 +29,6 @@ top_fits w l v wide le small low =
     let room : 2 ^ w ≤ 2 ^ 32 = pow_mono wide in
     rw one (omega (arith, step, positive, room))
 
-both : (a b : Bool) → (a && b) ≡ true → (a ≡ true) × (b ≡ true)
-both true b h = (refl, h)
-both false b h = absurd (false≢true h)
-
 -- a value that shares the high part with a multiple of a power lies in the step from there
 in_step : (k p v : ℕ) → p % 2 ^ k ≡ 0 → v / 2 ^ k ≡ p / 2 ^ k → (p ≤ v) × (v ≤ p + (2 ^ k - 1))
 in_step k p v low same =
@@ -53,7 +49,7 @@ same_high k p v low above under =
 
 by_test : (k p v : ℕ) → p % 2 ^ k ≡ 0 → (t : Bool) → (nat_le p v && nat_le v (p + (2 ^ k - 1))) ≡ t → t ≡ nat_eq (v / 2 ^ k) (p / 2 ^ k)
 by_test k p v low true h =
-    let parts = both (nat_le p v) (nat_le v (p + (2 ^ k - 1))) h in
+    let parts = and_parts (nat_le p v) (nat_le v (p + (2 ^ k - 1))) h in
     sym (eq-eqb (v / 2 ^ k) (p / 2 ^ k) (same_high k p v low (leb-true p v parts.0) (leb-true v (p + (2 ^ k - 1)) parts.1)))
 by_test k p v low false h =
     elim (eqb_tells (v / 2 ^ k) (p / 2 ^ k)) [

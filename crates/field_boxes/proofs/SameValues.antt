@@ -47,7 +47,7 @@ later top v i j is js hi rise_i rise_j same =
           sym (ap (λ b. b || union_holds v is) (not_past v i (omega arith))) ∙ same ∙ ap (λ b. b || union_holds v js) (not_past v j (omega arith))
     ]
 
-same_interval : (i j : Interval) → i.lo ≡ j.lo → i.hi ≡ j.hi → i ≡ j
+pub same_interval : (i j : Interval) → i.lo ≡ j.lo → i.hi ≡ j.hi → i ≡ j
 same_interval i j lo hi =
     ap (λ (n : ℕ). let k : Interval = record { lo = n; hi = i.hi } in k) lo ∙ ap (λ (n : ℕ). let k : Interval = record { lo = j.lo; hi = n } in k) hi
 

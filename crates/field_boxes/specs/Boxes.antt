@@ -33,3 +33,10 @@ EachValue greatest span P = (v : ℕ) → v ≤ greatest → IsTrue (interval_ho
 -- what holds of some value of the span up to the greatest
 abbrev pub SomeValue : ℕ → Span → (ℕ → Type 0) → Type 0
 SomeValue greatest span P = (v : ℕ) × (v ≤ greatest) × IsTrue (interval_holds v (interval_of span)) × P v
+
+-- the values lie in the box of one interval for each field
+abbrev pub LiesIn : List Interval → List ℕ → Type 0
+LiesIn [] [] = Unit {0}
+LiesIn [] (v ∷ vs) = ⊥
+LiesIn (i ∷ box) [] = ⊥
+LiesIn (i ∷ box) (v ∷ vs) = (i.lo ≤ v) × (v ≤ i.hi) × LiesIn box vs

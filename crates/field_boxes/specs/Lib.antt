@@ -1,5 +1,7 @@
 pub mod Fields
+pub mod Orders
 pub mod Classifier
+pub mod Alike
 pub mod Names
 pub mod Prefix
 pub mod Bits

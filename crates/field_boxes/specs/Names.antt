@@ -3,6 +3,7 @@ use Rattle.std.specs.Prelude.{◌≡◌, ◌≢◌, ℕ, zero, suc, ◌≤◌, B
 use Rattle.std.specs.List.{list_any, list_all}
 use Rattle.std.specs.Char.{is_ascii_alphanumeric}
 use Rattle.std.specs.Str.{bytes_eq}
+use Rattle.razor_base.specs.declared.limits.TheConstants.{MOST_ENTRIES}
 
 -- the word for no decision
 abbrev pub miss : List ℕ
@@ -47,6 +48,6 @@ AreDistinct names = (i j : ℕ) → i ≤ length names → j ≤ length names �
 
 -- there are at most so many names, none is the word for no decision, and none stands twice
 pub record AreNames (names : List (List ℕ)) : Type 0 where
-  pub few : length names ≤ 262144
+  pub few : length names ≤ MOST_ENTRIES
   pub named : All (λ name. name ≢ miss) names
   pub distinct : AreDistinct names

@@ -4,6 +4,7 @@ use Rattle.std.proofs.Common.{ap, subst, refl, sym, ◌∙◌}
 use Rattle.std.proofs.Math.Nat.{le_refl, le-max_left, max-eq_right}
 use Rattle.std.proofs.lemmas.List.{length-map, length-take-le, take-append-drop}
 use Rattle.std.specs.Coded.{le_prop}
+use Rattle.razor_base.specs.declared.limits.TheConstants.{MOST_RANGES}
 use Rattle.field_boxes.specs.Classifier.{Interval}
 use Rattle.field_boxes.specs.Spans.{interval_of, intervals_of}
 use Rattle.field_boxes.specs.declared.span.Span.{Span}
@@ -23,13 +24,13 @@ listed l = intervals_of (take l.count l.spans)
 
 -- there is room for 16 spans, and behind those that count lies filling
 pub record IsFilled (l : Inside) : Type 0 where
-  pub few : l.count ≤ 16
-  pub room : length l.spans ≡ 16
-  pub rest : drop l.count l.spans ≡ replicate (16 - l.count) filling
+  pub few : l.count ≤ MOST_RANGES
+  pub room : length l.spans ≡ MOST_RANGES
+  pub rest : drop l.count l.spans ≡ replicate (MOST_RANGES - l.count) filling
 
 -- the fields of a list of intervals
 abbrev pub fields_of : List Interval → Inside
-fields_of is = record { spans = map span_of is ++ replicate (16 - length is) filling; count = length is }
+fields_of is = record { spans = map span_of is ++ replicate (MOST_RANGES - length is) filling; count = length is }
 
 -- Intervals tell the fields: the rest of this file.
 
@@ -48,13 +49,13 @@ pub count_of : (l : Inside) → IsFilled l → length (listed l) ≡ l.count
 count_of l h = length-map (take l.count l.spans) interval_of ∙ length-take-le l.count l.spans (subst (λ n. l.count ≤ n) (sym h.room) h.few)
 
 fields_by : (l : Inside) (n : ℕ) → n ≡ l.count → IsFilled l →
-    (let a : Inside = record { spans = take l.count l.spans ++ replicate (16 - n) filling; count = n } in a) ≡ l
+    (let a : Inside = record { spans = take l.count l.spans ++ replicate (MOST_RANGES - n) filling; count = n } in a) ≡ l
 fields_by l n e h =
-    ap (λ (k : ℕ). let a : Inside = record { spans = take l.count l.spans ++ replicate (16 - k) filling; count = k } in a) e
+    ap (λ (k : ℕ). let a : Inside = record { spans = take l.count l.spans ++ replicate (MOST_RANGES - k) filling; count = k } in a) e
     ∙ ap (λ (rest : List Span). let a : Inside = record { spans = take l.count l.spans ++ rest; count = l.count } in a) (sym h.rest)
     ∙ ap (λ (ss : List Span). let a : Inside = record { spans = ss; count = l.count } in a) (take-append-drop l.count l.spans)
 
 pub fields_kept : (l : Inside) → IsFilled l → fields_of (listed l) ≡ l
 fields_kept l h =
-    ap (λ (ss : List Span). let a : Inside = record { spans = ss ++ replicate (16 - length (listed l)) filling; count = length (listed l) } in a) (same_spans (take l.count l.spans))
+    ap (λ (ss : List Span). let a : Inside = record { spans = ss ++ replicate (MOST_RANGES - length (listed l)) filling; count = length (listed l) } in a) (same_spans (take l.count l.spans))
     ∙ fields_by l (length (listed l)) (count_of l h) h

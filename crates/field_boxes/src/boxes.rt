@@ -10,6 +10,7 @@ ghost use Rattle.field_boxes.specs.Unions.{RiseApart};
 ghost use Rattle.field_boxes.specs.Boxes.{EachValue, SomeValue};
 
 use crate::span::Span;
+use razor_base::limits::{GREATEST_PORT, GREATEST_PROTOCOL};
 
 /// Whether the set has all values of the span up to the greatest.
 pub(crate) fn has_all(set: &[Span], span: Span, greatest: u32) -> bool
@@ -51,5 +52,5 @@ pub(crate) fn begins_past_a_field(spans: &[Span; 5]) -> bool
     ensures yes { OnTrue result ((k : ℕ) × (k < 5) × ((d : Span) → greatest_of k < (slice_index_or spans.now k d).lo)) }
     ensures no { OnFalse result ((k : ℕ) (d : Span) → k < 5 → (slice_index_or spans.now k d).lo ≤ greatest_of k) }
 {
-    spans[2].lo > 65_535 || spans[3].lo > 65_535 || spans[4].lo > 255
+    spans[2].lo > GREATEST_PORT || spans[3].lo > GREATEST_PORT || spans[4].lo > GREATEST_PROTOCOL
 }

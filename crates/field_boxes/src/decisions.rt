@@ -1,5 +1,6 @@
 //! The names of decisions and their numbers.
 ghost use Rattle.std.specs.Prelude.{◌≡◌, ◌≢◌, ◌≤◌, ◌<◌, ◌↔◌, ℕ, false, List, [], length, Some, IfOk, IfSome, IsNone, OnOk, OnErr};
+ghost use Rattle.razor_base.specs.declared.limits.TheConstants.{MOST_ENTRIES};
 ghost use Rattle.field_boxes.specs.Names.{AreNames, miss, is_known, name_at, number_of, text_of, with_name};
 
 use indexmap::IndexSet;
@@ -42,7 +43,7 @@ impl Decisions {
     /// The number of the name: its own where it is there, and the next one for a new name.
     pub fn intern(&mut self, name: &str) -> Result<u32, Memory>
         requires named { name.now ≢ miss }
-        requires room { is_known self.old name.now ≡ false → length self.old < 262144 }
+        requires room { is_known self.old name.now ≡ false → length self.old < MOST_ENTRIES }
         ensures names { OnOk result (self.new ≡ with_name self.old name.now) }
         ensures number { IfOk result (λ n. name_at self.new n ≡ Some name.now) }
         ensures within { IfOk result (λ n. (0 < n) × (n ≤ length self.new)) }

@@ -2,6 +2,8 @@
 ghost use Rattle.std.specs.Prelude.{◌≡◌, ◌<◌};
 ghost use Rattle.field_boxes.specs.Fields.{greatest_of, width};
 
+use razor_base::limits::{GREATEST_PORT, GREATEST_PROTOCOL};
+
 /// The greatest value of the field.
 pub fn greatest(field: usize) -> u32
     requires { field < 5 }
@@ -9,8 +11,8 @@ pub fn greatest(field: usize) -> u32
 {
     match field {
         0 | 1 => u32::MAX,
-        2 | 3 => 65_535,
-        _ => 255,
+        2 | 3 => GREATEST_PORT,
+        _ => GREATEST_PROTOCOL,
     }
 }
 

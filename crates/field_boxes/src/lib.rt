@@ -9,6 +9,7 @@
 mod boxes;
 mod classifier;
 mod decisions;
+mod field_order;
 mod fields;
 mod header;
 pub mod laws;
@@ -22,6 +23,7 @@ mod uniting;
 
 pub use classifier::first;
 pub use decisions::Decisions;
+pub use field_order::Order;
 pub use fields::{greatest, width};
 pub use header::Header;
 pub use names::decision_word;

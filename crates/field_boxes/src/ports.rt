@@ -3,6 +3,7 @@
 use crate::span::Span;
 use crate::span_list::SpanList;
 use crate::uniting::united;
+use razor_base::limits::{GREATEST_PORT, MOST_RANGES};
 use std::marker::Model;
 
 /// A set of ports: the union of one to sixteen spans, which lie in the value itself.
@@ -75,6 +76,7 @@ impl Ports {
 
 ghost use Rattle.std.specs.Prelude.{◌≡◌, nat_le};
 ghost use Rattle.std.specs.List.{list_any, list_all};
+ghost use Rattle.razor_base.specs.declared.limits.TheConstants.{GREATEST_PORT};
 ghost use Rattle.field_boxes.specs.Classifier.{interval_holds};
 ghost use Rattle.field_boxes.specs.Spans.{interval_of};
 ghost use Rattle.field_boxes.specs.Ports.{are_port_spans};
@@ -83,13 +85,13 @@ ghost use Rattle.field_boxes.specs.Ports.{are_port_spans};
 fn port_spans(spans: &[Span]) -> bool
     ensures { result ≡ are_port_spans spans.now }
 {
-    1 <= spans.len() && spans.len() <= 16 && end_in_ports(spans)
+    1 <= spans.len() && spans.len() <= MOST_RANGES && end_in_ports(spans)
 }
 
 fn end_in_ports(spans: &[Span]) -> bool
-    ensures { result ≡ list_all (λ s. nat_le s.hi 65535) spans.now }
+    ensures { result ≡ list_all (λ s. nat_le s.hi GREATEST_PORT) spans.now }
 {
-    spans.iter().all(|span| span.hi <= 65_535)
+    spans.iter().all(|span| span.hi <= GREATEST_PORT)
 }
 
 fn one_holds(spans: &[Span], value: u32) -> bool

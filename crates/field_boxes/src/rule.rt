@@ -1,5 +1,7 @@
 //! Rules: a set of values for each field, and a decision.
-ghost use Rattle.std.specs.Prelude.{◌≡◌, ◌≤◌, ℕ, [], ◌∷◌};
+ghost use Rattle.std.specs.Prelude.{◌≡◌, ◌≤◌, true, ℕ, [], ◌∷◌};
+ghost use Rattle.razor_base.specs.declared.limits.TheConstants.{GREATEST_ADDRESS, GREATEST_PORT, GREATEST_PROTOCOL, MOST_RANGES};
+ghost use Rattle.field_boxes.specs.Classifier.{union_holds};
 ghost use Rattle.field_boxes.specs.Spans.{interval_of, intervals_of};
 ghost use Rattle.field_boxes.specs.Unions.{RiseApart};
 
@@ -8,6 +10,7 @@ use crate::fields::greatest;
 use crate::header::Header;
 use crate::ports::Ports;
 use crate::span::Span;
+use razor_base::limits::{GREATEST_PORT, GREATEST_PROTOCOL};
 use std::slice::from_ref;
 
 /// A set of values for each of the five fields, and the number of the decision.
@@ -19,17 +22,39 @@ pub struct Rule {
     pub ports: [Ports; 2],
     pub protocol: Span,
     pub decision: u32,
-    pub ghost inside: { protocol.hi ≤ 255 },
+    pub ghost inside: { protocol.hi ≤ GREATEST_PROTOCOL },
 }
 
 impl Rule {
-    ghost use Rattle.std.specs.Prelude.{◌≡◌, IsTrue, IsFalse, map, ℕ, ◌<◌, ◌≤◌, length, slice_index_or, []};
+    ghost use Rattle.std.specs.Prelude.{◌≡◌, true, IsTrue, IsFalse, map, ℕ, List, ◌<◌, ◌≤◌, length, slice_index_or, []};
     ghost use Rattle.std.specs.Bool.{OnTrue, OnFalse};
-    ghost use Rattle.field_boxes.specs.Fields.{stated};
+    ghost use Rattle.field_boxes.specs.Fields.{stated, IsHeader};
     ghost use Rattle.field_boxes.specs.Classifier.{matches};
     ghost use Rattle.field_boxes.specs.Spans.{intervals_of};
     ghost use Rattle.field_boxes.specs.Boxes.{AreSets, EachHeader, SomeHeader, box_of};
     ghost use Rattle.field_boxes.specs.Rules.{sets_of, rule_of};
+
+    /// The rule that matches every header.
+    pub fn open(decision: u32) -> Rule
+        ensures decision { result.decision ≡ decision }
+        ensures matched { (header : List ℕ) → IsHeader header → matches stated header (rule_of result) ≡ true }
+    {
+        let ports = all_ports();
+        let addresses = Span {
+            lo: 0,
+            hi: u32::MAX,
+        };
+        Rule {
+            source: addresses,
+            destination: addresses,
+            ports: [ports, ports],
+            protocol: Span {
+                lo: 0,
+                hi: GREATEST_PROTOCOL,
+            },
+            decision,
+        }
+    }
 
     /// Whether every field's value lies in the rule's set of that field.
     pub fn holds(&self, header: &Header) -> bool
@@ -47,7 +72,7 @@ impl Rule {
     pub fn sets(&self) -> [&[Span]; 5]
         ensures sets { map (λ s. intervals_of s.now) result ≡ sets_of self.now }
         ensures inside { AreSets (sets_of self.now) }
-        ensures few { (k : ℕ) → k < 5 → length (slice_index_or (sets_of self.now) k []) ≤ 16 }
+        ensures few { (k : ℕ) → k < 5 → length (slice_index_or (sets_of self.now) k []) ≤ MOST_RANGES }
     {
         [
             alone(&self.source),
@@ -93,11 +118,24 @@ impl Rule {
     }
 }
 
+/// All ports.
+fn all_ports() -> Ports
+    ensures { (v : ℕ) → v ≤ GREATEST_PORT → union_holds v result ≡ true }
+{
+    match Ports::of(&[Span {
+        lo: 0,
+        hi: GREATEST_PORT,
+    }]) {
+        Some(ports) => ports,
+        None => unreachable!(),
+    }
+}
+
 /// The span as a slice.
 fn alone(span: &Span) -> &[Span]
     ensures spans { intervals_of result.now ≡ interval_of span.now ∷ [] }
     ensures rise { (greatest : ℕ) → span.now.hi ≤ greatest → RiseApart 0 greatest (interval_of span.now ∷ []) }
-    ensures small { span.now.hi ≤ 4294967295 }
+    ensures small { span.now.hi ≤ GREATEST_ADDRESS }
 {
     let _end = span.hi;
     from_ref(span)

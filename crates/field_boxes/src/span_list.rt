@@ -1,12 +1,14 @@
 //! A few spans in place.
+ghost use Rattle.razor_base.specs.declared.limits.TheConstants.{MOST_RANGES};
 
 use crate::span::Span;
+use razor_base::limits::MOST_RANGES;
 use std::marker::Model;
 
 /// Up to sixteen spans, which take no memory of their own.
 #[derive(Clone, Copy, Debug, PartialEq, Eq)]
 pub(crate) struct SpanList {
-    spans: [Span; 16],
+    spans: [Span; MOST_RANGES],
     count: usize,
 }
 
@@ -36,7 +38,7 @@ impl SpanList {
         ensures { result ≡ [] }
     {
         SpanList {
-            spans: [Span { lo: 0, hi: 0 }; 16],
+            spans: [Span { lo: 0, hi: 0 }; MOST_RANGES],
             count: 0,
         }
     }
@@ -59,7 +61,7 @@ impl SpanList {
 
     /// Puts the span behind the others.
     pub fn push(&mut self, span: Span)
-        requires { length self.old < 16 }
+        requires { length self.old < MOST_RANGES }
         ensures { self.new ≡ self.old ++ interval_of span ∷ [] }
     {
         self.spans[self.count] = span;

@@ -1,5 +1,6 @@
 //! Unions of spans, one span after another.
 ghost use Rattle.std.specs.Prelude.{◌≡◌, ◌≤◌, ◌<◌, ◌+◌, ℕ, ◌||◌, List, [], ◌∷◌, ◌++◌, length};
+ghost use Rattle.razor_base.specs.declared.limits.TheConstants.{GREATEST_PORT, MOST_RANGES};
 ghost use Rattle.field_boxes.specs.Classifier.{Interval, interval_holds, union_holds};
 ghost use Rattle.field_boxes.specs.Spans.{interval_of};
 ghost use Rattle.field_boxes.specs.Unions.{RiseApart};
@@ -17,10 +18,10 @@ struct Uniting {
 
 /// The list united with one more span; spans that overlap or touch become one.
 pub(crate) fn united(list: &SpanList, span: Span) -> SpanList
-    requires room { length list.now < 16 }
-    requires rise { RiseApart 0 65535 list.now }
-    requires within { span.hi ≤ 65535 }
-    ensures rise { RiseApart 0 65535 result }
+    requires room { length list.now < MOST_RANGES }
+    requires rise { RiseApart 0 GREATEST_PORT list.now }
+    requires within { span.hi ≤ GREATEST_PORT }
+    ensures rise { RiseApart 0 GREATEST_PORT result }
     ensures some { 1 ≤ length result }
     ensures few { length result ≤ length list.now + 1 }
     ensures same { (v : ℕ) → union_holds v result ≡ (union_holds v list.now || interval_holds v (interval_of span)) }
@@ -40,14 +41,14 @@ pub(crate) fn united(list: &SpanList, span: Span) -> SpanList
 impl Uniting {
     /// Takes in the next span of the list, which begins after all spans of `lower`.
     fn take(&mut self, next: Span)
-        requires room { length self.old.lower < 16 }
-        requires last { self.old.last.hi ≤ 65535 }
-        requires next { next.hi ≤ 65535 }
-        ensures within { self.new.last.hi ≤ 65535 }
+        requires room { length self.old.lower < MOST_RANGES }
+        requires last { self.old.last.hi ≤ GREATEST_PORT }
+        requires next { next.hi ≤ GREATEST_PORT }
+        ensures within { self.new.last.hi ≤ GREATEST_PORT }
         ensures few { length self.new.lower ≤ length self.old.lower + 1 }
-        ensures rise { (rest : List Interval) → RiseApart 0 65535 (self.old.lower ++ interval_of self.old.last ∷ []) →
-            RiseApart 0 65535 (self.old.lower ++ interval_of next ∷ rest) →
-            RiseApart 0 65535 (self.new.lower ++ interval_of self.new.last ∷ []) × RiseApart 0 65535 (self.new.lower ++ rest) }
+        ensures rise { (rest : List Interval) → RiseApart 0 GREATEST_PORT (self.old.lower ++ interval_of self.old.last ∷ []) →
+            RiseApart 0 GREATEST_PORT (self.old.lower ++ interval_of next ∷ rest) →
+            RiseApart 0 GREATEST_PORT (self.new.lower ++ interval_of self.new.last ∷ []) × RiseApart 0 GREATEST_PORT (self.new.lower ++ rest) }
         ensures same { (v : ℕ) → union_holds v (self.new.lower ++ interval_of self.new.last ∷ []) ≡
             (union_holds v (self.old.lower ++ interval_of self.old.last ∷ []) || interval_holds v (interval_of next)) }
     {

@@ -1,6 +1,5 @@
 -- A node with another field in front, from the fronts of its children and the rows of nodes between them.
-use Rattle.std.proofs.Common.{◌≡◌, ◌≢◌, ◌∷◌, ℕ, List, [], ◌+◌, ◌≤◌, ◌<◌, ◌^◌, ◌∙◌, length, get_or, map, ap, arith, refl, sym, subst, inl, inr}
-use Rattle.std.specs.Prelude.{suc}
+use Rattle.std.proofs.Common.{◌≡◌, ◌≢◌, ◌∷◌, ℕ, List, [], ◌+◌, ◌≤◌, ◌<◌, ◌^◌, ◌∙◌, length, get_or, map, ap, arith, sym, subst, inl, inr}
 use Rattle.std.specs.List.{All, AllZip}
 use Rattle.field_boxes.specs.Fields.{width, greatest_of}
 use Rattle.node_store.specs.declared.edge.Edge.{Edge}
@@ -8,11 +7,11 @@ use Rattle.node_store.specs.Levels.{HasField, IsLevel, next as next_level, top_o
 use Rattle.node_store.specs.Edges.{AreFull, child_of}
 use Rattle.node_store.specs.Diagram.{Node, level_of, edges_of, answer}
 use Rattle.node_store.specs.Store.{IsStore, IsInner, LeadsOn, Grows, LeadTo}
-use Rattle.node_store.proofs.Canonical.{in_use, is_level, leads_on}
+use Rattle.node_store.proofs.Canonical.{in_use, leads_on}
 use Rattle.node_store.proofs.Growth as growth
-use Rattle.table_compose.specs.Composed.{Missing, AreDistinct}
+use Rattle.field_boxes.specs.Orders.{IsMissing, AreDistinct, Has}
 use Rattle.table_compose.proofs.Later.{inner_of}
-use Rattle.field_order.specs.Fronts.{Fits, Has, without, IsFront, IsFrontEdge}
+use Rattle.field_order.specs.Fronts.{Fits, without, IsFront, IsFrontEdge}
 use Rattle.field_order.proofs.Without as left
 use Rattle.field_order.proofs.Zipped as zipped
 
@@ -20,7 +19,7 @@ use Rattle.field_order.proofs.Zipped as zipped
 pub own : (nodes : List Node) (level : List ℕ) (id f : ℕ) → IsLevel level → AreDistinct level → Has f level → level_of nodes id ≡ level → (rest : List ℕ) → level ≡ f ∷ rest → IsFront nodes id f id
 own nodes level id f is d has at rest same =
     let mine : level_of nodes id ≡ f ∷ rest = at ∙ same in
-    let missing : Missing f rest = (subst AreDistinct same d).0 in
+    let missing : IsMissing f rest = (subst AreDistinct same d).0 in
     let gone : without f (level_of nodes id) ≡ rest = ap (without f) mine ∙ left.here f rest ∙ left.none f rest missing in
     let front : f ∷ without f (level_of nodes id) ≡ level_of nodes id = ap (λ l. f ∷ l) gone ∙ sym mine in record {
       within = subst IsLevel (sym at) is;
@@ -38,7 +37,7 @@ pub record AreCrossed (f g : ℕ) (rest : List ℕ) : Type 0 where
 
 pub crossing : (f g : ℕ) (rest : List ℕ) → Has f rest → AreDistinct (g ∷ rest) → IsLevel (g ∷ rest) → AreCrossed f g rest
 crossing f g rest has d is =
-    let other : g ≢ f = λ e. left.not_missing f rest has (subst (λ k. Missing k rest) e d.0) in
+    let other : g ≢ f = λ e. left.not_missing f rest has (subst (λ k. IsMissing k rest) e d.0) in
     let lower = left.there f g rest other in record {
       other = other;
       lower = lower;
@@ -136,18 +135,19 @@ pub record AreReady (n1 : List Node) (lower : List ℕ) (f : ℕ) (es : List Edg
   pub full : AreFull (top_of lower) es
   pub nodes : LeadTo n1 (f ∷ next_level lower) es
 
-ready_at : (n1 : List Node) (lower : List ℕ) (f : ℕ) (es : List Edge) (other : List ℕ) → lower ≡ other → HasField other → HasField (f ∷ next_level other) → HasField (f ∷ other) → AreFull (top_of other) es →
-    LeadTo n1 (f ∷ next_level other) es → AreReady n1 lower f es
-ready_at n1 lower f es other same field side upper full nodes =
-    subst (λ l. AreReady n1 l f es) (sym same) (record { field = field; side = side; upper = upper; full = full; nodes = nodes })
-
-pub ready : (n0 n1 : List Node) (level : List ℕ) (id f : ℕ) (es : List Edge) → IsStore n0 → level_of n0 id ≡ level → IsLevel level → AreDistinct level → HasField level → Has f (next_level level) →
-    Grows n0 n1 → AllZip (IsFrontEdge n1 f) (edges_of n0 id) es → AreReady n1 (without f level) f es
-ready n0 n1 [] id f es s at is d some has g zip = absurd some
-ready n0 n1 (g ∷ rest) id f es s at is d some has g01 zip =
+pub ready : (n0 n1 : List Node) (level lower : List ℕ) (id f : ℕ) (es seen : List Edge) → IsStore n0 → level_of n0 id ≡ level → IsLevel level → AreDistinct level → HasField level → Has f (next_level level) →
+    Grows n0 n1 → AllZip (IsFrontEdge n1 f) (edges_of n0 id) es → lower ≡ without f level → seen ≡ es → AreReady n1 lower f seen
+ready n0 n1 [] lower id f es seen s at is d some has g zip lower_is seen_is = absurd some
+ready n0 n1 (g ∷ rest) lower id f es seen s at is d some has g01 zip lower_is seen_is =
     let cross = crossing f g rest has d is in
-    ready_at n1 (without f (g ∷ rest)) f es (g ∷ without f rest) cross.lower cross.upper.1 cross.side cross.upper
-    (front_full n0 n1 id f g rest s at is d has g01 es zip) (front_nodes n0 n1 id f g rest s at is d has g01 es zip)
+    let made : AreReady n1 (g ∷ without f rest) f es = record {
+      field = cross.upper.1;
+      side = cross.side;
+      upper = cross.upper;
+      full = front_full n0 n1 id f g rest s at is d has g01 es zip;
+      nodes = front_nodes n0 n1 id f g rest s at is d has g01 es zip;
+    } in
+    subst (λ l. AreReady n1 l f seen) (sym (lower_is ∙ cross.lower)) (subst (AreReady n1 (g ∷ without f rest) f) (sym seen_is) made)
 
 pub front_made : (n0 n1 n2 n3 : List Node) (level : List ℕ) (id f made : ℕ) (es rows : List Edge) → IsStore n0 → level_of n0 id ≡ level → IsLevel level → AreDistinct level → HasField level → Has f (next_level level) →
     Grows n0 n1 → AllZip (IsFrontEdge n1 f) (edges_of n0 id) es → Grows n1 n2 → Grows n2 n3 →
@@ -171,11 +171,6 @@ some_field (f ∷ level) h = omega arith
 
 pub upper_is : (f : ℕ) (lower slice items upper : List ℕ) → slice ≡ lower → items ≡ f ∷ slice → upper ≡ items → upper ≡ f ∷ lower
 upper_is f lower slice items upper a b c = c ∙ b ∙ ap (λ l. f ∷ l) a
-
--- a level with a field has a first one, which is the field or before it
-pub some_has : (f : ℕ) (level : List ℕ) → Has f level → 0 < length level
-some_has f [] h = absurd h
-some_has f (g ∷ level) h = omega arith
 
 pub first_is : (f : ℕ) (level : List ℕ) (d : ℕ) → Has f level → get_or level 0 d ≡ f → level ≡ f ∷ next_level level
 first_is f [] d h e = absurd h

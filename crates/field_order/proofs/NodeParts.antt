@@ -1,37 +1,37 @@
 -- From what the parts of a node by a field cost to what the node costs.
-use Rattle.std.proofs.Common.{◌≡◌, ◌∷◌, ℕ, zero, suc, List, [], ◌+◌, ◌-◌, ◌*◌, ◌<◌, ◌≤◌, ◌^◌, length, map, ap, arith, refl, sym, ◌∙◌, subst}
-use Rattle.std.specs.Prelude.{Option, Some, option_map, slice_get, slice_index, slice_index_or, sum}
-use Rattle.std.specs.List.{All, AllZip}
-use Rattle.std.proofs.lemmas.Nat.{pow_pos, pow-add}
-use Rattle.std.proofs.lemmas.Option.{none-some, same_Some, slice_get-get_or}
+use Rattle.std.proofs.Common.{◌≡◌, ◌∷◌, ℕ, zero, suc, List, [], ◌-◌, ◌*◌, ◌<◌, ◌≤◌, ◌^◌, length, map, ap, arith, refl, sym, ◌∙◌, subst}
+use Rattle.std.proofs.lemmas.Slice.Zip.{AllZip-long}
+use Rattle.std.specs.Prelude.{Some, option_map, slice_get, slice_index, sum}
+use Rattle.std.specs.List.{AllZip}
+use Rattle.std.proofs.lemmas.Nat.{pow_pos}
+use Rattle.std.proofs.lemmas.Option.{none-some, same_Some}
 use Rattle.std.proofs.lemmas.List.Elements.{All-map, All-weaker}
 use Rattle.std.proofs.Math.Pow.{pow_mono}
 use Rattle.field_boxes.specs.Fields.{width, greatest_of}
 use Rattle.field_boxes.specs.Prefix.{FitsWidth}
 use Rattle.node_store.specs.declared.edge.NodeId.{NodeId}
-use Rattle.node_store.specs.Levels.{HasField, IsLevel, top_of, bits_of}
-use Rattle.node_store.specs.Edges.{AreFull, child_of}
+use Rattle.node_store.specs.Levels.{HasField, bits_of}
+use Rattle.node_store.specs.Edges.{child_of}
 use Rattle.node_store.specs.Diagram.{Node, level_of, edges_of, answer}
 use Rattle.node_store.specs.Store.{IsStore, IsInner}
 use Rattle.node_store.proofs.Canonical.{one}
 use Rattle.prefix_min.specs.declared.piece.Piece.{Piece}
 use Rattle.prefix_min.specs.declared.row.PrefixRow.{PrefixRow}
 use Rattle.prefix_min.specs.Pieces.{Follow, reach, label_at, weight_from}
-use Rattle.prefix_min.specs.PrefixList.{IsRight, weight}
-use Rattle.table_compose.specs.Composed.{AreDistinct}
+use Rattle.prefix_min.specs.PrefixList.{IsRight}
+use Rattle.field_boxes.specs.Orders.{AreDistinct, Has}
 use Rattle.table_compose.specs.LeastCost.{Choice}
 use Rattle.table_compose.specs.Labels.{children_of, ArePieces}
 use Rattle.table_compose.proofs.Choices.{IsTaken, row_of, rows_of, front-rows, weight-rows}
-use Rattle.table_compose.proofs.Cheapest.{IsCheapestList}
 use Rattle.table_compose.proofs.Children.{once}
 use Rattle.table_compose.proofs.FewHeaders.{narrow}
 use Rattle.table_compose.proofs.Labelled.{follow, whole, light}
 use Rattle.table_compose.proofs.Later.{inner_of}
-use Rattle.table_compose.proofs.NodeCost.{AreMinimal, up_to}
+use Rattle.table_compose.proofs.NodeCost.{AreMinimal}
 use Rattle.table_compose.proofs.NodeCost as node
 use Rattle.table_compose.proofs.Planned.{headers_from}
 use Rattle.table_compose.proofs.Singles.{AreSingles, singles}
-use Rattle.field_order.specs.Fronts.{Fits, without, Has, IsFront}
+use Rattle.field_order.specs.Fronts.{Fits, without, IsFront}
 use Rattle.field_order.specs.Worth.{IsRearranged, IsCostBy, IsAtLeast, IsExact, answer_by}
 use Rattle.field_order.proofs.Without.{parted, missing, order_missing, order_distinct, distinct as left_distinct}
 use Rattle.field_order.proofs.Values.{put, put_fits, put_same, put_map, assigned, assigned_fits, assigned_map}
@@ -43,12 +43,6 @@ zip_at R [] ys k x z h = absurd (none-some x h)
 zip_at R (y ∷ xs) [] k x z h = absurd z
 zip_at R (y ∷ xs) (n ∷ ys) zero x z h = subst (λ w. R w n) (same_Some y x h) z.0
 zip_at R (y ∷ xs) (n ∷ ys) (suc k) x z h = zip_at R xs ys k x z.1 h
-
-pub zip_long : {X : Type 0} (R : X → ℕ → Type 0) (xs : List X) (ys : List ℕ) → AllZip R xs ys → length ys ≡ length xs
-zip_long R [] [] z = refl
-zip_long R [] (n ∷ ys) z = absurd z
-zip_long R (y ∷ xs) [] z = absurd z
-zip_long R (y ∷ xs) (n ∷ ys) z = ap suc (zip_long R xs ys z.1)
 
 -- a row for each value is right
 right_singles : (w : ℕ) (lab : ℕ → ℕ) (Costs : ℕ → ℕ → Type 0) (most : ℕ) (plan : List Choice) → AreSingles w Costs most (2 ^ w) plan → IsRight w lab (rows_of lab plan)
@@ -123,7 +117,7 @@ module _ (nodes : List Node) (s : IsStore nodes) (id f F : ℕ) (front : IsFront
   pub bound : (lows : List ℕ) → AllZip (λ (c : NodeId) n. IsAtLeast p (answer_by nodes (level_of nodes c.0) c.0) n) (children_of (edges_of nodes F)) lows →
       IsAtLeast (f ∷ p) (answer_by nodes (level_of nodes id) id) (sum lows)
   bound lows z =
-      let long = zip_long (λ (c : NodeId) n. IsAtLeast p (answer_by nodes (level_of nodes c.0) c.0) n) (children_of (edges_of nodes F)) lows z in
+      let long = AllZip-long (λ (c : NodeId) n. IsAtLeast p (answer_by nodes (level_of nodes c.0) c.0) n) (children_of (edges_of nodes F)) lows z in
       parts_bound f p (order_missing f p rest order (missing f (level_of nodes id))) (order_distinct p rest order) (answer_by nodes (level_of nodes id) id) parts (label_at pieces) at alike apart_parts
       lows (λ k less. used k (omega (arith, less, long))) (moved (IsAtLeast p) lows z)
 
@@ -138,7 +132,7 @@ module _ (nodes : List Node) (s : IsStore nodes) (id f F : ℕ) (front : IsFront
     most = 2 ^ bits_of rest
 
     pub counts : length weights ≡ length (children_of (edges_of nodes F))
-    counts = zip_long (λ (c : NodeId) n. IsExact nodes p c.0 n) (children_of (edges_of nodes F)) weights z
+    counts = AllZip-long (λ (c : NodeId) n. IsExact nodes p c.0 n) (children_of (edges_of nodes F)) weights z
 
     exact_at : (v : ℕ) → v < 2 ^ width f → IsCostBy p (parts v) (slice_index weights (label_at pieces v)) × (slice_index weights (label_at pieces v) ≤ most)
     exact_at v small =

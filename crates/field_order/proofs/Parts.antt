@@ -1,8 +1,8 @@
 -- From what a function costs at each value of a field to what it costs.
-use Rattle.std.proofs.Common.{◌≡◌, ◌≢◌, ◌∷◌, ◌++◌, ℕ, zero, suc, List, [], ◌+◌, ◌<◌, ◌≤◌, ◌^◌, Bool, true, false, length, map, ap, arith, refl, sym, ◌∙◌, subst, inl, inr}
-use Rattle.std.specs.Prelude.{cond, nat_eq, nat_le, find, Option, Some, slice_index, slice_index_or, sum}
+use Rattle.std.proofs.Common.{◌≡◌, ◌∷◌, ℕ, suc, List, [], ◌+◌, ◌<◌, ◌≤◌, ◌^◌, Bool, true, false, length, map, ap, arith, refl, sym, ◌∙◌, subst, inl, inr}
+use Rattle.std.specs.Prelude.{cond, nat_eq, nat_le, find, Option, Some, slice_index, sum}
 use Rattle.std.specs.List.{All}
-use Rattle.std.proofs.lemmas.Bool.{cases_lt, le-leb, leb-true}
+use Rattle.std.proofs.lemmas.Bool.{le-leb, leb-true, eqb-true}
 use Rattle.std.proofs.lemmas.Bool.Decides.{eqb_tells}
 use Rattle.std.proofs.lemmas.Nat.{pow_pos}
 use Rattle.std.proofs.lemmas.Option.{none-some, same_Some}
@@ -12,11 +12,11 @@ use Rattle.field_boxes.specs.Prefix.{prefix_holds}
 use Rattle.field_boxes.specs.Classifier.{Rule, source, residue}
 use Rattle.field_boxes.proofs.Residues.{source-residue}
 use Rattle.prefix_min.specs.declared.row.PrefixRow.{PrefixRow}
-use Rattle.table_compose.specs.Composed.{Missing, AreDistinct}
-use Rattle.table_compose.specs.LeastCost.{AreAlike, Choice, first_choice, IsPlan, IsLeastCost, plan_cost}
+use Rattle.field_boxes.specs.Orders.{IsMissing, AreDistinct}
+use Rattle.table_compose.specs.LeastCost.{AreAlike, Choice, IsPlan, IsLeastCost, plan_cost}
 use Rattle.table_compose.proofs.OneCost.{cost-unique, alike-cost, alike-sym}
 use Rattle.table_compose.proofs.Choices.{LabelsResidues, IsTaken, All-found}
-use Rattle.table_compose.proofs.Cheapest.{IsCheapestList, WeighsResidues, cheapest-list}
+use Rattle.table_compose.proofs.Cheapest.{IsCheapestList, cheapest-list}
 use Rattle.field_order.specs.Fronts.{Fits}
 use Rattle.field_order.specs.Worth.{AreApart, DecideBy, IsCostBy, IsAtLeast}
 use Rattle.field_order.proofs.Values.{put, put_fits, put_same, put_map, values, assigned, assigned_fits, assigned_map}
@@ -76,14 +76,11 @@ test_step false true c n p q r = let e : false ≡ true = q refl in cc
 test_step false false true n p q r = let e : false ≡ true = p refl in cc
 test_step false false false n p q r = omega arith
 
-eq_of : (k l : ℕ) → nat_eq k l ≡ true → k ≡ l
-eq_of k l h = elim (eqb_tells k l) [ inl t ↦ t.1 | inr t ↦ absurd (let e : false ≡ true = sym t.0 ∙ h in cc) ]
-
 both : (k l n : ℕ) → cond (nat_eq k l) n 0 + cond (from (suc k) l) n 0 ≤ cond (from k l) n 0
 both k l n = test_step (from k l) (nat_eq k l) (from (suc k) l) n
     (λ h. le-leb k l (let e = leb-true (suc k) l h in omega (arith, e)))
-    (λ h. le-leb k l (let e = eq_of k l h in omega (arith, e)))
-    (λ h i. let e = eq_of k l h in let d = leb-true (suc k) l i in omega (arith, e, d))
+    (λ h. le-leb k l (let e = eqb-true k l h in omega (arith, e)))
+    (λ h i. let e = eqb-true k l h in let d = leb-true (suc k) l i in omega (arith, e, d))
 
 -- those of one label, and of those above it
 paid_parts : (k : ℕ) (lab : ℕ → ℕ) (plan : List Choice) → paid (nat_eq k) lab plan + paid (from (suc k)) lab plan ≤ paid (from k) lab plan
@@ -116,7 +113,7 @@ positive {A} (f ∷ order) R n h =
 pub at_least_one : (order : List ℕ) (g : (ℕ → ℕ) → ℕ) → IsAtLeast order g 1
 at_least_one order g name R apart decide m cost = positive order R m cost
 
-module _ (f : ℕ) (p : List ℕ) (gone : Missing f p) (distinct : AreDistinct p) (g : (ℕ → ℕ) → ℕ) (gs : ℕ → (ℕ → ℕ) → ℕ) (lab : ℕ → ℕ)
+module _ (f : ℕ) (p : List ℕ) (gone : IsMissing f p) (distinct : AreDistinct p) (g : (ℕ → ℕ) → ℕ) (gs : ℕ → (ℕ → ℕ) → ℕ) (lab : ℕ → ℕ)
     (at : (v : ℕ) (h : ℕ → ℕ) → v < 2 ^ width f → Fits h → g (put f v h) ≡ gs v h)
     (alike : (v u : ℕ) → v < 2 ^ width f → u < 2 ^ width f → lab v ≡ lab u → (h : ℕ → ℕ) → gs v h ≡ gs u h)
     (one : (v u : ℕ) → v < 2 ^ width f → u < 2 ^ width f → ((h : ℕ → ℕ) → Fits h → gs v h ≡ gs u h) → lab v ≡ lab u) where

@@ -1,24 +1,18 @@
 -- The edge that is come to from a place that isn't behind it.
-use Rattle.std.proofs.Common.{◌≡◌, ◌∷◌, ◌++◌, ℕ, List, [], ◌+◌, ◌-◌, ◌≤◌, ◌<◌, length, get_or, take, ap, arith, refl, sym, subst, ◌∙◌, inl, inr}
-use Rattle.std.specs.Prelude.{suc, zero, set, slice_index}
+use Rattle.std.proofs.Common.{◌≡◌, ◌++◌, ℕ, List, ◌+◌, ◌-◌, ◌≤◌, ◌<◌, length, get_or, take, ap, arith, sym, subst, ◌∙◌, inl, inr}
+use Rattle.std.specs.Prelude.{set, slice_index}
 use Rattle.std.proofs.lemmas.Bool.{cases_eq, cases_lt}
-use Rattle.std.proofs.lemmas.List.{get_or-set_other, get_or-set_same, length-set, take-append-le, take_all}
+use Rattle.std.proofs.lemmas.List.{get_or-set_other, get_or-set_same, length-set, take-append-le, take_all, get_or_default}
 use Rattle.std.proofs.lemmas.Option.{slice_get-get_or}
 use Rattle.node_store.specs.declared.edge.Edge.{Edge}
-use Rattle.node_store.specs.Edges.{child_of, AreFull}
+use Rattle.node_store.specs.Edges.{AreFull}
 use Rattle.node_store.specs.Diagram.{Node, edges_of}
 use Rattle.node_store.specs.Store.{Grows}
-use Rattle.node_store.proofs.Edges.{within, past, rise_of}
+use Rattle.node_store.proofs.Edges.{rise_of}
 use Rattle.table_compose.proofs.Labelled.{end_leads}
 use Rattle.field_order.specs.Fronts.{ArePassed, ArePlaces, IsEdgeAt}
 use Rattle.field_order.proofs.Rows.{edges_kept}
-
-child_at : (es : List Edge) (v i : ℕ) (d : Edge) → ((k : ℕ) → k < i → (get_or es k d).hi < v) → i < length es → v ≤ (get_or es i d).hi →
-    child_of es v ≡ (get_or es i d).to.0
-child_at [] v i d below less high = absurd (omega (arith, less))
-child_at (e ∷ es) v zero d below less high = within e es v high
-child_at (e ∷ es) v (suc i) d below less high =
-    past e es v (below 0 (omega arith)) ∙ child_at es v i d (λ k h. below (suc k) (omega (arith, h))) (omega (arith, less)) high
+use Rattle.node_store.proofs.Search.{child_at}
 
 -- not all edges end below a value of the field
 pub inside : (greatest : ℕ) (es : List Edge) (v i : ℕ) → AreFull greatest es → v ≤ greatest → ArePassed es i v → i < length es
@@ -43,12 +37,6 @@ edge_at greatest es v i full less passed low = record {
   high = λ d. (end_leads greatest 0 es (rise_of greatest es full) i (get_or es i d) (slice_get-get_or es i d less)).1;
   leads = λ d u at up. child_at es u i d (λ k h. omega (arith, passed k d h, at)) less up;
 }
-
--- any default serves where there is an item
-pub any_default : (es : List Edge) (i : ℕ) (d e : Edge) → i < length es → get_or es i d ≡ get_or es i e
-any_default [] i d e less = absurd (omega (arith, less))
-any_default (x ∷ es) zero d e less = refl
-any_default (x ∷ es) (suc i) d e less = any_default es i d e (omega (arith, less))
 
 -- what is passed below a value is passed below a greater one
 pub passed_later : (es : List Edge) (i v w : ℕ) → v ≤ w → ArePassed es i v → ArePassed es i w
@@ -80,10 +68,10 @@ module _ (nodes : List Node) (es : List Edge) (places : List ℕ) (v : ℕ) (are
   }
 
 pub ends_below : (es : List Edge) (i v : ℕ) (e : Edge) → i < length es → (get_or es i e).hi < v → (d : Edge) → (get_or es i d).hi < v
-ends_below es i v e less h d = subst (λ (x : Edge). x.hi < v) (any_default es i e d less) h
+ends_below es i v e less h d = subst (λ (x : Edge). x.hi < v) (get_or_default es i e d less) h
 
 pub ends_above : (es : List Edge) (i v : ℕ) (e : Edge) → i < length es → v ≤ (get_or es i e).hi → (d : Edge) → v ≤ (get_or es i d).hi
-ends_above es i v e less h d = subst (λ (x : Edge). v ≤ x.hi) (any_default es i e d less) h
+ends_above es i v e less h d = subst (λ (x : Edge). v ≤ x.hi) (get_or_default es i e d less) h
 
 -- a vector that was lent whole is what the call left
 pub lent : (n : ℕ) (xs ys : List ℕ) → n ≡ length xs → take n (xs ++ ys) ≡ xs

@@ -1,13 +1,12 @@
 -- The places of orders rise as their digits do, and tell the digits.
-use Rattle.std.proofs.Common.{◌≡◌, ◌≢◌, ◌∷◌, ℕ, zero, suc, List, [], ◌<◌, ◌≤◌, ◌+◌, ◌*◌, ◌/◌, ◌%◌, ◌^◌, length, ap, arith, refl, sym, ◌∙◌, subst, inl, inr, true, false}
+use Rattle.std.proofs.Common.{◌≡◌, ◌∷◌, ℕ, suc, List, [], ◌<◌, ◌≤◌, ◌+◌, ◌*◌, ◌/◌, ◌%◌, ◌^◌, length, ap, arith, refl, sym, ◌∙◌, subst, inl, inr, true, false}
 use Rattle.std.specs.Prelude.{Option, Some, None, IfSome, IsSome, ◌↔◌}
 use Rattle.std.specs.List.{All}
-use Rattle.std.proofs.lemmas.Bool.{cases_lt}
 use Rattle.std.proofs.lemmas.Nat.{mul-le}
 use Rattle.std.proofs.lemmas.List.Elements.{All-head, All-tail}
-use Rattle.field_boxes.specs.Fields.{ComesBefore, stated}
-use Rattle.table_compose.specs.Composed.{AreDistinct}
-use Rattle.field_order.specs.Order.{IsOrder, place_of}
+use Rattle.field_boxes.specs.Fields.{ComesBefore}
+use Rattle.field_order.specs.Order.{place_of}
+use Rattle.field_boxes.specs.Orders.{IsOrder}
 
 one_more : (x base : ℕ) → suc x * base ≡ x * base + base
 one_more x base = grind arith
@@ -86,36 +85,6 @@ pub place_at : (n : ℕ) → n < 3125 → place_of (digits n) ≡ n
 place_at n h =
     let e = number_is (n / 625 % 5) (n / 125 % 5) (n / 25 % 5) (n / 5 % 5) (n % 5) in
     e ∙ omega (arith, h)
-
--- a number that isn't the least one is above it
-above : (n b : ℕ) → n ≤ b → b ≢ n → suc n ≤ b
-above n b low other = elim (cases_lt n b) [ inl p ↦ omega (arith, p) | inr p ↦ absurd (other (omega (arith, low, p))) ]
-
--- no order is before the stated one
-stated_by : (a b c d e : ℕ) → AreDistinct (a ∷ b ∷ c ∷ d ∷ e ∷ []) → e < 5 → number a b c d e < 195 → a ∷ b ∷ c ∷ d ∷ e ∷ [] ≡ stated
-stated_by a b c d e apart he low =
-    let a0 : a ≡ 0 = omega (arith, low) in
-    let b1 = above 0 b (omega arith) (λ x. apart.0.0 (x ∙ sym a0)) in
-    let b2 : b ≡ 1 = omega (arith, low, a0, b1) in
-    let c1 = above 0 c (omega arith) (λ x. apart.0.1.0 (x ∙ sym a0)) in
-    let c2 = above 1 c c1 (λ x. apart.1.0.0 (x ∙ sym b2)) in
-    let c3 : c ≡ 2 = omega (arith, low, a0, b2, c2) in
-    let d1 = above 0 d (omega arith) (λ x. apart.0.1.1.0 (x ∙ sym a0)) in
-    let d2 = above 1 d d1 (λ x. apart.1.0.1.0 (x ∙ sym b2)) in
-    let d3 = above 2 d d2 (λ x. apart.1.1.0.0 (x ∙ sym c3)) in
-    let d4 : d ≡ 3 = omega (arith, low, a0, b2, c3, d3) in
-    let e1 = above 0 e (omega arith) (λ x. apart.0.1.1.1.0 (x ∙ sym a0)) in
-    let e2 = above 1 e e1 (λ x. apart.1.0.1.1.0 (x ∙ sym b2)) in
-    let e3 = above 2 e e2 (λ x. apart.1.1.0.1.0 (x ∙ sym c3)) in
-    let e4 = above 3 e e3 (λ x. apart.1.1.1.0.0 (x ∙ sym d4)) in
-    let e5 : e ≡ 4 = omega (arith, he, e4) in
-    same_five 0 1 2 3 4 a b c d e a0 b2 c3 d4 e5
-
-pub stated_first : (p : List ℕ) → IsOrder p → place_of p < 195 → p ≡ stated
-stated_first p is low =
-    by_five (λ xs. All (λ f. f < 5) xs → AreDistinct xs → place_of xs < 195 → xs ≡ stated)
-    (λ a b c d e all apart less. stated_by a b c d e apart (all 4 0 (omega arith)) (omega (arith, less, number_is a b c d e)))
-    p is.five is.fields is.distinct low
 
 -- what the test of the digits at a place comes to
 pub placed : (n : ℕ) (found : Option (List ℕ)) → n < 3125 → (IsSome found ↔ IsOrder (digits n)) → IfSome found (λ order. order ≡ digits n) →

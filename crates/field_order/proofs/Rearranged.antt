@@ -1,19 +1,17 @@
 -- Every order has the fields of every other one, and its digits tell it.
-use Rattle.std.proofs.Common.{◌≡◌, ◌≢◌, ◌∷◌, ℕ, zero, suc, List, [], ◌+◌, ◌*◌, ◌/◌, ◌%◌, ◌<◌, ◌≤◌, ◌^◌, length, get_or, ap, arith, refl, sym, ◌∙◌, subst, inl, inr}
-use Rattle.std.specs.Prelude.{nat_eq, Bool, true, false}
+use Rattle.std.proofs.Common.{◌≡◌, ◌∷◌, ℕ, zero, suc, List, [], ◌+◌, ◌*◌, ◌/◌, ◌%◌, ◌<◌, ◌^◌, length, get_or, ap, arith, refl, ◌∙◌}
 use Rattle.std.specs.List.{All}
-use Rattle.std.proofs.lemmas.Bool.{eqb-false}
-use Rattle.std.proofs.lemmas.Nat.{pow_pos}
-use Rattle.std.proofs.lemmas.List.Elements.{All-nil, All-cons, All-head, All-tail}
-use Rattle.table_compose.specs.Composed.{Missing, AreDistinct}
-use Rattle.field_order.specs.Order.{IsOrder, place_of}
-use Rattle.field_order.specs.Fronts.{Has, without}
+use Rattle.std.proofs.lemmas.List.Elements.{All-tail}
+use Rattle.field_boxes.specs.Orders.{IsMissing, AreDistinct, IsOrder, Has}
+use Rattle.field_order.specs.Order.{place_of}
+use Rattle.field_order.specs.Fronts.{without}
+use Rattle.field_boxes.proofs.Orders.{passed, has_each}
 use Rattle.field_order.specs.Worth.{IsRearranged, digits}
 use Rattle.field_order.specs.Search.{usual}
 use Rattle.field_order.proofs.Places.{small}
 use Rattle.field_order.proofs.Without.{has_other, counted, distinct}
 
-all_other : (f : ℕ) (order level : List ℕ) → Missing f order → ((k : ℕ) (d : ℕ) → k < length order → Has (get_or order k d) level) → (k : ℕ) (d : ℕ) → k < length order → Has (get_or order k d) (without f level)
+all_other : (f : ℕ) (order level : List ℕ) → IsMissing f order → ((k : ℕ) (d : ℕ) → k < length order → Has (get_or order k d) level) → (k : ℕ) (d : ℕ) → k < length order → Has (get_or order k d) (without f level)
 all_other f [] level m has k d less = absurd (omega (arith, less))
 all_other f (g ∷ order) level m has zero d less = has_other g f level m.0 (has 0 d (omega arith))
 all_other f (g ∷ order) level m has (suc k) d less = all_other f order level m.1 (λ i e low. has (suc i) e (omega (arith, low))) k d (omega (arith, less))
@@ -28,40 +26,12 @@ rearranges (f ∷ order) level has d e long =
       rearranges order (without f level) (all_other f order level d.0 (λ k c less. has (suc k) c (omega (arith, less)))) d.1 (distinct f level e) (omega (arith, long, count)),
     )
 
-in_usual : (f : ℕ) → f < 5 → Has f usual
-in_usual zero h = inr (inr (inl refl))
-in_usual (suc zero) h = inr (inl refl)
-in_usual (suc (suc zero)) h = inr (inr (inr (inr (inl refl))))
-in_usual (suc (suc (suc zero))) h = inr (inr (inr (inl refl)))
-in_usual (suc (suc (suc (suc zero)))) h = inl refl
-in_usual (suc (suc (suc (suc (suc f))))) h = absurd (omega (arith, h))
-
-differ : (a b : ℕ) → nat_eq a b ≡ false → a ≢ b
-differ a b h = eqb-false a b h
-
-usual_distinct : AreDistinct usual
-usual_distinct =
-    let d = λ (a b : ℕ) (h : nat_eq a b ≡ false). differ a b h in (
-      (d 1 4 refl, (d 0 4 refl, (d 3 4 refl, (d 2 4 refl, tt)))),
-      ((d 0 1 refl, (d 3 1 refl, (d 2 1 refl, tt))), ((d 3 0 refl, (d 2 0 refl, tt)), ((d 2 3 refl, tt), (tt, tt)))),
-    )
-
-usual_small : All (λ f. f < 5) usual
-usual_small =
-    let P : ℕ → Type 0 = λ f. f < 5 in
-    All-cons P 4 (1 ∷ 0 ∷ 3 ∷ 2 ∷ []) (omega arith) (All-cons P 1 (0 ∷ 3 ∷ 2 ∷ []) (omega arith) (All-cons P 0 (3 ∷ 2 ∷ []) (omega arith)
-    (All-cons P 3 (2 ∷ []) (omega arith) (All-cons P 2 [] (omega arith) (All-nil P)))))
-
 pub usual_order : IsOrder usual
-usual_order = record {
-  five = refl;
-  fields = usual_small;
-  distinct = usual_distinct;
-}
+usual_order = passed usual refl refl
 
 pub rearranged : (order : List ℕ) → IsOrder order → IsRearranged order usual
 rearranged order is =
-    rearranges order usual (λ k d less. in_usual (get_or order k d) (is.fields k d less)) is.distinct usual_distinct is.five
+    rearranges order usual (λ k d less. has_each usual (get_or order k d) usual_order (is.fields k d less)) is.distinct usual_order.distinct is.five
 
 -- the digits of an order's place are the order
 parts : (f base r : ℕ) → r < base → ((f * base + r) / base ≡ f) × ((f * base + r) % base ≡ r)

@@ -1,5 +1,5 @@
 -- What is found of the root's cost in an order holds of the rules that decide as the root answers.
-use Rattle.std.proofs.Common.{◌≡◌, ◌∷◌, ℕ, List, [], ◌+◌, ◌<◌, ◌≤◌, length, map, ap, arith, refl, sym, ◌∙◌, subst}
+use Rattle.std.proofs.Common.{◌≡◌, ℕ, List, ◌+◌, ◌≤◌, length, map, ap, sym, ◌∙◌, subst}
 use Rattle.std.proofs.lemmas.List.Elements.{recursion_from_All}
 use Rattle.field_boxes.specs.declared.rule.Rule as code
 use Rattle.field_boxes.specs.Classifier.{Rule}
@@ -15,11 +15,12 @@ use Rattle.table_compose.specs.LeastCost.{IsLeastCost}
 use Rattle.field_order.specs.declared.worth.Worth.{Worth}
 use Rattle.field_order.specs.declared.worth.Worth.TheVariants.{Is, Above}
 use Rattle.field_order.specs.Best.{AreNamesOf}
-use Rattle.field_order.specs.Order.{IsOrder, place_of}
+use Rattle.field_order.specs.Order.{place_of}
+use Rattle.field_boxes.specs.Orders.{IsOrder}
 use Rattle.field_order.specs.Fronts.{Fits}
 use Rattle.field_order.specs.Worth.{AreApart, DecideBy, IsRearranged, IsWorth, AreFields, answer_by, digits}
 use Rattle.field_order.specs.Search.{DecidesAs, usual}
-use Rattle.field_order.proofs.FieldLevels.{order_level}
+use Rattle.node_store.proofs.Orders.{order_level}
 use Rattle.field_order.proofs.RuleCosts.{AnswersRules}
 use Rattle.field_order.proofs.Rearranged.{rearranged, place_digits, usual_order}
 use Rattle.field_order.proofs.Trials.{Holds}

@@ -1,7 +1,7 @@
 -- Rows of nodes: what one row is, and what rows in turn come to.
-use Rattle.std.proofs.Common.{◌≡◌, ◌∷◌, ◌++◌, ℕ, List, [], ◌≤◌, ◌<◌, ◌∙◌, length, take, ap, arith, refl, sym, subst, inl, inr}
-use Rattle.std.specs.Prelude.{suc, zero, cond, nat_lt, slice_get}
-use Rattle.std.specs.List.{All, AllZip}
+use Rattle.std.proofs.Common.{◌≡◌, ◌∷◌, ◌++◌, ℕ, List, [], ◌≤◌, ◌<◌, ◌∙◌, length, ap, arith, sym, subst, inl, inr}
+use Rattle.std.specs.Prelude.{suc, zero, cond, slice_get}
+use Rattle.std.specs.List.{AllZip}
 use Rattle.std.proofs.lemmas.Bool.{cases_lt, lt-ltb, le-ltb}
 use Rattle.std.proofs.lemmas.List.Elements.{All-weaker}
 use Rattle.field_boxes.specs.Fields.{greatest_of}

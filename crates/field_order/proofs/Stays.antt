@@ -1,5 +1,5 @@
 -- What was found of old numbers stays when a store grows.
-use Rattle.std.proofs.Common.{◌≡◌, ◌∷◌, ℕ, List, [], ◌+◌, ◌<◌, ◌≤◌, ◌^◌, suc, length, get_or, map, ap, arith, refl, sym, ◌∙◌, subst}
+use Rattle.std.proofs.Common.{◌≡◌, ◌∷◌, ℕ, List, [], ◌+◌, ◌<◌, ◌≤◌, ◌^◌, suc, length, get_or, map, ap, arith, sym, ◌∙◌, subst}
 use Rattle.std.specs.List.{AllZip}
 use Rattle.std.proofs.lemmas.List.{length-append}
 use Rattle.node_store.specs.declared.edge.NodeId.{NodeId}
@@ -14,8 +14,8 @@ use Rattle.field_order.specs.declared.worth.Worth.{Worth}
 use Rattle.field_order.specs.declared.worth.Worth.TheVariants.{Is, Above}
 use Rattle.field_order.specs.declared.worth.Valued.{Valued}
 use Rattle.field_order.specs.declared.worth.Worths.{Worths}
-use Rattle.field_order.specs.Fronts.{Fits, without, IsFront, IsFrontEdge, AreFronts}
-use Rattle.field_order.specs.Worth.{IsCostBy, IsAtLeast, IsExact, IsWorth, IsKept, AreWorths, AreFields, answer_by, digits}
+use Rattle.field_order.specs.Fronts.{without, IsFront, IsFrontEdge, AreFronts}
+use Rattle.field_order.specs.Worth.{IsExact, IsWorth, IsKept, AreWorths, AreFields, answer_by, digits}
 use Rattle.field_order.proofs.Parts.{cost_alike, least_alike}
 
 module _ (old new : List Node) (g : Grows old new) where

@@ -1,16 +1,14 @@
 -- What a node costs in an order, from what its parts by the order's first field cost in the rest of the order.
 use Rattle.std.proofs.Common.{◌≡◌, ◌∷◌, ℕ, List, [], ◌+◌, ◌-◌, ◌/◌, ◌%◌, ◌<◌, ◌≤◌, ◌^◌, length, get_or, ap, arith, refl, sym, ◌∙◌, subst}
-use Rattle.std.specs.Prelude.{zero, suc, slice_get, Some, sum, Option, None}
+use Rattle.std.specs.Prelude.{suc, slice_get, Some, sum, None}
 use Rattle.std.specs.List.{All, AllZip}
 use Rattle.std.proofs.lemmas.Nat.{pow_pos}
 use Rattle.std.proofs.lemmas.List.{length-append}
-use Rattle.std.proofs.lemmas.Option.{none-some, same_Some, slice_get-get_or}
-use Rattle.std.proofs.lemmas.List.Elements.{All-head, All-tail}
+use Rattle.std.proofs.lemmas.Option.{slice_get-get_or, get_or_from_slice_get, slice_get_within}
 use Rattle.field_boxes.specs.Fields.{width}
 use Rattle.node_store.specs.declared.edge.NodeId.{NodeId}
 use Rattle.node_store.specs.declared.edge.Edge.{Edge}
-use Rattle.node_store.specs.Levels.{HasField, IsLevel, bits_of, next as next_level, top_of}
-use Rattle.node_store.specs.Edges.{AreFull}
+use Rattle.node_store.specs.Levels.{HasField, IsLevel, bits_of}
 use Rattle.node_store.specs.Diagram.{Node, level_of, edges_of}
 use Rattle.node_store.specs.Store.{IsStore, IsInner, Grows}
 use Rattle.node_store.proofs.Canonical.{in_use, is_level}
@@ -18,12 +16,12 @@ use Rattle.node_store.proofs.Growth as growth
 use Rattle.prefix_min.specs.declared.piece.Piece.{Piece}
 use Rattle.prefix_min.specs.declared.row.PrefixRow.{PrefixRow}
 use Rattle.prefix_min.specs.Pieces.{Follow, reach, label_at, weight_from}
-use Rattle.table_compose.specs.Composed.{AreDistinct}
+use Rattle.field_boxes.specs.Orders.{AreDistinct, Has}
 use Rattle.table_compose.specs.Labels.{children_of, ArePieces}
 use Rattle.table_compose.proofs.Children.{taken}
 use Rattle.table_compose.proofs.Later.{inner_of}
 use Rattle.table_compose.proofs.NodeCost.{AreMinimal, leaf-cost}
-use Rattle.field_order.specs.Fronts.{Has, without, IsFront}
+use Rattle.field_order.specs.Fronts.{without, IsFront}
 use Rattle.field_order.specs.declared.worth.Worth.{Worth}
 use Rattle.field_order.specs.Worth.{IsRearranged, IsCostBy, IsAtLeast, IsExact, IsWorth, IsKept, AreFields, AreWeights, answer_by, digits}
 use Rattle.field_order.proofs.Without as left
@@ -34,9 +32,7 @@ use Rattle.field_order.proofs.NodeParts as parts
 
 -- what holds of each item holds of the one at a place
 all_at : {X : Type 0} (P : X → Type 0) (xs : List X) (k : ℕ) (x : X) → All P xs → slice_get xs k ≡ Some x → P x
-all_at P [] k x all h = absurd (none-some x h)
-all_at P (y ∷ xs) zero x all h = subst P (same_Some y x h) (All-head P y xs all)
-all_at P (y ∷ xs) (suc k) x all h = all_at P xs k x (All-tail P y xs all) h
+all_at P xs k x all h = subst P (get_or_from_slice_get xs k x x h) (all k x (slice_get_within xs k x h))
 
 -- the first field of the order, and the order of the others
 pub record IsStep (level : List ℕ) (order f next : ℕ) : Type 0 where
@@ -49,14 +45,13 @@ digits_of [] n h = absurd h
 digits_of (f ∷ level) n h =
     subst (λ k. digits (suc (length level)) n ≡ n / 5 ^ k ∷ digits k (n % 5 ^ k)) (let e : length level ≡ length (f ∷ level) - 1 = omega arith in e) refl
 
-pub step : (nodes : List Node) (level : List ℕ) (order id unit f next : ℕ) → IsLevel level → HasField level → AreFields nodes level (digits (length level) order) id →
-    unit ≡ 5 ^ (length level - 1) → f ≡ order / unit → next ≡ order % unit → IsStep level order f next
-step nodes level order id unit f next is has fields unit_is f_is next_is =
+pub step : (nodes : List Node) (level : List ℕ) (order id unit : ℕ) → IsLevel level → HasField level → AreFields nodes level (digits (length level) order) id → unit ≡ 5 ^ (length level - 1) →
+    IsStep level order (order / unit) (order % unit)
+step nodes level order id unit is has fields unit_is =
     let k = length level - 1 in
-    let order_is = digits_of level order has in
-    let first : order / 5 ^ k ≡ f = ap (λ u. order / u) (sym unit_is) ∙ sym f_is in
-    let then : order % 5 ^ k ≡ next = ap (λ u. order % u) (sym unit_is) ∙ sym next_is in
-    let all : digits (length level) order ≡ f ∷ digits k next = order_is ∙ ap (λ g. g ∷ digits k (order % 5 ^ k)) first ∙ ap (λ n. f ∷ digits k n) then in
+    let f = order / unit in
+    let next = order % unit in
+    let all : digits (length level) order ≡ f ∷ digits k next = digits_of level order has ∙ ap (λ u. order / u ∷ digits k (order % u)) (sym unit_is) in
     let both : IsRearranged (f ∷ digits k next) level = subst (λ o. IsRearranged o level) all fields.rearranged in
     let count = (left.parted f level both.0 fields.apart is).count in
     let long : k ≡ length (without f level) = omega (arith, count) in record {
@@ -68,6 +63,13 @@ step nodes level order id unit f next is has fields unit_is f_is next_is =
 -- the field is one
 pub small : (level : List ℕ) (order f next : ℕ) → IsLevel level → AreDistinct level → IsStep level order f next → f < 5
 small level order f next is apart s = (left.parted f level s.has apart is).small
+
+-- what the minimiser is asked, and what its answer says of the node
+pub record IsAsked (nodes : List Node) (f : ℕ) (order : List ℕ) (id : ℕ) (pieces : List Piece) (weights : List ℕ) : Type 0 where
+  pub follow : Follow (length weights) 0 pieces
+  pub whole : reach 0 pieces ≡ 2 ^ width f
+  pub light : weight_from weights 0 pieces ≤ 2 ^ 104
+  pub exact : (rows : List PrefixRow) (n : ℕ) → AreMinimal (width f) (label_at pieces) weights rows n → IsExact nodes order id n
 
 module _ (n0 n1 : List Node) (level : List ℕ) (id f F order next : ℕ) (s1 : IsStore n1) (is : IsLevel level) (fields : AreFields n0 level (digits (length level) order) id) (st : IsStep level order f next)
     (front : IsFront n1 id f F) (g01 : Grows n0 n1) where
@@ -168,14 +170,8 @@ module _ (n0 n1 : List Node) (level : List ℕ) (id f F order next : ℕ) (s1 : 
         back : AllZip (λ (c : NodeId) n. IsExact n2 p c.0 n) (children_of (edges_of n1 F)) weights
         back = zip_back (λ o c n. IsExact n2 o c.0 n) weights z
 
-        pub follows_by : Follow (length weights) 0 pieces
-        follows_by = follows weights back
-
-        pub lights_by : weight_from weights 0 pieces ≤ 2 ^ 104
-        lights_by = lights weights back
-
-        pub exact_by : (rows : List PrefixRow) (n : ℕ) → AreMinimal (width f) (label_at pieces) weights rows n → IsExact n2 (digits (length level) order) id n
-        exact_by rows n minimal = exact weights back rows n minimal
+        pub asked : IsAsked n2 f (digits (length level) order) id pieces weights
+        asked = record { follow = follows weights back; whole = wholes; light = lights weights back; exact = exact weights back }
 
 -- a leaf costs one entry
 pub leaf : (nodes : List Node) (level : List ℕ) (order id : ℕ) → level_of nodes id ≡ level → level ≡ [] → IsExact nodes (digits (length level) order) id 1

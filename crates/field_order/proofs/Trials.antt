@@ -1,16 +1,16 @@
 -- The best order of those that were tried, and one more.
-use Rattle.std.proofs.Common.{◌≡◌, ℕ, ◌<◌, ◌≤◌, ◌+◌, List, ap, arith, sym, subst, ◌∙◌, inl, inr}
+use Rattle.std.proofs.Common.{◌≡◌, ℕ, ◌<◌, ◌≤◌, ◌+◌, List, arith, sym, subst, ◌∙◌, inl, inr}
 use Rattle.std.specs.Prelude.{◌⊎◌, Option, Some, None}
 use Rattle.std.proofs.lemmas.Bool.{cases_lt}
 use Rattle.std.proofs.lemmas.Option.{none-some, same_Some}
 use Rattle.field_boxes.specs.Classifier.{Rule}
-use Rattle.field_boxes.specs.Fields.{ComesBefore}
 use Rattle.table_compose.specs.LeastCost.{IsLeastCost}
 use Rattle.table_compose.proofs.OneCost.{cost-unique}
 use Rattle.field_order.specs.declared.best.Costed.{Costed}
 use Rattle.field_order.specs.declared.worth.Worth.{Worth}
 use Rattle.field_order.specs.declared.worth.Worth.TheVariants.{Is, Above}
-use Rattle.field_order.specs.Order.{IsOrder, place_of}
+use Rattle.field_order.specs.Order.{place_of}
+use Rattle.field_boxes.specs.Orders.{IsOrder}
 use Rattle.field_order.specs.Best.{IsBestOrder}
 use Rattle.field_order.specs.Search.{IsBestSoFar, IsTried}
 use Rattle.field_order.specs.Worth.{Settles}

@@ -1,22 +1,18 @@
 -- Values of the fields, as a function of the field.
-use Rattle.std.proofs.Common.{◌≡◌, ◌≢◌, ◌∷◌, ℕ, List, [], ◌<◌, ◌^◌, Bool, true, false, map, ap, arith, refl, sym, ◌∙◌, subst, inl, inr}
+use Rattle.std.proofs.Common.{◌≡◌, ◌≢◌, ◌∷◌, ℕ, List, [], ◌<◌, ◌^◌, Bool, true, false, map, ap, refl, sym, ◌∙◌, subst, inl, inr}
 use Rattle.std.specs.Prelude.{◌&&◌, cond, nat_eq, find, option_map, Some}
 use Rattle.std.proofs.lemmas.Bool.Decides.{eqb_tells}
 use Rattle.std.proofs.lemmas.Nat.{pow_pos}
 use Rattle.field_boxes.specs.Fields.{width, AreValues}
 use Rattle.field_boxes.specs.Classifier.{Rule, matches, set_holds, source}
-use Rattle.table_compose.specs.Composed.{Missing, AreDistinct}
-use Rattle.field_order.specs.Fronts.{Fits, Has, without}
+use Rattle.field_boxes.specs.Orders.{IsMissing, AreDistinct, Has}
+use Rattle.field_order.specs.Fronts.{Fits, without}
 use Rattle.field_order.specs.Worth.{IsRearranged}
 use Rattle.field_order.proofs.Without as left
 
 -- the values with another one of the field
 abbrev pub put : ℕ → ℕ → (ℕ → ℕ) → ℕ → ℕ
 put f v h = λ k. cond (nat_eq k f) v (h k)
-
-put_step : (b : Bool) (v x n : ℕ) → v < n → x < n → cond b v x < n
-put_step true v x n p q = p
-put_step false v x n p q = q
 
 put_at : (f v k n : ℕ) (h : ℕ → ℕ) (b : Bool) → nat_eq k f ≡ b → v < 2 ^ width f → h k < 2 ^ width k → cond b v (h k) < 2 ^ width k
 put_at f v k n h false is low fits = fits
@@ -40,7 +36,7 @@ put_other f v k h other = elim (eqb_tells k f) [
   | inr t ↦ ap (λ b. cond b v (h k)) t.0
 ]
 
-pub put_map : (f v : ℕ) (h : ℕ → ℕ) (level : List ℕ) → Missing f level → map (put f v h) level ≡ map h level
+pub put_map : (f v : ℕ) (h : ℕ → ℕ) (level : List ℕ) → IsMissing f level → map (put f v h) level ≡ map h level
 put_map f v h [] m = refl
 put_map f v h (k ∷ level) m = ap (λ x. x ∷ map (put f v h) level) (put_other f v k h m.0) ∙ ap (λ xs. h k ∷ xs) (put_map f v h level m.1)
 
@@ -79,10 +75,10 @@ taken_out : {A : Type 0} (f : ℕ) (level : List ℕ) (h : ℕ → ℕ) (r : Rul
     matches level (map h level) r ≡ (set_holds f (h f) r && matches (without f level) (map h (without f level)) r)
 taken_out f [] h r has d = absurd has
 taken_out {A} f (g ∷ level) h r (inl e) d =
-    let same : without f (g ∷ level) ≡ level = ap (λ k. without f (k ∷ level)) e ∙ left.here f level ∙ left.none f level (subst (λ k. Missing k level) e d.0) in
+    let same : without f (g ∷ level) ≡ level = ap (λ k. without f (k ∷ level)) e ∙ left.here f level ∙ left.none f level (subst (λ k. IsMissing k level) e d.0) in
     ap (λ k. set_holds k (h k) r && matches level (map h level) r) e ∙ ap (λ l. set_holds f (h f) r && matches l (map h l) r) (sym same)
 taken_out {A} f (g ∷ level) h r (inr has) d =
-    let other : g ≢ f = λ e. left.not_missing f level has (subst (λ k. Missing k level) e d.0) in
+    let other : g ≢ f = λ e. left.not_missing f level has (subst (λ k. IsMissing k level) e d.0) in
     ap (λ b. set_holds g (h g) r && b) (taken_out f level h r has d.1)
     ∙ swap (set_holds g (h g) r) (set_holds f (h f) r) (matches (without f level) (map h (without f level)) r)
     ∙ ap (λ l. set_holds f (h f) r && matches l (map h l) r) (sym (left.there f g level other))

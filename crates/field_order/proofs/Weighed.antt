@@ -1,5 +1,5 @@
 -- What nodes cost together, as far as it is known.
-use Rattle.std.proofs.Common.{◌≡◌, ◌∷◌, ◌++◌, ℕ, List, [], ◌+◌, ◌-◌, ◌<◌, ◌≤◌, length, get_or, take, ap, arith, refl, sym, ◌∙◌, subst}
+use Rattle.std.proofs.Common.{◌≡◌, ◌∷◌, ◌++◌, ℕ, List, [], ◌+◌, ◌-◌, ◌<◌, ◌≤◌, length, get_or, take, ap, arith, refl, ◌∙◌}
 use Rattle.std.specs.Prelude.{suc, zero, sum}
 use Rattle.std.specs.List.{All, AllZip}
 use Rattle.std.proofs.lemmas.List.Sums.{sum_by-cons, sum_by-append}

@@ -1,12 +1,12 @@
 -- Levels without one of their fields.
-use Rattle.std.proofs.Common.{◌≡◌, ◌≢◌, ◌∷◌, ◌++◌, ℕ, suc, List, [], ◌+◌, ◌<◌, ◌≤◌, Bool, true, false, length, get_or, take, map, ap, arith, refl, sym, ◌∙◌, subst, inl, inr}
+use Rattle.std.proofs.Common.{◌≡◌, ◌≢◌, ◌∷◌, ◌++◌, ℕ, suc, List, [], ◌+◌, ◌<◌, ◌≤◌, Bool, true, false, length, get_or, take, ap, arith, refl, sym, ◌∙◌, subst, inl, inr}
 use Rattle.std.specs.Prelude.{◌⊎◌, cond, nat_eq}
 use Rattle.std.proofs.lemmas.Bool.Decides.{eqb_tells}
 use Rattle.std.proofs.Math.Seq.{take-suc}
 use Rattle.field_boxes.specs.Fields.{width}
 use Rattle.node_store.specs.Levels.{HasField, IsLevel, bits_of}
-use Rattle.table_compose.specs.Composed.{Missing, AreDistinct}
-use Rattle.field_order.specs.Fronts.{without, Has}
+use Rattle.field_boxes.specs.Orders.{IsMissing, AreDistinct, Has}
+use Rattle.field_order.specs.Fronts.{without}
 use Rattle.field_order.specs.Worth.{IsRearranged}
 
 pub here : (f : ℕ) (level : List ℕ) → without f (f ∷ level) ≡ without f level
@@ -22,28 +22,28 @@ there f g level other = elim (eqb_tells g f) [
 ]
 
 -- what isn't there can't be left out
-pub none : (f : ℕ) (level : List ℕ) → Missing f level → without f level ≡ level
+pub none : (f : ℕ) (level : List ℕ) → IsMissing f level → without f level ≡ level
 none f [] m = refl
 none f (g ∷ level) m = there f g level m.0 ∙ ap (λ l. g ∷ l) (none f level m.1)
 
-missing_step : (f g : ℕ) (rest : List ℕ) (b : Bool) → nat_eq g f ≡ b → Missing f rest → Missing f (cond b rest (g ∷ rest))
+missing_step : (f g : ℕ) (rest : List ℕ) (b : Bool) → nat_eq g f ≡ b → IsMissing f rest → IsMissing f (cond b rest (g ∷ rest))
 missing_step f g rest true is m = m
 missing_step f g rest false is m = ((λ e. elim (eqb_tells g f) [ inl t ↦ absurd (let x : true ≡ false = sym t.0 ∙ is in cc) | inr t ↦ t.1 e ]), m)
 
-pub missing : (f : ℕ) (level : List ℕ) → Missing f (without f level)
+pub missing : (f : ℕ) (level : List ℕ) → IsMissing f (without f level)
 missing f [] = tt
 missing f (g ∷ level) = missing_step f g (without f level) (nat_eq g f) refl (missing f level)
 
-still_step : (k g : ℕ) (rest : List ℕ) (b : Bool) → g ≢ k → Missing k rest → Missing k (cond b rest (g ∷ rest))
+still_step : (k g : ℕ) (rest : List ℕ) (b : Bool) → g ≢ k → IsMissing k rest → IsMissing k (cond b rest (g ∷ rest))
 still_step k g rest true other m = m
 still_step k g rest false other m = (other, m)
 
 -- what is missing is still missing
-pub still : (k f : ℕ) (level : List ℕ) → Missing k level → Missing k (without f level)
+pub still : (k f : ℕ) (level : List ℕ) → IsMissing k level → IsMissing k (without f level)
 still k f [] m = tt
 still k f (g ∷ level) m = still_step k g (without f level) (nat_eq g f) m.0 (still k f level m.1)
 
-distinct_step : (g : ℕ) (rest : List ℕ) (b : Bool) → Missing g rest → AreDistinct rest → AreDistinct (cond b rest (g ∷ rest))
+distinct_step : (g : ℕ) (rest : List ℕ) (b : Bool) → IsMissing g rest → AreDistinct rest → AreDistinct (cond b rest (g ∷ rest))
 distinct_step g rest true m d = d
 distinct_step g rest false m d = (m, d)
 
@@ -52,12 +52,12 @@ distinct f [] d = tt
 distinct f (g ∷ level) d = distinct_step g (without f level) (nat_eq g f) (still g f level d.0) (distinct f level d.1)
 
 -- a field that is there isn't missing
-pub not_missing : (f : ℕ) (level : List ℕ) → Has f level → Missing f level → ⊥
+pub not_missing : (f : ℕ) (level : List ℕ) → Has f level → IsMissing f level → ⊥
 not_missing f [] h m = h
 not_missing f (g ∷ level) (inl e) m = m.0 e
 not_missing f (g ∷ level) (inr h) m = not_missing f level h m.1
 
-pub other : (f g : ℕ) (level : List ℕ) → Has g level → Missing f level → g ≢ f
+pub other : (f g : ℕ) (level : List ℕ) → Has g level → IsMissing f level → g ≢ f
 other f g level h m = λ e. not_missing f level (subst (λ k. Has k level) e h) m
 
 -- another field is still there
@@ -73,16 +73,16 @@ has_other k f (g ∷ level) other (inl e) = has_step k g (without f level) (nat_
 has_other k f (g ∷ level) other (inr h) = has_step k g (without f level) (nat_eq g f)
     (λ is same. elim (eqb_tells g f) [ inl t ↦ other (sym same ∙ t.1) | inr t ↦ absurd (let x : false ≡ true = sym t.0 ∙ is in cc) ]) (inr (has_other k f level other h))
 
-count_step : (g f : ℕ) (level : List ℕ) → g ≡ f → Missing g level → length (g ∷ level) ≡ suc (length (without f (g ∷ level)))
+count_step : (g f : ℕ) (level : List ℕ) → g ≡ f → IsMissing g level → length (g ∷ level) ≡ suc (length (without f (g ∷ level)))
 count_step g f level e m =
-    let same : without f (g ∷ level) ≡ level = ap (λ k. without f (k ∷ level)) e ∙ here f level ∙ none f level (subst (λ k. Missing k level) e m) in
+    let same : without f (g ∷ level) ≡ level = ap (λ k. without f (k ∷ level)) e ∙ here f level ∙ none f level (subst (λ k. IsMissing k level) e m) in
     ap (λ l. suc (length l)) (sym same)
 
 pub counted : (f : ℕ) (level : List ℕ) → Has f level → AreDistinct level → length level ≡ suc (length (without f level))
 counted f [] h d = absurd h
 counted f (g ∷ level) (inl e) d = count_step g f level e d.0
 counted f (g ∷ level) (inr h) d =
-    let other : g ≢ f = λ e. not_missing f level h (subst (λ k. Missing k level) e d.0) in
+    let other : g ≢ f = λ e. not_missing f level h (subst (λ k. IsMissing k level) e d.0) in
     ap suc (counted f level h d.1) ∙ ap (λ l. suc (length l)) (sym (there f g level other))
 
 -- the bits and the count of a level are those of a field of it and of the others
@@ -92,9 +92,9 @@ pub record AreParted (f : ℕ) (level : List ℕ) : Type 0 where
   pub others : IsLevel (without f level)
   pub small : f < 5
 
-same_parts : (f g : ℕ) (level : List ℕ) → g ≡ f → IsLevel (g ∷ level) → Missing g level → AreParted f (g ∷ level)
+same_parts : (f g : ℕ) (level : List ℕ) → g ≡ f → IsLevel (g ∷ level) → IsMissing g level → AreParted f (g ∷ level)
 same_parts f g level e is m =
-    let same : without f (g ∷ level) ≡ level = ap (λ k. without f (k ∷ level)) e ∙ here f level ∙ none f level (subst (λ k. Missing k level) e m) in record {
+    let same : without f (g ∷ level) ≡ level = ap (λ k. without f (k ∷ level)) e ∙ here f level ∙ none f level (subst (λ k. IsMissing k level) e m) in record {
       bits = ap (λ k. width k + bits_of level) e ∙ ap (λ l. width f + bits_of l) (sym same);
       count = ap (λ l. suc (length l)) (sym same);
       others = subst IsLevel (sym same) is.1;
@@ -106,7 +106,7 @@ parted f [] h d is = absurd h
 parted f (g ∷ level) (inl e) d is = same_parts f g level e is d.0
 parted f (g ∷ level) (inr h) d is =
     let rest = parted f level h d.1 is.1 in
-    let other : g ≢ f = λ e. not_missing f level h (subst (λ k. Missing k level) e d.0) in
+    let other : g ≢ f = λ e. not_missing f level h (subst (λ k. IsMissing k level) e d.0) in
     let same = there f g level other in
     let count : length (g ∷ without f level) ≡ length level = sym rest.count in
     let bits : width f + bits_of (g ∷ without f level) ≡ bits_of (g ∷ level) = omega (arith, rest.bits) in record {
@@ -131,7 +131,7 @@ fronted f level h d is =
     ((p.small, omega (arith, p.bits, bound level is), omega (arith, p.count, five level is)), p.others)
 
 -- an order of a level's fields has no field twice, and none that the level hasn't
-pub order_missing : (f : ℕ) (order level : List ℕ) → IsRearranged order level → Missing f level → Missing f order
+pub order_missing : (f : ℕ) (order level : List ℕ) → IsRearranged order level → IsMissing f level → IsMissing f order
 order_missing f [] level r m = tt
 order_missing f (g ∷ order) level r m = (other f g level r.0 m, order_missing f order (without g level) r.1 (still f g level m))
 

@@ -1,5 +1,5 @@
 -- Edges that end where others do: they fill the values as those do, and lead where those lead, as far as each leads where the other does.
-use Rattle.std.proofs.Common.{◌≡◌, ◌∷◌, ℕ, List, [], ◌≤◌, ◌<◌, ◌∙◌, arith, sym, subst, inl, inr}
+use Rattle.std.proofs.Common.{◌≡◌, ◌∷◌, ℕ, List, [], ◌≤◌, ◌∙◌, arith, sym, subst, inl, inr}
 use Rattle.std.specs.Prelude.{suc}
 use Rattle.std.specs.List.{All, AllZip}
 use Rattle.std.proofs.lemmas.Bool.{cases_lt}

@@ -6,7 +6,7 @@ use Rattle.field_boxes.specs.Fields.{ComesBefore}
 use Rattle.field_boxes.specs.NamedRules.{IsNumberedBy}
 use Rattle.field_boxes.specs.Names.{AreDistinct}
 use Rattle.table_compose.specs.LeastCost.{IsLeastCost}
-use Rattle.field_order.specs.Order.{IsOrder, place_of}
+use Rattle.field_boxes.specs.Orders.{IsOrder}
 
 -- each rule decides the number of one of these names, and no two names are the same
 pub record AreNamesOf (rules : List code.Rule) (names : List (List ℕ)) : Type 0 where
@@ -18,11 +18,4 @@ pub record IsBestOrder (rules : List (Rule (List ℕ))) (order : List ℕ) (cost
   pub is : IsOrder order
   pub costs : IsLeastCost order rules cost
   pub least : (other : List ℕ) (n : ℕ) → IsOrder other → IsLeastCost other rules n → cost ≤ n
-  pub first : (other : List ℕ) (n : ℕ) → IsOrder other → ComesBefore other order → IsLeastCost other rules n → cost < n
-
--- the same of the orders below a place
-pub record IsBestBelow (rules : List (Rule (List ℕ))) (place : ℕ) (order : List ℕ) (cost : ℕ) : Type 0 where
-  pub is : IsOrder order
-  pub costs : IsLeastCost order rules cost
-  pub least : (other : List ℕ) (n : ℕ) → IsOrder other → place_of other < place → IsLeastCost other rules n → cost ≤ n
   pub first : (other : List ℕ) (n : ℕ) → IsOrder other → ComesBefore other order → IsLeastCost other rules n → cost < n

@@ -15,11 +15,6 @@ abbrev pub without : ℕ → List ℕ → List ℕ
 without f [] = []
 without f (g ∷ level) = if nat_eq g f then without f level else g ∷ without f level
 
--- the field is one of the level's
-abbrev pub Has : ℕ → List ℕ → Type 0
-Has f [] = ⊥
-Has f (g ∷ level) = (g ≡ f) ⊎ Has f level
-
 -- each field has one of its values
 abbrev pub Fits : (ℕ → ℕ) → Type 0
 Fits h = (f : ℕ) → h f < 2 ^ width f

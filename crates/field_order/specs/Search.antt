@@ -3,7 +3,8 @@ use Rattle.std.specs.Prelude.{◌≡◌, ℕ, ◌<◌, ◌≤◌, ◌⊎◌, Lis
 use Rattle.field_boxes.specs.Classifier.{Rule}
 use Rattle.node_store.specs.Diagram.{Node}
 use Rattle.table_compose.specs.LeastCost.{IsLeastCost}
-use Rattle.field_order.specs.Order.{IsOrder, place_of}
+use Rattle.field_order.specs.Order.{place_of}
+use Rattle.field_boxes.specs.Orders.{IsOrder}
 use Rattle.field_order.specs.Worth.{AreApart, DecideBy, answer_by}
 use Rattle.field_order.specs.declared.best.Costed.{Costed}
 use Rattle.field_order.specs.declared.worth.Worth.{Worth}

@@ -8,8 +8,8 @@ use Rattle.node_store.specs.declared.edge.NodeId.{NodeId}
 use Rattle.node_store.specs.Levels.{bits_of}
 use Rattle.node_store.specs.Diagram.{Node, level_of, answer}
 use Rattle.table_compose.specs.LeastCost.{IsLeastCost}
-use Rattle.table_compose.specs.Composed.{AreDistinct}
-use Rattle.field_order.specs.Fronts.{Fits, Has, without}
+use Rattle.field_boxes.specs.Orders.{AreDistinct, Has}
+use Rattle.field_order.specs.Fronts.{Fits, without}
 use Rattle.field_order.specs.declared.worth.Worth.{Worth}
 use Rattle.field_order.specs.declared.worth.Worth.TheVariants.{Is, Above}
 use Rattle.field_order.specs.declared.worth.Valued.{Valued}

@@ -11,12 +11,12 @@ ghost use Rattle.field_order.specs.Search.{IsBestSoFar, DecidesAs, IsTried, usua
 ghost use Rattle.field_order.specs.Worth.{AreWorths};
 
 use crate::fronts::Fronts;
-use crate::order::Order;
+use crate::order::{as_level, order_at, usual};
 use crate::search::worth;
 use crate::worth::{Worth, Worths};
 use bumpalo::Bump;
 use fdd_build::build;
-use field_boxes::Rule;
+use field_boxes::{Order, Rule};
 use node_store::{NodeId, Store};
 use prefix_min::Costing;
 use razor_base::Memory;
@@ -45,8 +45,8 @@ pub fn best_order(alloc: Global, rules: &[Rule]) -> Result<(Order, u128), Memory
         IfOk result (λ best. IsBestOrder (named_rules names rules.now) best.0 best.1) }
 {
     let mut store = Store::new(alloc);
-    let order = Order::usual();
-    let root = build(alloc, &mut store, order.fields(), rules)?;
+    let order = usual();
+    let root = build(alloc, &mut store, as_level(&order), rules)?;
     let cost = cost(alloc, &store, root)?;
     let mut best = Costed {
         order,
@@ -93,17 +93,17 @@ fn better(
     ensures worths { AreWorths store.new worths.new }
     ensures grows { Grows store.old store.new }
 {
-    let Some(order) = Order::at(place) else {
+    let Some(order) = order_at(place) else {
         return Ok(best);
     };
-    let level = Order::usual();
+    let level = usual();
     let found = worth(
         alloc,
         store,
         fronts,
         worths,
         costing,
-        level.fields(),
+        as_level(&level),
         root,
         place,
         best.cost,

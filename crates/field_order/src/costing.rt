@@ -5,9 +5,9 @@ ghost use Rattle.table_compose.specs.LeastCost.{IsLeastCost};
 ghost use Rattle.table_compose.specs.Costs.{AreCostsOf};
 ghost use Rattle.field_order.specs.Best.{AreNamesOf};
 
-use crate::order::Order;
+use crate::order::as_level;
 use fdd_build::build;
-use field_boxes::Rule;
+use field_boxes::{Order, Rule};
 use node_store::Store;
 use node_store::laws::levels;
 use razor_base::Memory;
@@ -42,7 +42,7 @@ pub(crate) fn cost_among(
     ensures costs { AreCostsOf store.new costs.new }
 {
     levels();
-    let root = build(alloc, store, order.fields(), rules)?;
+    let root = build(alloc, store, as_level(order), rules)?;
     let cost = costs.of(store, root)?;
     Ok(cost)
 }

@@ -6,8 +6,8 @@ ghost use Rattle.node_store.specs.Levels.{HasField, IsLevel, next, top_of};
 ghost use Rattle.node_store.specs.Edges.{AreFull, child_of};
 ghost use Rattle.node_store.specs.Diagram.{level_of, edges_of, answer};
 ghost use Rattle.node_store.specs.Store.{Grows, LeadTo};
-ghost use Rattle.table_compose.specs.Composed.{AreDistinct};
-ghost use Rattle.field_order.specs.Fronts.{Has, without, IsFront, IsFrontEdge, AreFronts};
+ghost use Rattle.field_boxes.specs.Orders.{AreDistinct, Has};
+ghost use Rattle.field_order.specs.Fronts.{without, IsFront, IsFrontEdge, AreFronts};
 
 use crate::fronts::{Asked, Fronts};
 use crate::row::{Edges, fill_row};

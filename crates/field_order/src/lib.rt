@@ -9,7 +9,7 @@
 //! let (order, cost) = best_order(alloc, &rules)?;
 //! ```
 //!
-//! `specs/Order.antt` says what an order is, and `specs/Best.antt` which one is the best.
+//! `field_boxes/specs/Orders.antt` says what an order is, and `specs/Best.antt` which one is the best.
 #![tactic(auto)]
 
 mod best;
@@ -24,4 +24,3 @@ mod worth;
 
 pub use best::best_order;
 pub use costing::cost_in;
-pub use order::Order;

@@ -1,130 +1,45 @@
-//! Orders of the fields.
-ghost use Rattle.std.specs.Prelude.{◌≡◌, nat_eq};
-ghost use Rattle.std.specs.List.{list_any};
-ghost use Rattle.field_order.specs.Order.{are_distinct, are_fields, is_order};
+//! The usual order, orders by their places, and their fields as a level.
+ghost use Rattle.std.specs.Prelude.{◌≡◌, ◌<◌, ℕ, List, Some, IfSome};
+ghost use Rattle.field_boxes.specs.Orders.{AreDistinct, IsOrder};
+ghost use Rattle.node_store.specs.Levels.{IsLevel};
+ghost use Rattle.field_order.specs.Order.{place_of};
+ghost use Rattle.field_order.specs.Search.{usual};
 
-use std::marker::Model;
+use field_boxes::Order;
 
-/// An order of the five fields, each of them once.
-#[derive(Clone, Copy, Debug, PartialEq, Eq)]
-pub struct Order {
-    fields: [u8; 5],
-}
-
-impl Model for Order {
-    ghost use Rattle.std.specs.Prelude.{ℕ, List};
-    ghost use Rattle.field_order.specs.Order.{IsOrder};
-
-    ghost Value = { List ℕ };
-
-    ghost view = { λ order. order.fields };
-
-    ghost invariant = { λ order. IsOrder order.fields };
-
-    ghost inverse = { λ fields. record { fields = fields } };
-}
-
-impl Order {
-    ghost use Rattle.std.specs.Prelude.{◌≡◌, ◌<◌, ◌↔◌, ℕ, List, Some, IsSome, IfSome};
-    ghost use Rattle.field_boxes.specs.Fields.{stated};
-    ghost use Rattle.node_store.specs.Levels.{IsLevel};
-    ghost use Rattle.table_compose.specs.Composed.{AreDistinct};
-    ghost use Rattle.field_order.specs.Order.{IsOrder, place_of};
-    ghost use Rattle.field_order.specs.Search.{usual};
-
-    /// The order of these fields; none where they aren't the numbers 0 to 4, each once.
-    #[tactic(auto, using(crate::proofs::Orders::passed, crate::proofs::Orders::failed))]
-    pub fn new(fields: [u8; 5]) -> Option<Order>
-        ensures fields { IfSome result (λ order. order ≡ fields) }
-        ensures some { IsSome result ↔ IsOrder fields }
-    {
-        if !is_order(&fields) {
-            return None;
-        }
-        Some(Order { fields })
-    }
-
-    /// The stated order: 0, 1, 2, 3, 4.
-    pub fn stated() -> Order
-        ensures fields { result ≡ stated }
-        ensures order { IsOrder result }
-    {
-        Order {
-            fields: [0, 1, 2, 3, 4],
-        }
-    }
-
-    /// The order in which most lists cost little: 4, 1, 0, 3, 2.
-    pub(crate) fn usual() -> Order
-        ensures fields { result ≡ usual }
-        ensures order { IsOrder result }
-    {
-        Order {
-            fields: [4, 1, 0, 3, 2],
-        }
-    }
-
-    /// The order at a place among all lists of five fields, in rising order of digits; none where a field
-    /// stands there twice.
-    pub(crate) fn at(place: u32) -> Option<Order>
-        requires { place < 3125 }
-        ensures place { IfSome result (λ order. IsOrder order × (place_of order ≡ place)) }
-        ensures found { (fields : List ℕ) → IsOrder fields → place_of fields ≡ place → result ≡ Some fields }
-    {
-        Order::new([
-            (place / 625 % 5) as u8,
-            (place / 125 % 5) as u8,
-            (place / 25 % 5) as u8,
-            (place / 5 % 5) as u8,
-            (place % 5) as u8,
-        ])
-    }
-
-    /// The fields as digits.
-    pub fn digits(&self) -> [u8; 5]
-        ensures { result ≡ self.now }
-    {
-        self.fields
-    }
-
-    /// The fields, the one that is read first in front.
-    pub fn fields(&self) -> &[u8]
-        ensures fields { result.now ≡ self.now }
-        ensures order { IsOrder result.now }
-        ensures level { IsLevel result.now }
-        ensures distinct { AreDistinct result.now }
-    {
-        &self.fields
-    }
-}
-
-/// Whether the five numbers are those of the fields, each once.
-fn is_order(fields: &[u8]) -> bool
-    ensures { result ≡ is_order fields.now }
+/// The order in which most lists cost little: 4, 1, 0, 3, 2.
+pub(crate) fn usual() -> Order
+    ensures fields { result ≡ usual }
+    ensures order { IsOrder result }
 {
-    are_fields(fields) && are_distinct(fields)
-}
-
-/// Whether each of the numbers is one of a field.
-fn are_fields(fields: &[u8]) -> bool
-    ensures { result ≡ are_fields fields.now }
-{
-    fields.iter().all(|field| *field < 5)
-}
-
-/// Whether no field stands twice.
-fn are_distinct(fields: &[u8]) -> bool
-    ensures { result ≡ are_distinct fields.now }
-{
-    match fields {
-        [] => true,
-        [first, rest @ ..] => !has(rest, *first) && are_distinct(rest),
+    match Order::new([4, 1, 0, 3, 2]) {
+        Some(order) => order,
+        None => unreachable!(),
     }
 }
 
-/// Whether the field is among these.
-fn has(fields: &[u8], field: u8) -> bool
-    ensures { result ≡ list_any (nat_eq field) fields.now }
+/// The order at a place among all lists of five fields, in rising order of digits; none where a field
+/// stands there twice.
+pub(crate) fn order_at(place: u32) -> Option<Order>
+    requires { place < 3125 }
+    ensures place { IfSome result (λ order. IsOrder order × (place_of order ≡ place)) }
+    ensures found { (fields : List ℕ) → IsOrder fields → place_of fields ≡ place → result ≡ Some fields }
 {
-    fields.iter().any(|other| field == *other)
+    Order::new([
+        (place / 625 % 5) as u8,
+        (place / 125 % 5) as u8,
+        (place / 25 % 5) as u8,
+        (place / 5 % 5) as u8,
+        (place % 5) as u8,
+    ])
+}
+
+/// The fields, the one that is read first in front.
+pub(crate) fn as_level(order: &Order) -> &[u8]
+    ensures fields { result.now ≡ order.now }
+    ensures order { IsOrder result.now }
+    ensures level { IsLevel result.now }
+    ensures distinct { AreDistinct result.now }
+{
+    order.fields()
 }

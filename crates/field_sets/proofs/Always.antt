@@ -1,43 +1,17 @@
 -- Nodes that answer one number: a leaf, a node over one of them, and a node whose one edge leads to one.
 use Rattle.std.proofs.Common.{◌≡◌, ℕ, List, [], ◌∷◌, ◌≤◌, ◌<◌, ◌∙◌, arith, ap, refl, length, subst, sym}
-use Rattle.std.specs.Prelude.{IfSome, Option, Some, None, slice_get, slice_index_or, unwrap_or}
+use Rattle.std.specs.Prelude.{IfSome, Option, Some, None, slice_get, slice_index_or}
 use Rattle.field_boxes.specs.Fields.{AreValues}
 use Rattle.node_store.specs.declared.edge.Edge.{Edge}
 use Rattle.node_store.specs.Edges.{AreFull, child_of}
 use Rattle.node_store.specs.Levels.{HasField, next, top_of}
-use Rattle.node_store.specs.Diagram.{Node, node_level, node_edges, node_decision, level_of, edges_of, decision_of, answer}
+use Rattle.node_store.specs.Diagram.{Node, node_level, node_edges, level_of, edges_of, answer}
 use Rattle.node_store.specs.Diagram.Node.{Leaf, Inner}
 use Rattle.node_store.specs.Store.{IsStore}
 use Rattle.node_store.proofs.Canonical.{leads_on}
 use Rattle.node_store.proofs.Edges.{within}
 use Rattle.node_store.proofs.Values.{each}
-use Rattle.field_sets.specs.Constant.{AnswersAlways, AnswersOnly}
-
-pub opened : (decision : ℕ) (old new : List Node) (level : List ℕ) (to id : ℕ) → HasField level → AnswersAlways old (next level) decision to → level_of new id ≡ level →
-    ((v : ℕ) (values : List ℕ) → v ≤ top_of level → answer new id (v ∷ values) ≡ answer old to values) → AnswersAlways new level decision id
-opened decision old new level to id field always at same = record {
-  level = at;
-  answers = each (λ values. answer new id values ≡ decision) level field (λ v rest low h. same v rest low ∙ always.answers rest h);
-}
-
-last_answer : (nodes : List Node) (id decision : ℕ) → decision_of nodes id ≡ Some decision → (values : List ℕ) → AreValues [] values → answer nodes id values ≡ decision
-last_answer nodes id decision is [] ok = ap (λ o. unwrap_or o 0) is
-last_answer nodes id decision is (v ∷ values) ok = absurd ok
-
-pub leaf : (decision : ℕ) (nodes : List Node) (level : List ℕ) (id : ℕ) → level ≡ [] → level_of nodes id ≡ [] → decision_of nodes id ≡ Some decision → AnswersAlways nodes level decision id
-leaf decision nodes level id none at is = record {
-  level = at ∙ sym none;
-  answers = λ values ok. last_answer nodes id decision is values (subst (λ k. AreValues k values) none ok);
-}
-
-leaf_by : (nodes : List Node) (id decision : ℕ) (m : Option Node) → slice_get nodes id ≡ m → node_decision m ≡ Some decision → node_level m ≡ []
-leaf_by nodes id decision None p h = cc
-leaf_by nodes id decision (Some (Inner f es)) p h = cc
-leaf_by nodes id decision (Some (Leaf c)) p h = refl
-
--- a node with a decision
-pub at_leaf : (nodes : List Node) (id decision : ℕ) → decision_of nodes id ≡ Some decision → AnswersOnly nodes decision id
-at_leaf nodes id decision is = λ values ok. last_answer nodes id decision is values (subst (λ k. AreValues k values) (leaf_by nodes id decision (slice_get nodes id) refl is) ok)
+use Rattle.field_sets.specs.Constant.{AnswersOnly}
 
 single : (es : List Edge) (d : Edge) → length es ≡ 1 → es ≡ slice_index_or es 0 d ∷ []
 single [] d h = absurd (omega (arith, h))

@@ -6,13 +6,14 @@ use Rattle.std.specs.Fn.{Called, ComputesKey}
 use Rattle.std.proofs.lemmas.Bool.{ltb-true, ltb-false, lt-ltb, le-ltb}
 use Rattle.std.proofs.lemmas.List.{take_all, length-drop}
 use Rattle.std.proofs.lemmas.List.Elements.{All-tail}
-use Rattle.std.proofs.lemmas.List.Sorted.{IsNonDecreasingBy-from_all_adjacent, IsPartitionedBy-ltb, IsPartitionPoint-from_clause}
+use Rattle.std.proofs.lemmas.List.Sorted.{IsPartitionPoint-from_clause}
 use denote.Param.Members.{Mut}
 use denote.Ref.{Bor}
 use Rattle.node_store.specs.declared.edge.Edge.{Edge}
 use Rattle.node_store.specs.Edges.{child_of, AreFull}
 use Rattle.node_store.proofs.Edges as edges
 use Rattle.field_sets.specs.Fill.{Fill, reaching}
+use Rattle.node_store.proofs.Search.{parted}
 
 -- edges that are full fill the values from 0 on
 rise_fills : (top lo : ℕ) (es : List Edge) → edges.Rise top lo es → Fill lo top es
@@ -84,11 +85,6 @@ dropped (e ∷ es) v zero below above = sym (ap (λ t. cond t (reaching v es) (e
 dropped (e ∷ es) v (suc i) below above =
     dropped es v i (λ k d h w. below (suc k) d (omega (arith, h)) (omega (arith, w))) (λ d w. above d (omega (arith, w)))
     ∙ sym (passed v e es (below 0 e (omega arith) (omega arith)))
-
-parted : (top : ℕ) (es : List Edge) (v : ℕ) → AreFull top es → IsPartitionedBy (λ (e : Edge). nat_lt e.hi v) es
-parted top es v full =
-    IsPartitionedBy-ltb (λ (e : Edge). e.hi) es v
-    (IsNonDecreasingBy-from_all_adjacent (λ (e : Edge). e.hi) es (λ k d less. let r = full.rise k d less in omega (arith, r)))
 
 pub searched : {F : Type 0} {g : Mut F (Bor Edge × Unit {0}) Bool} {f : F} (top : ℕ) (es : List Edge) (v i : ℕ) → AreFull top es → i ≤ length es →
     ((q : Edge → Bool) → ComputesKey g q f → IsPartitionedBy q es → IsPartitionPoint (λ y. q y ≡ true) (λ y. q y ≡ false) es i) →

@@ -1,12 +1,10 @@
 //! The diagrams that answer one number everywhere.
-ghost use Rattle.std.specs.Prelude.{◌≡◌, ◌≤◌, ◌<◌, ℕ, List, ◌∷◌, length, IfOk, IfSome};
-ghost use Rattle.node_store.specs.Levels.{HasField, IsLevel, next, top_of};
-ghost use Rattle.node_store.specs.Diagram.{level_of, answer};
+ghost use Rattle.std.specs.Prelude.{◌<◌, length, IfOk, IfSome};
+ghost use Rattle.node_store.specs.Levels.{IsLevel};
 ghost use Rattle.node_store.specs.Store.{Grows};
 ghost use Rattle.field_sets.specs.Constant.{AnswersAlways, AnswersOnly};
 
-use field_boxes::greatest;
-use node_store::{Edge, NodeId, Store, laws};
+use node_store::{NodeId, Store};
 use razor_base::Memory;
 
 /// The node of the level that answers the number for all values, which the store gains where it isn't there.
@@ -20,21 +18,7 @@ pub(crate) fn answering(store: &mut Store, level: &[u8], decision: u32) -> Resul
         return Ok(leaf);
     }
     let to = answering(store, &level[1..], decision)?;
-    let id = open(store, level, to)?;
-    Ok(id)
-}
-
-/// The node of the level that leads everywhere to one node.
-fn open(store: &mut Store, level: &[u8], to: NodeId) -> Result<NodeId, Memory>
-    requires field { HasField level.now }
-    requires level { level_of store.old to.0 ≡ next level.now }
-    ensures level { IfOk result (λ id. level_of store.new id.0 ≡ level.now) }
-    ensures answers { IfOk result (λ id. (v : ℕ) (values : List ℕ) → v ≤ top_of level.now → answer store.new id.0 (v ∷ values) ≡ answer store.old to.0 values) }
-    ensures grows { Grows store.old store.new }
-{
-    laws::edges_in_turn();
-    let hi = greatest(usize::from(level[0]));
-    let id = store.make(level, &[Edge { hi, to }])?;
+    let id = store.everywhere(level, to)?;
     Ok(id)
 }
 

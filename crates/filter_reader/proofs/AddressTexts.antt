@@ -1,13 +1,10 @@
 -- Addresses and their lengths are read as they are written.
-use Rattle.std.proofs.Common.{◌≡◌, ◌∷◌, ◌++◌, ℕ, ◌+◌, ◌-◌, ◌*◌, ◌/◌, ◌%◌, ◌^◌, ◌<◌, ◌≤◌, List, Bool, true, ap, refl, sym, subst, ◌∙◌, arith, append_assoc, Some}
-use Rattle.std.specs.Prelude.{Ok}
+use Rattle.std.proofs.Common.{◌≡◌, ◌∷◌, ◌++◌, ℕ, ◌+◌, ◌-◌, ◌*◌, ◌/◌, ◌%◌, ◌^◌, ◌<◌, ◌≤◌, List, Bool, true, ap, refl, sym, subst, ◌∙◌, arith, append_assoc, Some, Ok, decimal, pow_pos}
 use Rattle.std.specs.List.{list_all}
-use Rattle.std.specs.Fmt.{decimal}
 use Rattle.std.specs.Int.{leading_zeros, w32}
 use Rattle.std.specs.Int.Count.{leading_unique}
 use Rattle.std.specs.Coded.{le_prop}
 use Rattle.std.proofs.Math.Nat.{ℕ_set}
-use Rattle.std.proofs.lemmas.Nat.{pow_pos}
 use Rattle.std.proofs.lemmas.Bool.{and_from}
 use Rattle.field_boxes.specs.declared.prefix.Prefix.{Prefix}
 use Rattle.field_boxes.specs.declared.span.Span.{Span}
@@ -19,10 +16,10 @@ use Rattle.field_boxes.specs.Prefix.{FitsWidth, prefix_interval}
 use Rattle.filter_reader.specs.Addresses.{address_of, length_of, agreeing}
 use Rattle.filter_reader.specs.Columns.{prefix_set}
 use Rattle.filter_reader.specs.ListText.{address_text, prefix_text}
-use Rattle.filter_reader.specs.Optional.{parts_at}
-use Rattle.filter_reader.proofs.Bytes.{all_joined, decimal-all, digit_no_dot, digit_no_slash, digit_number, is_number_byte}
-use Rattle.filter_reader.proofs.Decimals.{short_number-decimal, is_digit}
-use Rattle.filter_reader.proofs.Spelling.{split_once-joined, is_other}
+use Rattle.text_lines.specs.Cuts.{parts_at}
+use Rattle.text_lines.proofs.Decimals.{decimal-all, decimal-other, digit_other, is_digit, short_number-decimal}
+use Rattle.text_lines.proofs.Joins.{all_joined, split_once-joined, is_other}
+use Rattle.filter_reader.proofs.Bytes.{digit_number, is_number_byte}
 
 in_parts : (a b c d : List ℕ) → a ++ 46 ∷ b ++ 46 ∷ c ++ 46 ∷ d ≡ a ++ 46 ∷ (b ++ 46 ∷ (c ++ 46 ∷ d))
 in_parts a b c d = simp append_assoc
@@ -32,9 +29,9 @@ numbers_read : (a b c d : ℕ) → a < 256 → b < 256 → c < 256 → d < 256 �
 unfolding address_of
 numbers_read a b c d p q r s =
     rw (
-      split_once-joined 46 (decimal a) (decimal b ++ 46 ∷ (decimal c ++ 46 ∷ decimal d)) (decimal-all (is_other 46) digit_no_dot a (omega arith)),
-      split_once-joined 46 (decimal b) (decimal c ++ 46 ∷ decimal d) (decimal-all (is_other 46) digit_no_dot b (omega arith)),
-      split_once-joined 46 (decimal c) (decimal d) (decimal-all (is_other 46) digit_no_dot c (omega arith)),
+      split_once-joined 46 (decimal a) (decimal b ++ 46 ∷ (decimal c ++ 46 ∷ decimal d)) (decimal-other 46 a (omega arith) (omega arith)),
+      split_once-joined 46 (decimal b) (decimal c ++ 46 ∷ decimal d) (decimal-other 46 b (omega arith) (omega arith)),
+      split_once-joined 46 (decimal c) (decimal d) (decimal-other 46 c (omega arith) (omega arith)),
       short_number-decimal 3 255 a (omega arith) (omega arith) (omega arith) (omega arith),
       short_number-decimal 3 255 b (omega arith) (omega arith) (omega arith) (omega arith),
       short_number-decimal 3 255 c (omega arith) (omega arith) (omega arith) (omega arith),
@@ -71,7 +68,7 @@ length_seen v len h =
     rw free (sym (leading_unique 32 (2 ^ (32 - len) - 1) len (32 - len) (omega arith) (omega arith) (omega arith)))
 
 prefix_parts : (v len : ℕ) → v < 2 ^ 32 → parts_at 47 (address_text v ++ 47 ∷ decimal len) ≡ (address_text v, Some (decimal len))
-prefix_parts v len h = rw (split_once-joined 47 (address_text v) (decimal len) (address_all (is_other 47) digit_no_slash refl v h)) refl
+prefix_parts v len h = rw (split_once-joined 47 (address_text v) (decimal len) (address_all (is_other 47) (digit_other 47 (omega arith)) refl v h)) refl
 
 length_read : (len : ℕ) → len ≤ 32 → length_of (Some (decimal len)) ≡ Some len
 unfolding length_of

@@ -1,11 +1,9 @@
 -- Names that are seen in order are distinct, so rules with the same names have the same numbers.
-use Rattle.std.proofs.Common.{◌≡◌, ◌≢◌, ◌∷◌, ◌++◌, ℕ, zero, suc, ◌+◌, ◌<◌, ◌≤◌, List, Bool, true, false, cond, [], ap, refl, sym, ◌∙◌, subst, arith, length, length-append, get_or, drop, inl, inr}
+use Rattle.std.proofs.Common.{◌≡◌, ◌≢◌, ◌∷◌, ◌++◌, ℕ, zero, suc, ◌+◌, ◌<◌, ◌≤◌, List, false, [], ap, refl, sym, ◌∙◌, subst, arith, length, length-append, get_or, drop, inl, inr, fold, map, All, bytes_eq}
 use Rattle.std.proofs.Math.Seq.{get_or-append_seam}
 use Rattle.std.proofs.lemmas.List.{get_or_append_left}
-use Rattle.std.specs.Prelude.{fold, map, All}
 use Rattle.std.specs.List.{AllByRecursion}
-use Rattle.std.specs.Str.{bytes_eq}
-use Rattle.std.proofs.lemmas.Bool.{or_parts, false≢true, cases_lt}
+use Rattle.std.proofs.lemmas.Bool.{or_parts, false≢true, cases_lt, cond_both}
 use Rattle.std.proofs.lemmas.List.Elements.{recursion_from_All}
 use Rattle.std.proofs.lemmas.Option.{unwrap_or-slice_get}
 use Rattle.std.proofs.lemmas.Slice.Eq.{bytes_eq-Decides}
@@ -48,13 +46,11 @@ added names name new distinct i j p q e =
       ]
     ]
 
-with_one : (names : List (List ℕ)) (name : List ℕ) (t : Bool) → is_known names name ≡ t → AreDistinct names → AreDistinct (cond t names (names ++ name ∷ []))
-with_one names name true e distinct = distinct
-with_one names name false e distinct = added names name e distinct
-
 with_all : (names : List (List ℕ)) (rules : List (Rule (List ℕ))) → AreDistinct names → AreDistinct (fold (λ ns rule. with_name ns rule.decision) names rules)
 with_all names [] distinct = distinct
-with_all names (rule ∷ rules) distinct = with_all (with_name names rule.decision) rules (with_one names rule.decision (is_known names rule.decision) refl distinct)
+with_all names (rule ∷ rules) distinct =
+    let name = rule.decision in
+    with_all (with_name names name) rules (cond_both (is_known names name) names (names ++ name ∷ []) AreDistinct (λ e. distinct) (λ e. added names name e distinct))
 
 no_names : AreDistinct []
 unfolding AreDistinct
@@ -76,12 +72,11 @@ numbers_of rules = map (λ (rule : code.Rule). rule.decision) rules
 same_numbers : (names : List (List ℕ)) → AreDistinct names → (xs ys : List code.Rule) → AllByRecursion (IsNumberedBy names) xs → AllByRecursion (IsNumberedBy names) ys → named_rules names xs ≡ named_rules names ys → numbers_of xs ≡ numbers_of ys
 unfolding numbers_of
 same_numbers names distinct [] [] p q e = refl
-same_numbers names distinct [] (y ∷ ys) p q e = absurd (cc)
-same_numbers names distinct (x ∷ xs) [] p q e = absurd (cc)
 same_numbers names distinct (x ∷ xs) (y ∷ ys) p q e =
     let first : text_of (name_at names x.decision) ≡ text_of (name_at names y.decision) = ap (λ (rules : List (Rule (List ℕ))). (get_or rules 0 (named_rule names x)).decision) e in
     ap (λ n. n ∷ numbers_of xs) (same_number names distinct x.decision y.decision p.0 q.0 first)
     ∙ ap (λ ns. y.decision ∷ ns) (same_numbers names distinct xs ys p.1 q.1 (ap (drop 1) e))
+same_numbers names distinct xs ys p q e = absurd cc
 
 -- lists with the same rules, whose names are those of the rules in the order in which they are first seen
 pub numbers_by_names : (ns ms : List (List ℕ)) (xs ys : List code.Rule) → All (IsNumberedBy ns) xs → All (IsNumberedBy ms) ys → ns ≡ first_seen (named_rules ns xs) → ms ≡ first_seen (named_rules ms ys) →

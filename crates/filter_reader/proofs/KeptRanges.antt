@@ -1,8 +1,8 @@
 -- What is kept of the ranges of a port column says what they come to.
-use Rattle.std.proofs.Common.{◌≡◌, ◌∷◌, ℕ, ◌<◌, ◌≤◌, List, Bool, true, false, cond, [], ap, refl, sym, subst, ◌∙◌, arith, min, max, nat_lt, length, take}
-use Rattle.std.specs.Prelude.{◌||◌, ◌&&◌, not, nat_le, map, Ok, Err}
+use Rattle.std.proofs.Common.{◌≡◌, ◌∷◌, ℕ, ◌<◌, ◌≤◌, List, Bool, true, false, cond, [], ap, refl, sym, subst, ◌∙◌, arith, min, max, nat_lt, length, take, ◌||◌, ◌&&◌, not, nat_le, map, Ok, Err}
 use Rattle.std.proofs.lemmas.Bool.{ltb-false, lt-ltb, le-ltb, le-leb, or_parts, not-true, not-false}
 use Rattle.std.proofs.lemmas.Bool.Decides.{nat_tests}
+use Rattle.std.proofs.Math.Bool.{or-false}
 use Rattle.std.proofs.lemmas.List.{length-map}
 use Rattle.std.proofs.lemmas.List.Folds.{list_all-map}
 use Rattle.std.specs.List.{list_any, list_all}
@@ -136,12 +136,8 @@ ranges_united ranges r ports sums some few all order values unique =
 abbrev pub alone : Span → Bool → Ranges
 alone s reversed = record { spans = s ∷ []; count = 1; reversed = reversed }
 
-or_no : (b : Bool) → b ≡ (b || false)
-or_no true = refl
-or_no false = refl
-
 pub one_kept : (range seen : Interval) (s : Span) → seen ≡ capped_range range → interval_of s ≡ ordered_range seen → SumsUp (range ∷ []) (alone s (is_reversed seen))
-one_kept range seen s e f = record { count = refl; reversed = or_no (is_reversed seen) ∙ ap (λ (r : Interval). is_reversed r || false) e; spans = λ few. ap (λ (i : Interval). i ∷ []) (f ∙ ap ordered_range e) }
+one_kept range seen s e f = record { count = refl; reversed = sym (or-false (is_reversed seen)) ∙ ap (λ (r : Interval). is_reversed r || false) e; spans = λ few. ap (λ (i : Interval). i ∷ []) (f ∙ ap ordered_range e) }
 
 -- the ports that ranges come to
 abbrev pub HasPortsOf : List Interval → List Interval → Type 0
@@ -149,13 +145,11 @@ HasPortsOf ranges set = RiseApart 0 65535 set × ((v : ℕ) → union_holds v se
 
 ports_by : (ranges set : List Interval) (many above order : Bool) → list_any is_above ranges ≡ above → list_any is_reversed ranges ≡ order →
     cond many (Err TooManyRanges) (cond above (Err PortRange) (cond order (Err PortOrder) (Ok (union_of ranges)))) ≡ Ok set → HasPortsOf ranges set
-ports_by ranges set true above order p q e = absurd (cc)
-ports_by ranges set false true order p q e = absurd (cc)
-ports_by ranges set false false true p q e = absurd (cc)
 ports_by ranges set false false false p q e =
     let are = are_ranges ranges p q in
     let same : union_of ranges ≡ set = cc in
     subst (HasPortsOf ranges) same (union_of-rises ranges are, λ v. union_of-values v ranges are)
+ports_by ranges set many above order p q e = absurd cc
 
 pub ports_are_united : (ranges set : List Interval) → ports_of ranges ≡ Ok set → HasPortsOf ranges set
 unfolding ports_of

@@ -1,15 +1,11 @@
 pub mod AddressTexts
 pub mod Bytes
-pub mod Cuts
-pub mod Decimals
 pub mod FirstNames
-pub mod Found
 pub mod KeptRanges
 pub mod PortColumns
 pub mod PortTexts
 pub mod LineTexts
 pub mod ListTexts
-pub mod Positions
 pub mod ProtocolTexts
 pub mod RangeLists
 pub mod SoFar

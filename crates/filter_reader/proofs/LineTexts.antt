@@ -1,12 +1,12 @@
 -- A rule line is read as it is written.
-use Rattle.std.proofs.Common.{◌≡◌, ◌∷◌, ◌++◌, ℕ, ◌+◌, ◌^◌, ◌<◌, ◌≤◌, List, true, false, [], ap, refl, ◌∙◌, arith, append_assoc, length, length-append, None}
-use Rattle.std.specs.Prelude.{Option, not, Ok, codes, ◌==◌}
+use Rattle.std.proofs.Common.{◌≡◌, ◌∷◌, ◌++◌, ℕ, ◌+◌, ◌^◌, ◌<◌, ◌≤◌, List, true, false, [], ap, refl, ◌∙◌, arith, append_assoc, length, length-append, None, Option, not, Ok, codes, ◌==◌, decimal}
 use Rattle.std.specs.List.{list_all}
-use Rattle.std.specs.Fmt.{decimal}
 use Rattle.std.proofs.lemmas.Bool.{and_parts, and_from, or_parts, not-true}
 use Rattle.field_boxes.specs.Classifier.{Interval}
 use Rattle.filter_reader.specs.Columns.{behind_at, source_column, destination_column, port_column, protocol_column}
-use Rattle.filter_reader.specs.Lines.{is_blank}
+use Rattle.text_lines.specs.Lines.{is_blank}
+use Rattle.text_lines.proofs.Decimals.{decimal-all, is_digit}
+use Rattle.text_lines.proofs.Joins.{all_joined, all_wider}
 use Rattle.filter_reader.specs.ListText.{prefix_text, range_text, ports_text, protocol_text, columns_text}
 use Rattle.filter_reader.specs.Protocols.{is_protocol}
 use Rattle.filter_reader.specs.Ranges.{behind_comma}
@@ -14,8 +14,7 @@ use Rattle.filter_reader.specs.RuleLine.{rule_of_tokens}
 use Rattle.filter_reader.specs.Tokens.{tokens, goes_on, is_mark}
 use Rattle.field_boxes.specs.Unions.{RiseApart}
 use Rattle.filter_reader.proofs.AddressTexts.{ArePrefixTexts}
-use Rattle.filter_reader.proofs.Bytes.{all_joined, all_wider, decimal-all, digit_number, is_line_byte, is_number_byte, number_line, number_plain}
-use Rattle.filter_reader.proofs.Decimals.{is_digit}
+use Rattle.filter_reader.proofs.Bytes.{digit_number, is_line_byte, is_number_byte, number_line, number_plain}
 use Rattle.filter_reader.proofs.PortTexts.{ports_of-same, ranges_of-text, range_tokens, digit_plain}
 use Rattle.filter_reader.proofs.ProtocolTexts.{masked_as, protocol_line, protocol_plain, protocol_some}
 use Rattle.filter_reader.proofs.Spelling.{is_plain, tokens-word, tokens-text}
@@ -140,8 +139,6 @@ pub line_bytes : (s d : Interval) (sp dp : List Interval) (p : Interval) (tail :
     list_all is_line_byte (columns_text (five s d sp dp p) ++ tail) ≡ true
 line_bytes s d sp dp p tail word h t =
     let number = all_wider is_number_byte is_line_byte number_line in
-    let sources = number (prefix_text s) h.source.bytes in
-    let destinations = number (prefix_text d) h.destination.bytes in
     let a = 64 ∷ prefix_text s in
     let b = a ++ 9 ∷ prefix_text d in
     let c = b ++ 9 ∷ ports_text sp in
@@ -150,5 +147,5 @@ line_bytes s d sp dp p tail word h t =
     (all_joined is_line_byte e (9 ∷ protocol_text p)
     (all_joined is_line_byte c (9 ∷ ports_text dp)
     (all_joined is_line_byte b (9 ∷ ports_text sp)
-    (all_joined is_line_byte a (9 ∷ prefix_text d) sources destinations)
+    (all_joined is_line_byte a (9 ∷ prefix_text d) (number (prefix_text s) h.source.bytes) (number (prefix_text d) h.destination.bytes))
     (ports_line 0 sp h.source_ports.rise)) (ports_line 0 dp h.destination_ports.rise)) (protocol_line p h.protocol)) t.bytes

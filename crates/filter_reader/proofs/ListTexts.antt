@@ -1,15 +1,11 @@
 -- Lists are read as they are written.
-use Rattle.std.proofs.Common.{◌≡◌, ◌∷◌, ◌++◌, ℕ, zero, suc, ◌+◌, ◌-◌, ◌<◌, ◌≤◌, List, Bool, true, false, cond, [], ap, refl, sym, ◌∙◌, arith, append_assoc, length, drop, Some, None}
-use Rattle.std.specs.Prelude.{Option, ◌&&◌, ◌||◌, Ok, Result, map, ◌==◌, nat_eq, unwrap_or, if◌then◌else◌}
-use Rattle.std.specs.List.{list_all}
+use Rattle.std.proofs.Common.{◌≡◌, ◌∷◌, ◌++◌, ℕ, zero, suc, ◌+◌, ◌-◌, ◌<◌, ◌≤◌, List, Bool, true, false, cond, [], ap, refl, sym, ◌∙◌, arith, append_assoc, length, drop, Some, None, Option, ◌&&◌, ◌||◌, Ok, Result, map, ◌==◌, nat_eq, unwrap_or, if◌then◌else◌, bytes_eq, All, slice_index_or}
 use Rattle.std.specs.Cmp.Lexicographic.{pointwise}
 use Rattle.std.specs.Char.{is_ascii}
-use Rattle.std.specs.Str.{bytes_eq}
 use Rattle.std.proofs.lemmas.Bool.{and_parts, ne_eqb, eqb-false, not-true}
 use Rattle.std.proofs.lemmas.Slice.Eq.{bytes_eq-Decides}
 use Rattle.std.specs.Coded.{le_prop}
-use Rattle.std.specs.List.{AllByRecursion}
-use Rattle.std.specs.Prelude.{All, slice_index_or}
+use Rattle.std.specs.List.{AllByRecursion, list_all}
 use Rattle.std.proofs.Math.Logic.{∥∥₁_elim}
 use Rattle.std.proofs.lemmas.List.Elements.{recursion_from_All}
 use Rattle.field_boxes.specs.declared.rule.Rule as code
@@ -23,14 +19,14 @@ use Rattle.field_boxes.specs.Unions.{RiseApart}
 use Rattle.filter_reader.specs.FilterRules.{IsFilterRule}
 use Rattle.filter_reader.proofs.AddressTexts.{prefix_texts}
 use Rattle.filter_reader.specs.declared.reason.Reason.{Reason}
-use Rattle.filter_reader.specs.FilterList.{BadLine, FilterList, in_front, list_from, list_of, own_name, text_lines}
-use Rattle.filter_reader.specs.Lines.{without_return}
+use Rattle.filter_reader.specs.FilterList.{BadLine, FilterList, in_front, list_from, list_of, own_name}
+use Rattle.text_lines.specs.Lines.{text_lines, without_return}
+use Rattle.text_lines.proofs.Joins.{all_wider, is_other, lines_of-line}
 use Rattle.filter_reader.specs.ListText.{columns_text, decision_text, list_text, rule_text}
 use Rattle.filter_reader.specs.OwnNames.{HaveNames, IsNameOf}
 use Rattle.filter_reader.specs.RuleLine.{SpelledRule, rule_line}
-use Rattle.filter_reader.proofs.Bytes.{is_line_byte, all_wider}
+use Rattle.filter_reader.proofs.Bytes.{is_line_byte}
 use Rattle.filter_reader.proofs.LineTexts.{ArePortSets, CanSpell, five, line_bytes, rule_of_tokens-text}
-use Rattle.filter_reader.proofs.Spelling.{is_other, lines_of-line}
 use Rattle.filter_reader.proofs.TailTexts.{IsTail, tail_none, tail_word}
 
 all_dropped : (p : ℕ → Bool) (k : ℕ) (xs : List ℕ) → list_all p xs ≡ true → list_all p (drop k xs) ≡ true

@@ -1,6 +1,5 @@
 -- The text of a port column, range by range.
-use Rattle.std.proofs.Common.{◌≡◌, ◌∷◌, ◌++◌, ℕ, ◌≤◌, List, [], ap, sym, arith, length, get_or, drop, append-nil}
-use Rattle.std.specs.List.{flat_map}
+use Rattle.std.proofs.Common.{◌≡◌, ◌∷◌, ◌++◌, ℕ, ◌≤◌, List, [], ap, sym, arith, length, get_or, drop, append-nil, flat_map}
 use Rattle.field_boxes.specs.declared.span.Span.{Span}
 use Rattle.field_boxes.specs.Spans.{interval_of, intervals_of}
 use Rattle.filter_reader.specs.ListText.{ports_text, range_text}

@@ -1,8 +1,6 @@
 -- Port columns are read as they are written.
-use Rattle.std.proofs.Common.{◌≡◌, ◌∷◌, ◌++◌, ℕ, ◌+◌, ◌^◌, ◌<◌, ◌≤◌, List, true, false, [], ap, refl, ◌∙◌, arith, append_assoc, length, Some, None, nat_lt}
-use Rattle.std.specs.Prelude.{Ok, codes}
+use Rattle.std.proofs.Common.{◌≡◌, ◌∷◌, ◌++◌, ℕ, ◌+◌, ◌^◌, ◌<◌, ◌≤◌, List, true, false, [], ap, refl, ◌∙◌, arith, append_assoc, length, Some, None, nat_lt, Ok, codes, decimal}
 use Rattle.std.specs.List.{list_any}
-use Rattle.std.specs.Fmt.{decimal}
 use Rattle.std.proofs.lemmas.Bool.{lt-ltb, le-ltb, or_from}
 use Rattle.std.proofs.lemmas.Fmt.{decimal_nonempty}
 use Rattle.field_boxes.specs.Classifier.{Interval}
@@ -11,8 +9,8 @@ use Rattle.filter_reader.specs.Ranges.{first_range, behind_comma}
 use Rattle.filter_reader.specs.Tokens.{tokens, goes_on}
 use Rattle.filter_reader.specs.ListText.{range_text, ports_text}
 use Rattle.field_boxes.specs.Unions.{RiseApart}
-use Rattle.filter_reader.proofs.Bytes.{decimal-all, digit_number, number_plain}
-use Rattle.filter_reader.proofs.Decimals.{is_number-decimal, number_of-decimal, is_digit}
+use Rattle.filter_reader.proofs.Bytes.{digit_number, number_plain}
+use Rattle.text_lines.proofs.Decimals.{decimal-all, is_number-decimal, number_of-decimal, is_digit}
 use Rattle.filter_reader.proofs.RangeLists.{ranges_by_first, by_comma, by_first}
 use Rattle.filter_reader.proofs.Spelling.{tokens-text, is_plain}
 
@@ -61,11 +59,10 @@ with_interval-first i j js h = rw (lt-ltb (i.hi + 1) j.lo (omega arith)) refl
 
 -- intervals that rise with gaps are their own union
 pub union_of-same : (low top : ℕ) (set : List Interval) → RiseApart low top set → union_of set ≡ set
-union_of-same low top [] rise = refl
-union_of-same low top (i ∷ []) rise = refl
 union_of-same low top (i ∷ j ∷ set) rise =
     let after = rise.3 in
     ap (with_interval i) (union_of-same (i.hi + 2) top (j ∷ set) after) ∙ with_interval-first i j set after.0
+union_of-same low top set rise = refl
 
 none_above : (low : ℕ) (set : List Interval) → RiseApart low 65535 set → list_any is_above set ≡ false
 none_above low [] rise = refl

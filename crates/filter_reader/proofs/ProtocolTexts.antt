@@ -1,6 +1,5 @@
 -- Protocols are read as they are written.
-use Rattle.std.proofs.Common.{◌≡◌, ◌∷◌, ◌++◌, ℕ, ◌/◌, ◌%◌, ◌<◌, ◌≤◌, List, true, [], refl, sym, subst, arith, length, Some, inl, inr}
-use Rattle.std.specs.Prelude.{◌&&◌, Ok, codes, nat_le, ◌==◌, ◌⊎◌}
+use Rattle.std.proofs.Common.{◌≡◌, ◌∷◌, ◌++◌, ℕ, ◌/◌, ◌%◌, ◌<◌, ◌≤◌, List, true, [], refl, sym, subst, arith, length, Some, inl, inr, ◌&&◌, Ok, codes, nat_le, ◌==◌, ◌⊎◌}
 use Rattle.std.specs.List.{list_all}
 use Rattle.std.specs.Char.{digit_value}
 use Rattle.std.specs.Fmt.{digit_glyph}
@@ -10,9 +9,10 @@ use Rattle.filter_reader.specs.Columns.{under_mask}
 use Rattle.filter_reader.specs.ListText.{protocol_text}
 use Rattle.filter_reader.specs.Protocols.{is_protocol}
 use Rattle.filter_reader.specs.Masks.{hex_number, value_and_mask}
-use Rattle.filter_reader.specs.Numbers.{is_number, number_of, number_within, short_number}
+use Rattle.text_lines.specs.Numbers.{is_number, number_of, number_within, short_number}
+use Rattle.text_lines.proofs.Joins.{split_once-joined, is_other}
 use Rattle.filter_reader.proofs.Bytes.{is_line_byte}
-use Rattle.filter_reader.proofs.Spelling.{split_once-joined, is_other, is_plain}
+use Rattle.filter_reader.proofs.Spelling.{is_plain}
 
 abbrev glyph : ℕ → ℕ
 glyph d = digit_glyph true d

@@ -1,7 +1,5 @@
 -- The ranges of a port column, one after another.
-use Rattle.std.proofs.Common.{◌≡◌, ◌∷◌, ◌++◌, ℕ, List, Bool, true, false, cond, [], ap, refl, sym, subst, ◌∙◌, append_assoc, Some, None}
-use Rattle.std.specs.Prelude.{Option, unwrap_or, option_map, option_and_then}
-use Rattle.std.specs.Str.{bytes_eq}
+use Rattle.std.proofs.Common.{◌≡◌, ◌∷◌, ◌++◌, ℕ, List, Bool, true, false, cond, [], ap, refl, sym, subst, ◌∙◌, append_assoc, Some, None, Option, unwrap_or, option_map, option_and_then, bytes_eq}
 use Rattle.field_boxes.specs.Classifier.{Interval}
 use Rattle.filter_reader.specs.Ports.{ranges_of, range_of, range_before}
 use Rattle.filter_reader.specs.Ranges.{first_range, behind_comma, capped_first, capped_range}
@@ -38,11 +36,9 @@ range_then next tokens (Some range) = more_ranges next tokens range (bytes_eq ne
 -- the ranges, by the first of them
 pub ranges_by_first : (tokens : List (List ℕ)) → ranges_of tokens ≡ by_first (first_range tokens)
 unfolding first_range
-ranges_by_first [] = refl
-ranges_by_first (lo ∷ []) = refl
-ranges_by_first (lo ∷ mark ∷ []) = refl
 ranges_by_first (lo ∷ mark ∷ hi ∷ []) = one_range (range_of lo mark hi)
 ranges_by_first (lo ∷ mark ∷ hi ∷ next ∷ tokens) = range_then next tokens (range_of lo mark hi)
+ranges_by_first tokens = refl
 
 -- one more range is in front of the rest
 pub behind_one_more : (front : List Interval) (range : Interval) (o : Option (List Interval × List (List ℕ))) → behind_ranges front (range_before range o) ≡ behind_ranges (front ++ range ∷ []) o

@@ -1,12 +1,9 @@
 -- A rule joins those of a list that were read so far.
-use Rattle.std.proofs.Common.{◌≡◌, ◌∷◌, ◌++◌, ℕ, ◌+◌, ◌<◌, ◌≤◌, List, Bool, true, false, cond, [], ap, refl, sym, subst, ◌∙◌, arith, add-zero, add_comm, length, Some, None}
+use Rattle.std.proofs.Common.{◌≡◌, ◌∷◌, ◌++◌, ℕ, ◌+◌, ◌<◌, ◌≤◌, List, Bool, true, false, cond, [], ap, refl, sym, subst, ◌∙◌, arith, add-zero, add_comm, length, Some, None, All, Option, option_copied, unwrap_or, IsTrue, IfSome, Bor, bytes_eq}
 use Rattle.std.proofs.Math.Nat.{le_trans}
-use Rattle.std.specs.Prelude.{All, Option, option_copied, unwrap_or, if◌then◌else◌, IsTrue, IfSome}
-use Rattle.std.specs.Borrow.{Bor}
 use Rattle.std.specs.Int.{from_bool}
 use Rattle.std.specs.List.{AllByRecursion}
-use Rattle.std.specs.Str.{bytes_eq}
-use Rattle.std.proofs.lemmas.Bool.{or_left, or_right}
+use Rattle.std.proofs.lemmas.Bool.{or_left, or_right, cond_both}
 use Rattle.std.proofs.lemmas.List.{map-append, length-map, length-append}
 use Rattle.std.proofs.lemmas.List.Elements.{recursion_from_All, All-push, All-weaker}
 use Rattle.std.proofs.lemmas.List.Sums.{fold-append}
@@ -31,7 +28,7 @@ use Rattle.filter_reader.specs.Reading.{read_so_far, with_rule}
 abbrev pub KeepsNames : List (List ℕ) → List (List ℕ) → Type 0
 KeepsNames old new = (k : ℕ) → k ≤ length old → name_at new k ≡ name_at old k
 
-same_rules : (old new : List (List ℕ)) → KeepsNames old new → (rules : List code.Rule) → AllByRecursion (IsNumberedBy old) rules → named_rules new rules ≡ named_rules old rules
+pub same_rules : (old new : List (List ℕ)) → KeepsNames old new → (rules : List code.Rule) → AllByRecursion (IsNumberedBy old) rules → named_rules new rules ≡ named_rules old rules
 same_rules old new keeps [] h = refl
 same_rules old new keeps (r ∷ rules) h =
     ap (λ (o : Option (List ℕ)). let rule : Rule (List ℕ) = record { sets = sets_of r; decision = text_of o } in rule ∷ named_rules new rules) (keeps r.decision h.0.1)
@@ -49,32 +46,34 @@ one_more old new rules r name numbered keeps at =
 abbrev pub name_of_line : LineRule → ℕ → List ℕ
 name_of_line rule k = unwrap_or (option_copied rule.word) (own_name k)
 
+-- what interning the name of a line's rule gives
+pub record IsInterned (old new : List (List ℕ)) (name : List ℕ) (n : ℕ) : Type 0 where
+  pub names : new ≡ with_name old name
+  pub number : name_at new n ≡ Some name
+  pub within : (0 < n) × (n ≤ length new)
+  pub kept : KeepsNames old new
+
 -- a rule that joins those that were read so far
 pub record Joins (old new : List (List ℕ)) (rules : List code.Rule) (rule : LineRule) (r : code.Rule) : Type 0 where
   pub sets : sets_of r ≡ (spelled_rule rule).sets
-  pub names : new ≡ with_name old (name_of_line rule (length rules + 1))
-  pub number : name_at new r.decision ≡ Some (name_of_line rule (length rules + 1))
-  pub within : (0 < r.decision) × (r.decision ≤ length new)
-  pub kept : KeepsNames old new
+  pub interned : IsInterned old new (name_of_line rule (length rules + 1)) r.decision
 
 -- the rules with one more
 rules_with : (old new : List (List ℕ)) (rules : List code.Rule) (rule : LineRule) (r : code.Rule) → All (IsNumberedBy old) rules → Joins old new rules rule r →
     named_rules new (rules ++ r ∷ []) ≡ named_rules old rules ++ named (length rules + 1) (spelled_rule rule) ∷ []
 rules_with old new rules rule r numbered joins =
     let name = name_of_line rule (length rules + 1) in
-    one_more old new rules r name numbered joins.kept joins.number
+    one_more old new rules r name numbered joins.interned.kept joins.interned.number
     ∙ ap (λ sets. let x : Rule (List ℕ) = record { sets = sets; decision = name } in named_rules old rules ++ x ∷ []) joins.sets
 
 read_with : (old new : List (List ℕ)) (rules : List code.Rule) (flagged flag : ℕ) (rule : LineRule) (r : code.Rule) → All (IsNumberedBy old) rules → Joins old new rules rule r → flag ≡ flags_of (spelled_rule rule) →
     read_so_far new (rules ++ r ∷ []) (flagged + flag) ≡ with_rule (read_so_far old rules flagged) (spelled_rule rule)
 read_with old new rules flagged flag rule r numbered joins e = rw (length-map rules (named_rule old), rules_with old new rules rule r numbered joins, e) refl
 
-longer_by : (names : List (List ℕ)) (name : List ℕ) (t : Bool) → (length names ≤ length (if t then names else names ++ name ∷ [])) × (length (if t then names else names ++ name ∷ []) ≤ length names + 1)
-longer_by names name true = (omega arith, omega arith)
-longer_by names name false = (simp length-append (omega arith), simp length-append (omega arith))
-
-with_name-longer : (names : List (List ℕ)) (name : List ℕ) → (length names ≤ length (with_name names name)) × (length (with_name names name) ≤ length names + 1)
-with_name-longer names name = longer_by names name (is_known names name)
+pub with_name-longer : (names : List (List ℕ)) (name : List ℕ) → (length names ≤ length (with_name names name)) × (length (with_name names name) ≤ length names + 1)
+with_name-longer names name =
+    cond_both (is_known names name) names (names ++ name ∷ []) (λ new. (length names ≤ length new) × (length new ≤ length names + 1)) (λ e. (omega arith, omega arith))
+    (λ e. (simp length-append (omega arith), simp length-append (omega arith)))
 
 have_more : (k : ℕ) (rules : List (Rule (List ℕ))) (rule : Rule (List ℕ)) → HaveNames k rules → IsNameOf (k + length rules) rule.decision → HaveNames k (rules ++ rule ∷ [])
 have_more k [] rule h e = (rw add-zero at e, tt)
@@ -92,22 +91,22 @@ so_far_with : (old new : List (List ℕ)) (rules : List code.Rule) (flagged flag
 so_far_with old new rules flagged flag rule r so line filter joins room flags =
     let name = name_of_line rule (length rules + 1) in
     let longer = with_name-longer old name in
-    let low : length old ≤ length new = rw joins.names longer.0 in
-    let high : length new ≤ length old + 1 = rw joins.names longer.1 in
+    let low : length old ≤ length new = rw joins.interned.names longer.0 in
+    let high : length new ≤ length old + 1 = rw joins.interned.names longer.1 in
     let fewer_names = so.fewer_names in
     let fewer_flags = so.fewer_flags in
     let more : length (rules ++ r ∷ []) ≡ length rules + 1 = simp length-append refl in
     let joined = rules_with old new rules rule r so.numbered joins in
     let before = named_rules old rules in
     let seen : new ≡ first_seen (before ++ named (length rules + 1) (spelled_rule rule) ∷ []) =
-    joins.names ∙ ap (λ names. with_name names name) so.seen ∙ sym (fold-append (λ (names : List (List ℕ)) (x : Rule (List ℕ)). with_name names x.decision) [] before (named (length rules + 1) (spelled_rule rule) ∷ [])) in
+    joins.interned.names ∙ ap (λ names. with_name names name) so.seen ∙ sym (fold-append (λ (names : List (List ℕ)) (x : Rule (List ℕ)). with_name names x.decision) [] before (named (length rules + 1) (spelled_rule rule) ∷ [])) in
     let place : length rules + 1 ≡ 1 + length before = add_comm (length rules) 1 ∙ ap (λ n. 1 + n) (sym (length-map rules (named_rule old))) in
     record {
       few = omega arith;
       fewer_names = omega arith;
       fewer_flags = omega arith;
       spelled = All-push IsFilterRule rules r so.spelled filter;
-      numbered = All-push (IsNumberedBy new) rules r (All-weaker (IsNumberedBy old) (IsNumberedBy new) (λ x p. (p.0, le_trans p.1 low)) rules so.numbered) joins.within;
+      numbered = All-push (IsNumberedBy new) rules r (All-weaker (IsNumberedBy old) (IsNumberedBy new) (λ x p. (p.0, le_trans p.1 low)) rules so.numbered) joins.interned.within;
       seen = seen ∙ ap first_seen (sym joined);
       named = subst (HaveNames 1) (sym joined) (have_more 1 before (named (length rules + 1) (spelled_rule rule)) so.named (subst (λ n. IsNameOf n name) place (fits_by rule.word (length rules + 1) line.word)));
     }
@@ -132,26 +131,16 @@ pub record IsRuleOf (rule : LineRule) (r : code.Rule) : Type 0 where
 same_sets : (rule : LineRule) (r : code.Rule) → IsRuleOf rule r → sets_of r ≡ (spelled_rule rule).sets
 same_sets rule r same = rw (same.source, same.destination, same.ports, same.protocol) refl
 
--- what interning the name of a line's rule gives
-pub record IsInterned (old new : List (List ℕ)) (name : List ℕ) (n : ℕ) : Type 0 where
-  pub names : new ≡ with_name old name
-  pub number : name_at new n ≡ Some name
-  pub within : (0 < n) × (n ≤ length new)
-  pub kept : KeepsNames old new
-
-joins_by : (old new : List (List ℕ)) (rules : List code.Rule) (rule : LineRule) (r : code.Rule) → IsRuleOf rule r → IsInterned old new (name_of_line rule (length rules + 1)) r.decision → Joins old new rules rule r
-joins_by old new rules rule r same interned = record { sets = same_sets rule r same; names = interned.names; number = interned.number; within = interned.within; kept = interned.kept }
-
 -- the list with a rule that was pushed
 pub read_pushed : {old new : List (List ℕ)} {rules items : List code.Rule} {r : code.Rule} → items ≡ rules ++ r ∷ [] → (flagged flag : ℕ) (rule : LineRule) → IsListSoFar old rules flagged → IsRuleOf rule r →
     IsInterned old new (name_of_line rule (length rules + 1)) r.decision → flag ≡ flags_of (spelled_rule rule) → read_so_far new items (flagged + flag) ≡ with_rule (read_so_far old rules flagged) (spelled_rule rule)
 read_pushed {old} {new} {rules} {items} {r} pushed flagged flag rule so same interned e =
-    rw pushed (read_with old new rules flagged flag rule r so.numbered (joins_by old new rules rule r same interned) e)
+    rw pushed (read_with old new rules flagged flag rule r so.numbered (record { sets = same_sets rule r same; interned = interned }) e)
 
 pub so_far_pushed : {old new : List (List ℕ)} {rules items : List code.Rule} {r : code.Rule} → items ≡ rules ++ r ∷ [] → (flagged flag : ℕ) (rule : LineRule) → IsListSoFar old rules flagged → IsLineRule rule → IsRuleOf rule r →
     IsInterned old new (name_of_line rule (length rules + 1)) r.decision → length rules < 65536 → flag ≤ 1 → IsListSoFar new items (flagged + flag)
 so_far_pushed {old} {new} {rules} {items} {r} pushed flagged flag rule so line same interned room e =
-    rw pushed (so_far_with old new rules flagged flag rule r so line (filter_rule rule r line same.source same.destination same.ports same.protocol) (joins_by old new rules rule r same interned) room e)
+    rw pushed (so_far_with old new rules flagged flag rule r so line (filter_rule rule r line same.source same.destination same.ports same.protocol) (record { sets = same_sets rule r same; interned = interned }) room e)
 
 -- a flag as a number
 pub flag_counts : (flag : Bool) → (from_bool flag ≡ cond flag 1 0) × (from_bool flag ≤ 1)

@@ -1,31 +1,9 @@
--- Texts are cut and parted again where they were joined.
-use Rattle.std.proofs.Common.{◌≡◌, ◌∷◌, ◌++◌, ℕ, ◌<◌, List, Bool, true, false, [], ap, refl, ◌∙◌, arith, length, Some}
-use Rattle.std.specs.Prelude.{◌&&◌, not, option_map, ◌==◌}
+-- Texts are parted again where they were joined.
+use Rattle.std.proofs.Common.{◌≡◌, ◌∷◌, ◌++◌, ℕ, ◌<◌, List, Bool, true, false, [], ap, refl, ◌∙◌, arith, length, ◌&&◌, not}
 use Rattle.std.specs.List.{list_all, onto_first}
-use Rattle.std.proofs.lemmas.Bool.{and_parts, not-true, eq-eqb}
-use Rattle.filter_reader.specs.Lines.{is_blank, lines_of}
-use Rattle.filter_reader.specs.Optional.{split_once}
+use Rattle.std.proofs.lemmas.Bool.{and_parts, not-true}
+use Rattle.text_lines.specs.Lines.{is_blank}
 use Rattle.filter_reader.specs.Tokens.{tokens, is_mark, goes_on}
-use Rattle.filter_reader.proofs.Cuts.{split_once-cons}
-
--- a byte that is not the separator
-abbrev pub is_other : ℕ → ℕ → Bool
-is_other separator b = not (b == separator)
-
--- a text without a separator, and then the separator and a rest
-pub split_once-joined : (separator : ℕ) (text rest : List ℕ) → list_all (is_other separator) text ≡ true → split_once separator (text ++ separator ∷ rest) ≡ Some (text, rest)
-split_once-joined separator [] rest h = rw (split_once-cons separator separator rest, eq-eqb separator separator refl) refl
-split_once-joined separator (b ∷ text) rest h =
-    let parts = and_parts (is_other separator b) (list_all (is_other separator) text) h in
-    rw (split_once-cons separator b (text ++ separator ∷ rest), not-true (b == separator) parts.0)
-    (ap (option_map {U = List ℕ × List ℕ} (λ p. (b ∷ p.0, p.1))) (split_once-joined separator text rest parts.1))
-
--- a line, and then its end and a rest
-pub lines_of-line : (line rest : List ℕ) → list_all (is_other 10) line ≡ true → lines_of (line ++ 10 ∷ rest) ≡ line ∷ lines_of rest
-lines_of-line [] rest h = refl
-lines_of-line (b ∷ line) rest h =
-    let parts = and_parts (is_other 10 b) (list_all (is_other 10) line) h in
-    rw (not-true (b == 10) parts.0) (ap (onto_first b) (lines_of-line line rest parts.1))
 
 -- a byte of a word
 abbrev pub is_plain : ℕ → Bool

@@ -1,15 +1,14 @@
 -- What stands behind a rule's columns is read as it is written: a decision word or nothing.
-use Rattle.std.proofs.Common.{◌≡◌, ◌∷◌, ℕ, ◌<◌, List, Bool, true, false, [], ap, refl, sym, ◌∙◌, arith, append-nil, length, Some, None, inl, inr}
-use Rattle.std.specs.Prelude.{Option, ◌&&◌, ◌||◌, not, Ok, ◌==◌, nat_le}
+use Rattle.std.proofs.Common.{◌≡◌, ◌∷◌, ℕ, ◌<◌, List, Bool, true, false, [], ap, refl, sym, ◌∙◌, arith, append-nil, length, Some, None, inl, inr, Option, ◌&&◌, ◌||◌, not, Ok, ◌==◌, nat_le, bytes_eq}
 use Rattle.std.specs.List.{list_all, list_any}
-use Rattle.std.specs.Str.{bytes_eq}
 use Rattle.std.proofs.lemmas.Bool.{agree_below_at, and_parts, or_cases, or_from, not-true, not_from_true, leb-true, false≢true}
 use Rattle.std.proofs.lemmas.Bool.Decides.{nat_tests}
 use Rattle.field_boxes.specs.Names.{is_word_byte, has_word_form, is_decision_word, miss}
 use Rattle.filter_reader.specs.Columns.{flags_column, decision_column, decision_of}
 use Rattle.filter_reader.specs.Tokens.{tokens, goes_on}
-use Rattle.filter_reader.proofs.Bytes.{is_line_byte, all_wider}
-use Rattle.filter_reader.proofs.Spelling.{is_other, is_plain, tokens-text}
+use Rattle.filter_reader.proofs.Bytes.{is_line_byte}
+use Rattle.text_lines.proofs.Joins.{all_wider, is_other}
+use Rattle.filter_reader.proofs.Spelling.{is_plain, tokens-text}
 
 -- a byte of a word is of ASCII
 word_low : (b : ℕ) → is_word_byte b ≡ true → b < 128
@@ -42,8 +41,7 @@ none_equal c (b ∷ text) h =
 word_form : (name : List ℕ) → has_word_form name ≡ true → (0 < length name) × (list_all is_word_byte name ≡ true)
 word_form name h =
     let outer = and_parts (nat_le 1 (length name) && nat_le (length name) 32) (list_all is_word_byte name) h in
-    let inner = and_parts (nat_le 1 (length name)) (nat_le (length name) 32) outer.0 in
-    (leb-true 1 (length name) inner.0, outer.1)
+    (leb-true 1 (length name) (and_parts (nat_le 1 (length name)) (nat_le (length name) 32) outer.0).0, outer.1)
 
 -- what stands behind the columns, with a decision word or none
 pub record IsTail (tail : List ℕ) (word : Option (List ℕ)) : Type 0 where

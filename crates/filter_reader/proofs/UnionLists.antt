@@ -1,28 +1,17 @@
 -- Unions of intervals, one interval after another.
-use Rattle.std.proofs.Common.{◌≡◌, ◌∷◌, ℕ, ◌+◌, ◌<◌, ◌≤◌, List, Bool, true, false, cond, [], ap, refl, ◌∙◌, arith, min, max, nat_lt}
-use Rattle.std.specs.Prelude.{◌||◌}
-use Rattle.std.proofs.lemmas.Bool.{ltb-true, ltb-false}
+use Rattle.std.proofs.Common.{◌≡◌, ◌∷◌, ℕ, ◌+◌, ◌<◌, ◌≤◌, List, Bool, true, false, cond, [], ap, refl, ◌∙◌, arith, min, max, nat_lt, ◌||◌, ltb-true, ltb-false, sym}
 use Rattle.std.proofs.lemmas.Bool.Decides.{nat_tests}
+use Rattle.std.proofs.Math.Bool.{or_assoc, or_comm}
 use Rattle.field_boxes.specs.Classifier.{Interval, interval_holds, union_holds}
 use Rattle.field_boxes.specs.Unions.{RiseApart}
 use Rattle.filter_reader.specs.Ports.{with_interval, union_of}
+use Rattle.field_boxes.proofs.Unions.{weaken}
 
 abbrev hull : Interval → Interval → Interval
 hull i j = record { lo = min i.lo j.lo; hi = max i.hi j.hi }
 
 or_swap : (a b c : Bool) → (a || (b || c)) ≡ (b || (a || c))
-or_swap true true c = refl
-or_swap true false c = refl
-or_swap false true c = refl
-or_swap false false c = refl
-
-or_assoc : (a b c : Bool) → ((a || b) || c) ≡ (a || (b || c))
-or_assoc true b c = refl
-or_assoc false b c = refl
-
-weaken : (low higher top : ℕ) (is : List Interval) → low ≤ higher → RiseApart higher top is → RiseApart low top is
-weaken low higher top [] h rise = tt
-weaken low higher top (i ∷ is) h rise = let at = rise.0 in (omega arith, rise.1, rise.2, rise.3)
+or_swap a b c = sym (or_assoc a b c) ∙ ap (λ t. t || c) (or_comm a b) ∙ or_assoc b a c
 
 rises_step : (low top : ℕ) (i j : Interval) (js : List Interval) (s t : Bool) → nat_lt (i.hi + 1) j.lo ≡ s → nat_lt (j.hi + 1) i.lo ≡ t →
     low ≤ i.lo → i.lo ≤ i.hi → i.hi ≤ top → RiseApart low top (j ∷ js) →

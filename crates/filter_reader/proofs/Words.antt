@@ -1,24 +1,10 @@
--- Where the first token of a line begins and ends.
-use Rattle.std.proofs.Common.{◌≡◌, ◌∷◌, ℕ, ◌+◌, List, Bool, true, false, cond, [], ap, refl, take, drop, add-one, Some, None}
-use Rattle.std.specs.Prelude.{position, Option, option_map, not, ◌||◌, ◌&&◌, MatchOption, IsTrue}
+-- Where the first token of a line ends.
+use Rattle.std.proofs.Common.{◌≡◌, ◌∷◌, ℕ, ◌+◌, List, Bool, true, false, cond, [], ap, refl, take, drop, add-one, Some, None, position, Option, option_map, not, ◌||◌, ◌&&◌, MatchOption}
 use Rattle.std.specs.List.{onto_first}
 use Rattle.std.proofs.lemmas.Bool.{false≢true}
-use Rattle.filter_reader.specs.Lines.{is_blank}
-use Rattle.filter_reader.specs.Tokens.{tokens, begins_token, goes_on, is_mark}
-use Rattle.filter_reader.proofs.Positions.{position-cons}
-
--- what the place of the first byte that isn't blank says of the tokens
-abbrev pub BeginsAt : List ℕ → Option ℕ → Type 0
-BeginsAt line o = MatchOption o (tokens line ≡ []) (λ i. (tokens line ≡ tokens (drop i line)) × IsTrue (begins_token (drop i line)))
-
-begins_step : (b : ℕ) (line : List ℕ) (t : Bool) (o : Option ℕ) → is_blank b ≡ t → BeginsAt line o → BeginsAt (b ∷ line) (cond (not t) (Some 0) (option_map (λ i. i + 1) o))
-begins_step b line true None e h = rw e h
-begins_step b line true (Some i) e h = rw (e, add-one) h
-begins_step b line false o e h = (refl, ap not e)
-
-pub begins_at : (line : List ℕ) → BeginsAt line (position (λ b. not (is_blank b)) line)
-begins_at [] = refl
-begins_at (b ∷ line) = rw (position-cons (λ c. not (is_blank c)) b line) (begins_step b line (is_blank b) (position (λ c. not (is_blank c)) line) refl (begins_at line))
+use Rattle.text_lines.specs.Lines.{is_blank}
+use Rattle.text_lines.proofs.Positions.{position-cons}
+use Rattle.filter_reader.specs.Tokens.{tokens, goes_on, is_mark}
 
 -- what the place of the first byte that ends a word says of the tokens
 abbrev pub EndsAt : List ℕ → Option ℕ → Type 0
@@ -35,9 +21,8 @@ longer b text (Some n) h = rw (add-one n) (ap (onto_first b) h)
 -- a word ends
 last : (b c : ℕ) (text : List ℕ) (blank mark : Bool) → is_blank c ≡ blank → is_mark c ≡ mark → (not blank && not mark) ≡ false →
     MatchOption (option_map (λ i. i + 1) (cond (blank || mark) (Some 0) (option_map (λ i. i + 1) (end_of text)))) ((b ∷ []) ∷ tokens (c ∷ text) ≡ (b ∷ c ∷ text) ∷ []) (λ n. (b ∷ []) ∷ tokens (c ∷ text) ≡ take n (b ∷ c ∷ text) ∷ tokens (drop n (b ∷ c ∷ text)))
-last b c text true mark p q h = refl
-last b c text false true p q h = refl
 last b c text false false p q h = absurd (cc)
+last b c text blank mark p q h = refl
 
 -- a byte of a word in front of what it stands before
 before_more : (b : ℕ) (text : List ℕ) (t : Bool) → goes_on text ≡ t → (t ≡ true → EndsAt text (end_of text)) →

@@ -1,8 +1,9 @@
 -- Addresses and the sets of those that agree in their first bits.
 use Rattle.std.specs.Prelude.{ℕ, ◌+◌, ◌*◌, ◌-◌, ◌/◌, ◌^◌, List, Option, Some}
 use Rattle.field_boxes.specs.Classifier.{Interval}
-use Rattle.filter_reader.specs.Optional.{◌>>=◌, split_once}
-use Rattle.filter_reader.specs.Numbers.{short_number}
+use Rattle.text_lines.specs.Cuts.{split_once}
+use Rattle.text_lines.specs.Numbers.{short_number}
+use Rattle.text_lines.specs.Steps.{◌>>=◌}
 
 -- a.b.c.d, each of one to three digits and at most 255
 unfoldable pub address_of : List ℕ → Option ℕ

@@ -7,8 +7,8 @@ use Rattle.field_boxes.specs.Classifier.{Interval}
 use Rattle.field_boxes.specs.Names.{has_word_form, miss}
 use Rattle.filter_reader.specs.declared.reason.Reason.{Reason}
 use Rattle.filter_reader.specs.declared.reason.Reason.TheVariants.{NoAt, Address, Length, PortForm, ProtocolForm, ProtocolMask, FlagsForm, DecisionForm, Reserved, Extra}
-use Rattle.filter_reader.specs.Fallible.{◌>>=◌}
-use Rattle.filter_reader.specs.Optional.{parts_at}
+use Rattle.text_lines.specs.Fallible.{◌>>=◌}
+use Rattle.text_lines.specs.Cuts.{parts_at}
 use Rattle.filter_reader.specs.Tokens.{first_token}
 use Rattle.filter_reader.specs.Addresses.{address_of, length_of, agreeing}
 use Rattle.filter_reader.specs.Ports.{ranges_of, ports_of}

@@ -1,9 +1,9 @@
 -- The text of a filter list: what its lines come to.
-use Rattle.std.specs.Prelude.{ℕ, ◌+◌, List, [], ◌∷◌, map, unwrap_or, Result, Ok, Err, if◌then◌else◌}
+use Rattle.std.specs.Prelude.{ℕ, ◌+◌, List, [], ◌∷◌, unwrap_or, Result, Ok, Err, if◌then◌else◌}
 use Rattle.std.specs.Fmt.{decimal}
 use Rattle.field_boxes.specs.Classifier.{Rule}
 use Rattle.filter_reader.specs.declared.reason.Reason.{Reason}
-use Rattle.filter_reader.specs.Lines.{lines_of, without_return, is_skipped}
+use Rattle.text_lines.specs.Lines.{is_skipped, text_lines}
 use Rattle.filter_reader.specs.RuleLine.{SpelledRule, rule_line}
 
 -- a list: rules with the names of their decisions, and how many of them are flagged
@@ -40,10 +40,6 @@ list_from number before [] = Ok (record { rules = []; flagged = 0 })
 list_from number before (line ∷ lines) =
     if is_skipped line then list_from (number + 1) before lines
     else in_front number (before + 1) (rule_line before line) (list_from (number + 1) (before + 1) lines)
-
--- the lines of a text, each less one carriage return at its end
-abbrev pub text_lines : List ℕ → List (List ℕ)
-text_lines text = map without_return (lines_of text)
 
 -- the list that a text spells, or its first bad line
 abbrev pub list_of : List ℕ → Result FilterList BadLine

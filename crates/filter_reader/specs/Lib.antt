@@ -1,7 +1,3 @@
-pub mod Optional
-pub mod Fallible
-pub mod Numbers
-pub mod Lines
 pub mod Tokens
 pub mod Addresses
 pub mod Ports

@@ -1,7 +1,8 @@
 -- Two hexadecimal numbers, a value and its mask: '0xP/0xM'.
 use Rattle.std.specs.Prelude.{ℕ, ◌==◌, ◌&&◌, ◌||◌, List, [], ◌∷◌, Option, Some, None, if◌then◌else◌}
-use Rattle.filter_reader.specs.Optional.{◌>>=◌, split_once}
-use Rattle.filter_reader.specs.Numbers.{short_number}
+use Rattle.text_lines.specs.Cuts.{split_once}
+use Rattle.text_lines.specs.Numbers.{short_number}
+use Rattle.text_lines.specs.Steps.{◌>>=◌}
 
 -- '0x' or '0X', and hexadecimal digits, at most so many: a number that is no greater than this
 unfoldable pub hex_number : ℕ → ℕ → List ℕ → Option ℕ

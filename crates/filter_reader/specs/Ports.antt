@@ -2,11 +2,12 @@
 use Rattle.std.specs.Prelude.{ℕ, ◌+◌, nat_lt, min, max, Bool, ◌&&◌, ◌||◌, List, [], ◌∷◌, length, Option, Some, None, option_map, Result, Ok, Err, if◌then◌else◌}
 use Rattle.std.specs.List.{list_any}
 use Rattle.std.specs.Str.{bytes_eq}
+use Rattle.razor_base.specs.declared.limits.TheConstants.{GREATEST_PORT, MOST_RANGES}
 use Rattle.field_boxes.specs.Classifier.{Interval}
 use Rattle.filter_reader.specs.declared.reason.Reason.{Reason}
 use Rattle.filter_reader.specs.declared.reason.Reason.TheVariants.{PortOrder, PortRange, TooManyRanges}
-use Rattle.filter_reader.specs.Numbers.{is_number, number_of}
-use Rattle.filter_reader.specs.Optional.{◌>>=◌}
+use Rattle.text_lines.specs.Numbers.{is_number, number_of}
+use Rattle.text_lines.specs.Steps.{◌>>=◌}
 
 -- digits, ':' and digits
 unfoldable pub range_of : List ℕ → List ℕ → List ℕ → Option Interval
@@ -29,7 +30,7 @@ ranges_of (lo ∷ mark ∷ hi ∷ next ∷ tokens) = do
 
 -- a number of the range is no port
 abbrev pub is_above : Interval → Bool
-is_above range = nat_lt 65535 range.lo || nat_lt 65535 range.hi
+is_above range = nat_lt GREATEST_PORT range.lo || nat_lt GREATEST_PORT range.hi
 
 -- the range begins above its end
 abbrev pub is_reversed : Interval → Bool
@@ -51,7 +52,7 @@ union_of (i ∷ is) = with_interval i (union_of is)
 -- the ports that the ranges come to
 unfoldable pub ports_of : List Interval → Result (List Interval) Reason
 ports_of ranges =
-    if nat_lt 16 (length ranges) then Err TooManyRanges
+    if nat_lt MOST_RANGES (length ranges) then Err TooManyRanges
     else (if list_any is_above ranges then Err PortRange
     else (if list_any is_reversed ranges then Err PortOrder
     else Ok (union_of ranges)))

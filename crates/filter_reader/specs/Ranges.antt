@@ -7,7 +7,7 @@ use Rattle.field_boxes.specs.Classifier.{Interval}
 use Rattle.field_boxes.specs.Spans.{interval_of}
 use Rattle.filter_reader.specs.declared.range.Range.{Range}
 use Rattle.filter_reader.specs.declared.ranges.Ranges.{Ranges}
-use Rattle.filter_reader.specs.Optional.{◌>>=◌}
+use Rattle.text_lines.specs.Steps.{◌>>=◌}
 use Rattle.filter_reader.specs.Tokens.{first_token, tokens}
 use Rattle.filter_reader.specs.Ports.{range_of, is_reversed}
 

@@ -7,7 +7,7 @@ use Rattle.filter_reader.specs.declared.list.ListError.TheVariants as errors
 use Rattle.filter_reader.specs.declared.take.LineError.{LineError}
 use Rattle.filter_reader.specs.declared.take.LineError.TheVariants as line_errors
 use Rattle.filter_reader.specs.FilterList.{FilterList, BadLine, flags_of, named}
-use Rattle.filter_reader.specs.Lines.{is_skipped}
+use Rattle.text_lines.specs.Lines.{is_skipped}
 use Rattle.field_boxes.specs.NamedRules.{named_rules}
 use Rattle.filter_reader.specs.RuleLine.{SpelledRule, rule_line}
 

@@ -2,10 +2,11 @@
 use Rattle.std.specs.Prelude.{ℕ, ◌==◌, Bool, not, List, [], ◌∷◌, Option, Result, Ok, Err, if◌then◌else◌}
 use Rattle.std.specs.List.{list_all}
 use Rattle.std.specs.Char.{is_ascii}
+use Rattle.razor_base.specs.declared.limits.TheConstants.{MOST_RULES}
 use Rattle.field_boxes.specs.Classifier.{Interval}
 use Rattle.filter_reader.specs.declared.reason.Reason.{Reason}
 use Rattle.filter_reader.specs.declared.reason.Reason.TheVariants.{TooManyRules, NotAscii}
-use Rattle.filter_reader.specs.Fallible.{◌>>=◌}
+use Rattle.text_lines.specs.Fallible.{◌>>=◌}
 use Rattle.filter_reader.specs.Tokens.{tokens}
 use Rattle.filter_reader.specs.Columns.{source_column, destination_column, port_column, protocol_column, flags_column, decision_column, end_of_line}
 
@@ -32,13 +33,9 @@ rule_of_tokens line = do
     flagged = flags.0;
   })
 
--- the greatest number of rules
-abbrev pub most_rules : ℕ
-most_rules = 65536
-
 -- a line that isn't skipped, with so many rules before it: what it spells, or the first reason why it is bad
 unfoldable pub rule_line : ℕ → List ℕ → Result SpelledRule Reason
 rule_line before line =
-    if before == most_rules then Err TooManyRules
+    if before == MOST_RULES then Err TooManyRules
     else (if not (list_all is_ascii line) then Err NotAscii
     else rule_of_tokens (tokens line))

@@ -1,7 +1,7 @@
 -- The tokens of a line: blanks part them, and each ':' and each ',' is one by itself.
 use Rattle.std.specs.Prelude.{ℕ, ◌==◌, Bool, false, not, ◌&&◌, ◌||◌, List, [], ◌∷◌, Option, Some, None, if◌then◌else◌}
 use Rattle.std.specs.List.{onto_first}
-use Rattle.filter_reader.specs.Lines.{is_blank}
+use Rattle.text_lines.specs.Lines.{is_blank}
 
 -- ':' or ','
 abbrev pub is_mark : ℕ → Bool
@@ -23,8 +23,3 @@ tokens (b ∷ text) =
 abbrev pub first_token : List (List ℕ) → Option (List ℕ × List (List ℕ))
 first_token [] = None
 first_token (token ∷ more) = Some (token, more)
-
--- whether a token stands right at the front of the text
-abbrev pub begins_token : List ℕ → Bool
-begins_token [] = false
-begins_token (b ∷ text) = not (is_blank b)

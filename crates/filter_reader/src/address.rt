@@ -7,11 +7,10 @@ ghost use Rattle.filter_reader.specs.Columns.{behind_at, destination_column, pre
 ghost use Rattle.filter_reader.specs.Tokens.{tokens};
 ghost use Rattle.filter_reader.specs.Views.{column_by};
 
-use crate::number::short_number;
 use crate::reason::Reason;
-use crate::separator::{parts_at, split_once};
 use crate::token::next_token;
 use field_boxes::Prefix;
+use text_lines::{parts_at, short_number, split_once};
 
 /// The address that `a.b.c.d` writes, each of one to three digits and at most 255.
 #[tactic(auto, unfolding(crate::specs::Addresses::address_of))]

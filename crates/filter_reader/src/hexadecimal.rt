@@ -2,8 +2,7 @@
 ghost use Rattle.std.specs.Prelude.{◌≡◌, ◌≤◌, IfSome};
 ghost use Rattle.filter_reader.specs.Masks.{hex_number, value_and_mask};
 
-use crate::number::short_number;
-use crate::separator::split_once;
+use text_lines::{short_number, split_once};
 
 /// The number that `0x` and at most so many hexadecimal digits write; none where it is above `greatest`.
 #[tactic(auto, unfolding(crate::specs::Masks::hex_number))]

@@ -1,5 +1,6 @@
 //! Laws of the definitions, for whoever relies on them. The functions do nothing.
 ghost use Rattle.std.specs.Prelude.{◌≡◌, ◌≤◌, ℕ, List, All, Ok, length, map};
+ghost use Rattle.razor_base.specs.declared.limits.TheConstants.{GREATEST_PORT, MOST_RULES};
 ghost use Rattle.field_boxes.specs.Classifier.{Interval, union_holds};
 ghost use Rattle.field_boxes.specs.NamedRules.{named_rules};
 ghost use Rattle.field_boxes.specs.Unions.{RiseApart};
@@ -16,13 +17,13 @@ ghost use Rattle.filter_reader.specs.declared.list.RuleList.{RuleList};
 /// The ports that ranges come to are those in one of the ranges, as intervals between which ports are
 /// missing.
 pub fn ports_are_those_of_the_ranges()
-    ensures { (ranges set : List Interval) → ports_of ranges ≡ Ok set → RiseApart 0 65535 set × ((v : ℕ) → union_holds v set ≡ union_holds v ranges) }
+    ensures { (ranges set : List Interval) → ports_of ranges ≡ Ok set → RiseApart 0 GREATEST_PORT set × ((v : ℕ) → union_holds v set ≡ union_holds v ranges) }
 {}
 
 /// The text of rules spells the same sets and the same names, and no flags, where each rule is named by a
 /// decision word or by its own number.
 pub fn written_rules_are_read()
-    ensures { (names : List (List ℕ)) (rules : List Rule) → All IsFilterRule rules → length rules ≤ 65536 → HaveNames 1 (named_rules names rules) →
+    ensures { (names : List (List ℕ)) (rules : List Rule) → All IsFilterRule rules → length rules ≤ MOST_RULES → HaveNames 1 (named_rules names rules) →
         list_of (list_text (named_rules names rules)) ≡ Ok (record { rules = named_rules names rules; flagged = 0 }) }
 {}
 

@@ -1,5 +1,6 @@
 //! The rule of a line.
 ghost use Rattle.std.specs.Prelude.{◌≡◌, ◌≢◌, IfOk, OnOk};
+ghost use Rattle.razor_base.specs.declared.limits.TheConstants.{MOST_RULES};
 ghost use Rattle.filter_reader.specs.LineRules.{IsLineRule, spelled_line};
 ghost use Rattle.filter_reader.specs.RuleLine.{rule_line, rule_of_tokens};
 ghost use Rattle.filter_reader.specs.Tokens.{tokens};
@@ -7,14 +8,12 @@ ghost use Rattle.filter_reader.specs.Tokens.{tokens};
 use crate::address::{destination_column, source_column};
 use crate::decision::{decision_column, end_of_line};
 use crate::flags::flags_column;
-use crate::lines::is_ascii_line;
 use crate::port::port_column;
 use crate::protocol::protocol_column;
 use crate::reason::Reason;
 use field_boxes::{Ports, Span};
-
-/// As many rules as a list may have.
-const MOST_RULES: usize = 65_536;
+use razor_base::limits::MOST_RULES;
+use text_lines::is_ascii_line;
 
 /// What a rule line spells.
 ///
@@ -72,9 +71,9 @@ fn rule_of_columns(line: &[u8]) -> Result<LineRule<'_>, Reason>
 pub fn rule_of_line(line: &[u8], before: usize) -> Result<LineRule<'_>, Reason>
     ensures read { spelled_line result ≡ rule_line before line.now }
     ensures rule { IfOk result IsLineRule }
-    ensures room { OnOk result (before ≢ 65536) }
+    ensures room { OnOk result (before ≢ MOST_RULES) }
 {
-    if before == MOST_RULES {
+    if before == MOST_RULES as usize {
         return Err(Reason::TooManyRules);
     }
     if !is_ascii_line(line) {

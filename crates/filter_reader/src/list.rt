@@ -1,5 +1,6 @@
 //! A filter list as it was read, and why one was refused.
 ghost use Rattle.std.specs.Prelude.{◌≤◌, vec_len, All};
+ghost use Rattle.razor_base.specs.declared.limits.TheConstants.{MOST_RULES};
 ghost use Rattle.field_boxes.specs.NamedRules.{IsNumberedBy};
 ghost use Rattle.filter_reader.specs.FilterRules.{IsFilterRule};
 
@@ -16,7 +17,7 @@ pub struct RuleList {
     pub rules: Vec<Rule>,
     pub names: Decisions,
     pub flagged: u64,
-    pub ghost few: { vec_len rules ≤ 65536 },
+    pub ghost few: { vec_len rules ≤ MOST_RULES },
     pub ghost spelled: { All IsFilterRule rules.items },
     pub ghost numbered: { All (IsNumberedBy names) rules.items },
 }

@@ -1,6 +1,7 @@
 //! The text of a rule's protocols.
 ghost use Rattle.std.specs.Prelude.{◌≡◌, ◌<◌, ◌≤◌, ◌∷◌, true};
 ghost use Rattle.std.specs.Fmt.{digit_glyph};
+ghost use Rattle.razor_base.specs.declared.limits.TheConstants.{GREATEST_PROTOCOL};
 ghost use Rattle.razor_base.specs.Output.{Puts};
 ghost use Rattle.field_boxes.specs.Spans.{interval_of};
 ghost use Rattle.filter_reader.specs.ListText.{protocol_text};
@@ -18,7 +19,7 @@ fn glyph(digit: u8) -> u8
 
 /// The protocols as `0xP/0xM`: one with the mask FF, or every one.
 fn protocol_bytes(span: &Span) -> [u8; 9]
-    requires { span.now.hi ≤ 255 }
+    requires { span.now.hi ≤ GREATEST_PROTOCOL }
     ensures { result ≡ protocol_text (interval_of span.now) }
 {
     if span.lo != span.hi {
@@ -40,7 +41,7 @@ fn protocol_bytes(span: &Span) -> [u8; 9]
 
 /// Puts a tab and the protocols.
 pub fn put_protocol<K: Sink>(span: &Span, pending: &mut Pending, out: &mut K) -> Result<(), Failed>
-    requires { span.now.hi ≤ 255 }
+    requires { span.now.hi ≤ GREATEST_PROTOCOL }
     ensures { Puts K.written K.faults out.old out.new pending.old pending.new (9 ∷ protocol_text (interval_of span.now)) result }
 {
     let bytes = protocol_bytes(span);

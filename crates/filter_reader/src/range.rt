@@ -1,14 +1,14 @@
 //! One range of a port column.
 ghost use Rattle.std.specs.Prelude.{◌≡◌, ◌<◌, length, min, option_map, Option, Some, None, IfSome, if◌then◌else◌};
 ghost use Rattle.std.specs.Option.{option_copied};
-ghost use Rattle.filter_reader.specs.Numbers.{is_number, number_of};
+ghost use Rattle.text_lines.specs.Numbers.{is_number, number_of};
 ghost use Rattle.filter_reader.specs.Ranges.{behind_comma, capped_first, first_range, seen_range};
 ghost use Rattle.filter_reader.specs.Tokens.{tokens};
 
-use crate::number::number_up_to;
 use crate::reason::Reason;
 use crate::token::{from_token, next_token};
 use field_boxes::{Ports, Span, laws};
+use text_lines::number_up_to;
 
 /// The two numbers of a range of ports, each 65,536 where it is greater.
 #[derive(Clone, Copy)]

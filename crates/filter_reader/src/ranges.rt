@@ -9,12 +9,13 @@ ghost use Rattle.filter_reader.specs.Tokens.{tokens};
 use crate::range::{Range, behind_comma, first_range};
 use crate::reason::Reason;
 use field_boxes::{Ports, Span, laws};
+use razor_base::limits::MOST_RANGES;
 
 /// What is kept of the ranges of a port column.
 #[derive(Clone, Copy)]
 pub struct Ranges {
     /// The first 16 ranges, each with its lesser number first.
-    spans: [Span; 16],
+    spans: [Span; MOST_RANGES],
     /// How many ranges there are, or 17 where there are more.
     count: usize,
     /// Whether a range begins above its end.
@@ -27,7 +28,7 @@ impl Ranges {
         ensures { SumsUp [] result }
     {
         Ranges {
-            spans: [Span { lo: 0, hi: 0 }; 16],
+            spans: [Span { lo: 0, hi: 0 }; MOST_RANGES],
             count: 0,
             reversed: false,
         }
@@ -38,7 +39,7 @@ impl Ranges {
         ensures { (ranges : List Interval) (next : Interval) → SumsUp ranges self.old → range_view range ≡ capped_range next → SumsUp (ranges ++ next ∷ []) self.new }
     {
         self.reversed |= range.hi < range.lo;
-        if self.count >= 16 {
+        if self.count >= MOST_RANGES {
             self.count = 17;
             return;
         }
@@ -52,7 +53,7 @@ impl Ranges {
         ensures ports { IfOk result ArePorts }
     {
         laws::unions_are_values();
-        if self.count > 16 {
+        if self.count > MOST_RANGES {
             return Err(Reason::TooManyRanges);
         }
         let Some(ports) = Ports::of(&self.spans[..self.count]) else {

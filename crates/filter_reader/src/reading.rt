@@ -6,11 +6,11 @@ ghost use Rattle.filter_reader.specs.Lists.{filter_list};
 ghost use Rattle.filter_reader.specs.OwnNames.{HaveNames};
 ghost use Rattle.filter_reader.specs.Reading.{BecomesListError, IsListRefused};
 
-use crate::lines::next_line;
 use crate::list::{ListError, RuleList};
 use crate::take::{LineError, take_line};
 use field_boxes::Decisions;
 use std::alloc::Global;
+use text_lines::next_line;
 
 /// The error of the list whose line of this number was refused.
 fn at_line(error: LineError, line: u64) -> ListError

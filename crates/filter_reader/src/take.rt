@@ -1,5 +1,6 @@
 //! Taking the next line of a list.
 ghost use Rattle.std.specs.Prelude.{◌≡◌, ◌≤◌, ◌<◌, ◌+◌, ℕ, length, vec_len, All, IfOk, IfSome, IsTrue, MatchResult, Ok, OnOk, OnErr, Some, option_copied, unwrap_or};
+ghost use Rattle.razor_base.specs.declared.limits.TheConstants.{MOST_RULES, MOST_ENTRIES};
 ghost use Rattle.field_boxes.specs.Names.{is_decision_word, name_at, with_name};
 ghost use Rattle.filter_reader.specs.FilterList.{own_name};
 ghost use Rattle.filter_reader.specs.Growing.{IsListSoFar};
@@ -8,11 +9,11 @@ ghost use Rattle.filter_reader.specs.Reading.{IsLineRefused, read_so_far, with_l
 ghost use Rattle.filter_reader.specs.declared.take.LineError.TheVariants.{Memory as out_of_memory};
 
 use crate::line::{LineRule, rule_of_line};
-use crate::lines::is_skipped;
 use crate::reason::Reason;
 use field_boxes::{Decisions, Rule};
 use razor_base::Memory;
 use std::alloc::Global;
+use text_lines::is_skipped;
 
 /// Why a line was not taken, before its number is known.
 #[derive(Clone, Copy)]
@@ -37,8 +38,8 @@ fn number_of_decision(
     names: &mut Decisions,
 ) -> Result<u32, Memory>
     requires word { IfSome word (λ w. IsTrue (is_decision_word w.now)) }
-    requires rule { rule ≤ 65536 }
-    requires room { length names.old < 262144 }
+    requires rule { rule ≤ MOST_RULES }
+    requires room { length names.old < MOST_ENTRIES }
     ensures names { OnOk result (names.new ≡ with_name names.old (unwrap_or (option_copied word.entry) (own_name rule))) }
     ensures number { IfOk result (λ n. name_at names.new n ≡ Some (unwrap_or (option_copied word.entry) (own_name rule))) }
     ensures within { IfOk result (λ n. (0 < n) × (n ≤ length names.new)) }
@@ -63,7 +64,7 @@ fn add_rule(
     flagged: &mut u64,
 ) -> Result<(), Memory>
     requires rule { IsLineRule rule }
-    requires room { vec_len rules.old < 65536 }
+    requires room { vec_len rules.old < MOST_RULES }
     requires so_far { IsListSoFar names.old rules.old.items flagged.old }
     ensures read { OnOk result (read_so_far names.new rules.new.items flagged.new ≡ with_rule (read_so_far names.old rules.old.items flagged.old) (spelled_rule rule.entry)) }
     ensures so_far { OnOk result (IsListSoFar names.new rules.new.items flagged.new) }

@@ -1,27 +1,16 @@
 //! The tokens of a line.
-ghost use Rattle.std.specs.Prelude.{◌≡◌, ◌<◌, ◌≤◌, ◌∷◌, ◌||◌, [], length, take, drop, option_map, position, not, IfSome, IsTrue, MatchOption};
-ghost use Rattle.filter_reader.specs.Lines.{is_blank};
-ghost use Rattle.filter_reader.specs.Tokens.{begins_token, is_mark, first_token, tokens};
+ghost use Rattle.std.specs.Prelude.{◌≡◌, ◌<◌, ◌≤◌, ◌∷◌, ◌||◌, [], length, take, drop, option_map, position, IfSome, IsTrue, MatchOption};
+ghost use Rattle.text_lines.specs.Columns.{begins_column};
+ghost use Rattle.text_lines.specs.Lines.{is_blank};
+ghost use Rattle.filter_reader.specs.Tokens.{is_mark, first_token, tokens};
 
-/// Whether the byte is a space or a tab.
-pub fn is_blank(byte: u8) -> bool
-    ensures { result ≡ is_blank byte }
-{
-    byte == b' ' || byte == b'\t'
-}
+use text_lines::{column_start, is_blank};
 
 /// Whether the byte is a token by itself.
 fn is_mark(byte: u8) -> bool
     ensures { result ≡ is_mark byte }
 {
     byte == b':' || byte == b','
-}
-
-/// The place of the first byte that isn't blank.
-fn first_place(text: &[u8]) -> Option<usize>
-    ensures { result ≡ position (λ b. not (is_blank b)) text.now }
-{
-    text.iter().position(|&byte| !is_blank(byte))
 }
 
 /// The place of the first byte that is blank or a mark.
@@ -34,10 +23,10 @@ fn end_of_word(text: &[u8]) -> Option<usize>
 
 /// The line from its first token on; none where no token is left.
 pub fn from_token(line: &[u8]) -> Option<&[u8]>
-    ensures token { MatchOption result (tokens line.now ≡ []) (λ text. (tokens line.now ≡ tokens text.now) × IsTrue (begins_token text.now)) }
+    ensures token { MatchOption result (tokens line.now ≡ []) (λ text. (tokens line.now ≡ tokens text.now) × IsTrue (begins_column text.now)) }
     ensures within { IfSome result (λ text. length text.now ≤ length line.now) }
 {
-    match first_place(line) {
+    match column_start(line) {
         Some(place) => Some(&line[place..]),
         None => None,
     }
@@ -45,7 +34,7 @@ pub fn from_token(line: &[u8]) -> Option<&[u8]>
 
 /// How many bytes the token that the text begins with has.
 fn token_len(text: &[u8]) -> usize
-    requires { IsTrue (begins_token text.now) }
+    requires { IsTrue (begins_column text.now) }
     ensures token { tokens text.now ≡ take result text.now ∷ tokens (drop result text.now) }
     ensures some { 0 < result }
     ensures within { result ≤ length text.now }

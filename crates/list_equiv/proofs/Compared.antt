@@ -1,84 +1,84 @@
--- Two lists compared by common numbers.
-use Rattle.std.proofs.Common.{◌≡◌, ℕ, List, ap, refl, sym, subst, ◌∙◌, Some, None}
-use Rattle.std.specs.Prelude.{Option, IfSome, IsNone, MatchOption}
-use Rattle.std.proofs.lemmas.List.Elements.{recursion_from_All}
+-- Two sides compared by common numbers.
+use Rattle.std.proofs.Common.{◌≡◌, ℕ, ◌≤◌, List, ap, sym, subst, ◌∙◌, length, Some, None}
+use Rattle.std.specs.Prelude.{Option, MatchOption, ◌↔◌}
+use Rattle.std.proofs.lemmas.List.Elements.{recursion_from_All, All-weaker}
 use Rattle.field_boxes.specs.declared.rule.Rule as code
 use Rattle.field_boxes.specs.Fields.{stated, AreValues, IsHeader}
-use Rattle.field_boxes.specs.Classifier.{source}
 use Rattle.field_boxes.specs.NamedRules.{IsNumberedBy}
-use Rattle.field_boxes.specs.Names.{name_at, AreDistinct}
+use Rattle.field_boxes.specs.Names.{name_at, AreNames}
 use Rattle.filter_reader.specs.declared.list.RuleList.{RuleList}
+use Rattle.filter_reader.specs.Lists.{name_decided}
 use Rattle.node_store.specs.Diagram.{Node, answer}
 use Rattle.fdd_build.specs.Rules.{decided}
-use Rattle.fdd_ops.specs.Difference.{IsLeastDifference}
-use Rattle.list_equiv.specs.Names.{Keeps}
-use Rattle.list_equiv.specs.Numbering.{AreNumbered}
-use Rattle.list_equiv.specs.Numbers.{AreAlike, IsFirstApart}
-use Rattle.list_equiv.specs.Verdict.{name_decided, AreEqual, IsFirstDifference}
-use Rattle.fdd_build.proofs.Decided.{named, within}
-use Rattle.list_equiv.proofs.Renumbered.{stays}
+use Rattle.fdd_build.proofs.Decided.{named}
+use Rattle.field_boxes.specs.Alike.{AreAlike, IsFirstDifference}
+use Rattle.list_equiv.specs.declared.verdict.Verdict.{Verdict}
+use Rattle.list_equiv.specs.declared.verdict.Verdict.TheVariants.{Equal, Differ}
+use Rattle.list_equiv.specs.Names.{AreWithin, name_of, common_number}
+use Rattle.list_equiv.specs.Verdict.{IsNumberOf, IsVerdict}
+use Rattle.list_equiv.proofs.Common.{common, own-number}
+use Rattle.list_equiv.proofs.Decided.{within}
 
--- two lists whose rules have the numbers of common names
-pub record HaveCommonNumbers (left right : RuleList) (left_rules right_rules : List code.Rule) : Type 0 where
-  pub names : List (List ℕ)
-  pub distinct : AreDistinct names
-  pub left_numbered : AreNumbered names left left_rules
-  pub right_numbered : AreNumbered names right right_rules
-
--- the right list's names come behind those of the left
-pub common_numbers : (old new : List (List ℕ)) (left right : RuleList) (left_items right_items ls rs : List code.Rule) → AreDistinct new → Keeps old new → AreNumbered old left left_items → AreNumbered new right right_items →
-    ls ≡ left_items → rs ≡ right_items → HaveCommonNumbers left right ls rs
-common_numbers old new left right left_items right_items ls rs distinct keeps l r same_left same_right = record {
-  names = new;
-  distinct = distinct;
-  left_numbered = subst (AreNumbered new left) (sym same_left) (stays old new left left_items keeps l);
-  right_numbered = subst (AreNumbered new right) (sym same_right) r;
-}
-
-name_of : (names : List (List ℕ)) (list : RuleList) (rules : List code.Rule) → AreNumbered names list rules → (header : List ℕ) → name_decided list header ≡ name_at names (decided stated rules header)
-name_of names list rules n header =
-    ap (source stated header) (sym n.same) ∙ named stated names rules header (recursion_from_All (IsNumberedBy names) rules n.numbered)
-
-same_name : (left right : RuleList) (ls rs : List code.Rule) → HaveCommonNumbers left right ls rs → (header : List ℕ) → decided stated ls header ≡ decided stated rs header → name_decided left header ≡ name_decided right header
-same_name left right ls rs c header e =
-    name_of c.names left ls c.left_numbered header ∙ ap (name_at c.names) e ∙ sym (name_of c.names right rs c.right_numbered header)
-
-same_number : (left right : RuleList) (ls rs : List code.Rule) → HaveCommonNumbers left right ls rs → (header : List ℕ) → name_decided left header ≡ name_decided right header → decided stated ls header ≡ decided stated rs header
-same_number left right ls rs c header e =
-    c.distinct (decided stated ls header) (decided stated rs header)
-    (within stated c.names ls header (recursion_from_All (IsNumberedBy c.names) ls c.left_numbered.numbered))
-    (within stated c.names rs header (recursion_from_All (IsNumberedBy c.names) rs c.right_numbered.numbered))
-    (sym (name_of c.names left ls c.left_numbered header) ∙ e ∙ name_of c.names right rs c.right_numbered header)
-
-pub are_equal : (left right : RuleList) (ls rs : List code.Rule) → HaveCommonNumbers left right ls rs → AreAlike ls rs → AreEqual left right
-are_equal left right ls rs c alike = λ header h. same_name left right ls rs c header (alike header h)
-
-pub first_difference : (left right : RuleList) (ls rs : List code.Rule) (header : List ℕ) → HaveCommonNumbers left right ls rs → IsFirstApart ls rs header → IsFirstDifference left right header
-first_difference left right ls rs header c first = record {
+-- two functions are alike, or first differ, where two others do
+pub by_others : {X A B : Type 0} (values : X → List ℕ) (f g : List ℕ → A) (h k : List ℕ → B) (o : Option X) →
+    ((header : List ℕ) → IsHeader header → (f header ≡ g header) ↔ (h header ≡ k header)) →
+    MatchOption o (AreAlike f g) (λ x. IsFirstDifference f g (values x)) → MatchOption o (AreAlike h k) (λ x. IsFirstDifference h k (values x))
+by_others values f g h k None tell alike = λ header is. (tell header is).0 (alike header is)
+by_others values f g h k (Some x) tell first = record {
   in_fields = first.in_fields;
-  differ = λ e. first.apart (same_number left right ls rs c header e);
-  least = λ values h before. same_name left right ls rs c values (first.least values h before);
+  differ = λ e. first.differ ((tell (values x) first.in_fields).1 e);
+  least = λ others is before. (tell others is).0 (first.least others is before);
 }
 
--- the node answers what the rules decide
-abbrev pub Answers : List Node → ℕ → List code.Rule → Type 0
-Answers nodes id rules = (header : List ℕ) → IsHeader header → answer nodes id header ≡ decided stated rules header
+-- the node answers the common number of what the rules decide
+abbrev pub AnswersCommon : List Node → ℕ → List (List ℕ) → List (List ℕ) → List code.Rule → Type 0
+AnswersCommon nodes id names others rules = (header : List ℕ) → IsHeader header → answer nodes id header ≡ common_number names others (decided stated rules header)
 
--- so does one that answers it in an order which is the stated one
-pub in_order : (order : List ℕ) (nodes : List Node) (id : ℕ) (rules : List code.Rule) → order ≡ stated →
-    ((values : List ℕ) → AreValues order values → answer nodes id values ≡ decided order rules values) → Answers nodes id rules
-in_order order nodes id rules is h = λ header ok. h header (subst (λ o. AreValues o header) (sym is) ok) ∙ ap (λ o. decided o rules header) is
+-- so does that of rules that decide it, in an order which is the stated one
+pub in_order : (order : List ℕ) (nodes : List Node) (id : ℕ) (names others : List (List ℕ)) (rules made seen : List code.Rule) → order ≡ stated → seen ≡ made →
+    ((values : List ℕ) → AreValues order values → answer nodes id values ≡ decided order seen values) →
+    ((header : List ℕ) → IsHeader header → decided stated made header ≡ common_number names others (decided stated rules header)) → AnswersCommon nodes id names others rules
+in_order order nodes id names others rules made seen is same h decides = λ header ok.
+    h header (subst (λ o. AreValues o header) (sym is) ok) ∙ ap (λ o. decided o seen header) is ∙ ap (λ rs. decided stated rs header) same ∙ decides header ok
 
-first_by : (nodes : List Node) (a b : ℕ) (ls rs : List code.Rule) (header : List ℕ) → Answers nodes a ls → Answers nodes b rs → IsLeastDifference nodes a b header → IsFirstApart ls rs header
-first_by nodes a b ls rs header la rb first = record {
-  in_fields = first.in_fields;
-  apart = λ e. first.differ (la header first.in_fields ∙ e ∙ sym (rb header first.in_fields));
-  least = λ values h before. sym (la values h) ∙ first.least values h before ∙ rb values h;
+-- two diagrams of common numbers answer alike exactly where the rules decide one name
+pub tell_apart : (nodes : List Node) (a b : ℕ) (names others : List (List ℕ)) (left right : List code.Rule) → AreNames names → AreNames others →
+    AreWithin names left → AreWithin others right → AnswersCommon nodes a names others left → AnswersCommon nodes b others others right → (header : List ℕ) → IsHeader header →
+    (answer nodes a header ≡ answer nodes b header) ↔ (name_of names left header ≡ name_of others right header)
+tell_apart nodes a b names others left right n o l r am ar header is =
+    let first = am header is in
+    let second = ar header is ∙ own-number others o (decided stated right header) (within others right header r) in
+    let same = common names others n o (decided stated left header) (decided stated right header) (within names left header l) (within others right header r) in
+    ((λ e. same.0 (sym first ∙ e ∙ second)), λ e. first ∙ same.1 e ∙ sym second)
+
+-- what the rules decide on a header has the number that they decide
+pub number_of_name : (names : List (List ℕ)) (rules : List code.Rule) (header : List ℕ) (n : ℕ) → AreWithin names rules → n ≡ decided stated rules header → IsNumberOf names (name_of names rules header) n
+number_of_name names rules header n h e = record {
+  within = subst (λ k. k ≤ length names) (sym e) (within names rules header h);
+  is = ap (name_at names) e;
 }
 
--- the difference of the nodes is that of the rules
-pub difference : {X : Type 0} (values : X → List ℕ) (nodes : List Node) (a b : ℕ) (ls rs : List code.Rule) (o : Option X) → Answers nodes a ls → Answers nodes b rs →
-    IfSome o (λ x. IsLeastDifference nodes a b (values x)) → (IsNone o → (header : List ℕ) → IsHeader header → answer nodes a header ≡ answer nodes b header) →
-    MatchOption o (AreAlike ls rs) (λ x. IsFirstApart ls rs (values x))
-difference values nodes a b ls rs None la rb some none = λ header h. sym (la header h) ∙ none refl header h ∙ rb header h
-difference values nodes a b ls rs (Some x) la rb some none = first_by nodes a b ls rs (values x) la rb some
+-- a verdict on two that give the same names
+pub verdict_as : (names others : List (List ℕ)) (f g h k : List ℕ → Option (List ℕ)) (verdict : Verdict) → ((header : List ℕ) → IsHeader header → f header ≡ h header) →
+    ((header : List ℕ) → IsHeader header → g header ≡ k header) → IsVerdict names others f g verdict → IsVerdict names others h k verdict
+verdict_as names others f g h k Equal p q v = λ header is. sym (p header is) ∙ v header is ∙ q header is
+verdict_as names others f g h k (Differ header first second) p q v = record {
+  least = record {
+    in_fields = v.least.in_fields;
+    differ = λ e. v.least.differ (p header.values v.least.in_fields ∙ e ∙ sym (q header.values v.least.in_fields));
+    least = λ values is before. sym (p values is) ∙ v.least.least values is before ∙ q values is;
+  };
+  left_number = record { within = v.left_number.within; is = v.left_number.is ∙ p header.values v.least.in_fields };
+  right_number = record { within = v.right_number.within; is = v.right_number.is ∙ q header.values v.least.in_fields };
+}
+
+-- the rules of a list give its names
+pub list_names : (list : RuleList) (rules : List code.Rule) → rules ≡ list.rules.items → (header : List ℕ) → name_of list.names rules header ≡ name_decided list header
+list_names list rules same header =
+    ap (λ rs. name_of list.names rs header) same
+    ∙ sym (named stated list.names list.rules.items header (recursion_from_All (IsNumberedBy list.names) list.rules.items list.numbered))
+
+pub list_within : (list : RuleList) (rules : List code.Rule) → rules ≡ list.rules.items → AreWithin list.names rules
+list_within list rules same =
+    subst (AreWithin list.names) (sym same)
+    (All-weaker (IsNumberedBy list.names) (λ (r : code.Rule). r.decision ≤ length list.names) (λ r h. h.1) list.rules.items list.numbered)

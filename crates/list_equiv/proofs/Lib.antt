@@ -1,4 +1,4 @@
-pub mod Kept
+pub mod Common
 pub mod Renumbered
 pub mod Decided
 pub mod Compared

@@ -1,68 +1,56 @@
--- Rules whose names get other numbers.
-use Rattle.std.proofs.Common.{◌≡◌, ◌∷◌, ◌++◌, ℕ, ◌+◌, ◌<◌, ◌≤◌, List, [], ap, refl, sym, subst, ◌∙◌, length, get_or, take, Some}
-use Rattle.std.proofs.Math.Nat.{le_trans}
-use Rattle.std.specs.Prelude.{All, Option}
-use Rattle.std.specs.List.{AllByRecursion}
+-- Rules of common numbers, and what they decide.
+use Rattle.std.proofs.Common.{◌≡◌, ◌∷◌, ◌++◌, ℕ, ◌+◌, ◌<◌, List, [], Bool, true, false, cond, Some, ap, refl, sym, ◌∙◌, length, get_or, take}
+use Rattle.std.specs.Prelude.{find, map, option_map, unwrap_or}
 use Rattle.std.proofs.lemmas.List.{map-append, take_more}
-use Rattle.std.proofs.lemmas.List.Elements.{recursion_from_All, All-push, All-weaker}
 use Rattle.field_boxes.specs.declared.rule.Rule as code
-use Rattle.field_boxes.specs.Classifier.{Rule, Interval}
-use Rattle.field_boxes.specs.NamedRules.{IsNumberedBy, named_rule, named_rules}
-use Rattle.field_boxes.specs.Names.{name_at, text_of}
-use Rattle.field_boxes.specs.Rules.{sets_of}
-use Rattle.filter_reader.specs.declared.list.RuleList.{RuleList}
-use Rattle.list_equiv.specs.Names.{Keeps}
-use Rattle.list_equiv.specs.Numbering.{AreNumbered}
+use Rattle.field_boxes.specs.Classifier.{Rule, matches, source}
+use Rattle.field_boxes.specs.Fields.{stated}
+use Rattle.field_boxes.specs.Rules.{rule_of}
+use Rattle.field_boxes.proofs.SameSets.{matches_by_sets}
+use Rattle.fdd_build.specs.Rules.{decided}
+use Rattle.fdd_build.proofs.Decided.{decided_head}
+use Rattle.list_equiv.specs.Names.{common_number, common_rule}
 
-same_by : (old new : List (List ℕ)) → Keeps old new → (rules : List code.Rule) → AllByRecursion (IsNumberedBy old) rules → named_rules new rules ≡ named_rules old rules
-same_by old new keeps [] h = refl
-same_by old new keeps (r ∷ rules) h =
-    ap (λ (o : Option (List ℕ)). let rule : Rule (List ℕ) = record { sets = sets_of r; decision = text_of o } in rule ∷ named_rules new rules) (keeps.kept r.decision h.0.1)
-    ∙ ap (λ rs. named_rule old r ∷ rs) (same_by old new keeps rules h.1)
+-- with one more rule
+pub pushed : {more : List code.Rule} (last : code.Rule) (names others : List (List ℕ)) (made items : List code.Rule) (r : code.Rule) (i : ℕ) → more ≡ made ++ last ∷ [] → i < length items → r ≡ get_or items i r →
+    rule_of last ≡ common_rule names others r → map rule_of made ≡ map (common_rule names others) (take i items) → map rule_of more ≡ map (common_rule names others) (take (i + 1) items)
+pushed last names others made items r i e less is same before =
+    ap (map rule_of) e
+    ∙ map-append rule_of made (last ∷ [])
+    ∙ ap (λ rs. rs ++ rule_of last ∷ []) before
+    ∙ ap (λ (x : Rule ℕ). map (common_rule names others) (take i items) ++ x ∷ []) same
+    ∙ sym (map-append (common_rule names others) (take i items) (r ∷ []))
+    ∙ ap (map (common_rule names others)) (ap (λ (x : code.Rule). take i items ++ x ∷ []) is ∙ sym (take_more items i r less))
 
-same_rules : (old new : List (List ℕ)) → Keeps old new → (rules : List code.Rule) → All (IsNumberedBy old) rules → named_rules new rules ≡ named_rules old rules
-same_rules old new keeps rules h = same_by old new keeps rules (recursion_from_All (IsNumberedBy old) rules h)
+-- what rules decide, of which the first may match
+abbrev first_of : Bool → Rule ℕ → List (Rule ℕ) → List ℕ → ℕ
+first_of m r rules header = unwrap_or (option_map (λ (x : Rule ℕ). x.decision) (cond m (Some r) (find (matches stated header) rules))) 0
 
-still_numbered : (old new : List (List ℕ)) → Keeps old new → (rules : List code.Rule) → All (IsNumberedBy old) rules → All (IsNumberedBy new) rules
-still_numbered old new keeps rules h = All-weaker (IsNumberedBy old) (IsNumberedBy new) (λ x p. (p.0, le_trans p.1 keeps.longer)) rules h
+module _ (names others : List (List ℕ)) (header : List ℕ) (last : Rule ℕ) (opens : matches stated header last ≡ true) (none : last.decision ≡ 1) where
+  abbrev common_decided : List code.Rule → ℕ
+  common_decided rules = unwrap_or (source stated header (map (common_rule names others) rules ++ last ∷ [])) 0
 
--- the rules keep their names where there are more names
-pub stays : (old new : List (List ℕ)) (list : RuleList) (rules : List code.Rule) → Keeps old new → AreNumbered old list rules → AreNumbered new list rules
-stays old new list rules keeps n = record {
-  same = same_rules old new keeps rules n.numbered ∙ n.same;
-  numbered = still_numbered old new keeps rules n.numbered;
-}
+  abbrev DecideCommon : List code.Rule → Type 0
+  DecideCommon rules = common_decided rules ≡ common_number names others (decided stated rules header)
 
--- the same rule, with the number of the same name
-pub record IsSameRule (own new : List (List ℕ)) (r pushed : code.Rule) : Type 0 where
-  pub sets : sets_of pushed ≡ sets_of r
-  pub number : name_at new pushed.decision ≡ Some (text_of (name_at own r.decision))
-  pub within : (0 < pushed.decision) × (pushed.decision ≤ length new)
+  common_head : (r : code.Rule) (rules : List code.Rule) (m : Bool) → matches stated header (rule_of r) ≡ m → DecideCommon rules → DecideCommon (r ∷ rules)
+  common_head r rules true h rest =
+      ap (λ b. first_of b (common_rule names others r) (map (common_rule names others) rules ++ last ∷ []) header) (matches_by_sets stated header (common_rule names others r) (rule_of r) refl ∙ h)
+      ∙ ap (common_number names others) (sym (decided_head stated header r rules true h))
+  common_head r rules false h rest =
+      ap (λ b. first_of b (common_rule names others r) (map (common_rule names others) rules ++ last ∷ []) header) (matches_by_sets stated header (common_rule names others r) (rule_of r) refl ∙ h)
+      ∙ rest
+      ∙ ap (common_number names others) (sym (decided_head stated header r rules false h))
 
-same_rule : (own new : List (List ℕ)) (r pushed : code.Rule) → IsSameRule own new r pushed → named_rule new pushed ≡ named_rule own r
-same_rule own new r pushed s =
-    ap (λ (sets : List (List Interval)). let rule : Rule (List ℕ) = record { sets = sets; decision = text_of (name_at new pushed.decision) } in rule) s.sets
-    ∙ ap (λ (o : Option (List ℕ)). let rule : Rule (List ℕ) = record { sets = sets_of r; decision = text_of o } in rule) s.number
+  decide_common : (rules : List code.Rule) → DecideCommon rules
+  decide_common [] = ap (λ b. first_of b last [] header) opens ∙ none
+  decide_common (r ∷ rules) = common_head r rules (matches stated header (rule_of r)) refl (decide_common rules)
 
--- one more rule of the list
-named_more : (own old new : List (List ℕ)) (rules done : List code.Rule) (r pushed : code.Rule) → Keeps old new → All (IsNumberedBy old) rules →
-    named_rules old rules ≡ named_rules own done → IsSameRule own new r pushed → named_rules new (rules ++ pushed ∷ []) ≡ named_rules own (done ++ r ∷ [])
-named_more own old new rules done r pushed keeps numbered same s =
-    map-append (named_rule new) rules (pushed ∷ [])
-    ∙ ap (λ rs. rs ++ named_rule new pushed ∷ []) (same_rules old new keeps rules numbered ∙ same)
-    ∙ ap (λ (rule : Rule (List ℕ)). named_rules own done ++ rule ∷ []) (same_rule own new r pushed s)
-    ∙ sym (map-append (named_rule own) done (r ∷ []))
-
-numbered_more : (own old new : List (List ℕ)) (rules : List code.Rule) (r pushed : code.Rule) → Keeps old new → All (IsNumberedBy old) rules → IsSameRule own new r pushed → All (IsNumberedBy new) (rules ++ pushed ∷ [])
-numbered_more own old new rules r pushed keeps numbered s = All-push (IsNumberedBy new) rules pushed (still_numbered old new keeps rules numbered) s.within
-
--- the rules with one that was pushed
-pub named_pushed : (rules : List code.Rule) {more : List code.Rule} {pushed : code.Rule} → more ≡ rules ++ pushed ∷ [] → (own old new : List (List ℕ)) (items : List code.Rule) (i : ℕ) (r : code.Rule) → i < length items → r ≡ get_or items i r →
-    Keeps old new → All (IsNumberedBy old) rules → named_rules old rules ≡ named_rules own (take i items) → IsSameRule own new r pushed → named_rules new more ≡ named_rules own (take (i + 1) items)
-named_pushed rules {more} {pushed} e own old new items i r less is keeps numbered same s =
-    ap (named_rules new) e
-    ∙ named_more own old new rules (take i items) r pushed keeps numbered same s
-    ∙ ap (named_rules own) (ap (λ (x : code.Rule). take i items ++ x ∷ []) is ∙ sym (take_more items i r less))
-
-pub numbered_pushed : (rules : List code.Rule) {more : List code.Rule} {pushed : code.Rule} → more ≡ rules ++ pushed ∷ [] → (own old new : List (List ℕ)) (r : code.Rule) → Keeps old new → All (IsNumberedBy old) rules → IsSameRule own new r pushed → All (IsNumberedBy new) more
-numbered_pushed rules {more} {pushed} e own old new r keeps numbered s = subst (λ (rs : List code.Rule). All (IsNumberedBy new) rs) (sym e) (numbered_more own old new rules r pushed keeps numbered s)
+-- with a rule behind them that matches, they decide the common number of what the rules decide
+pub decides_common : {more : List code.Rule} (names others : List (List ℕ)) (rules made : List code.Rule) (last : code.Rule) (header : List ℕ) → more ≡ made ++ last ∷ [] →
+    map rule_of made ≡ map (common_rule names others) rules → matches stated header (rule_of last) ≡ true → last.decision ≡ 1 →
+    decided stated more header ≡ common_number names others (decided stated rules header)
+decides_common names others rules made last header e is opens none =
+    ap (λ rs. decided stated rs header) e
+    ∙ ap (λ rs. unwrap_or (source stated header rs) 0) (map-append rule_of made (last ∷ []) ∙ ap (λ rs. rs ++ rule_of last ∷ []) is)
+    ∙ decide_common names others header (rule_of last) opens none rules

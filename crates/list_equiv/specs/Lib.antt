@@ -1,4 +1,2 @@
 pub mod Names
-pub mod Numbering
-pub mod Numbers
 pub mod Verdict

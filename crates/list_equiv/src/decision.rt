@@ -1,18 +1,17 @@
-//! What a list decides on one header.
+//! What rules decide on one header.
 ghost use Rattle.std.specs.Prelude.{◌≡◌, find, option_copied};
 ghost use Rattle.field_boxes.specs.Fields.{stated};
 ghost use Rattle.field_boxes.specs.Classifier.{matches};
 ghost use Rattle.field_boxes.specs.Rules.{rule_of};
-ghost use Rattle.list_equiv.specs.Verdict.{IsDecision};
+ghost use Rattle.fdd_build.specs.Rules.{decided};
 
 use field_boxes::{Header, Rule};
-use filter_reader::RuleList;
 
-/// The number of what the list decides on the header, in the list's own names: 0 for none.
-pub(crate) fn decision(list: &RuleList, header: &Header) -> u32
-    ensures { IsDecision list.now header.now.values result }
+/// The number that the rules decide on the header: 0 for none.
+pub(crate) fn decision(rules: &[Rule], header: &Header) -> u32
+    ensures { result ≡ decided stated rules.now header.now.values }
 {
-    match first_rule(&list.rules, header) {
+    match first_rule(rules, header) {
         Some(rule) => rule.decision,
         None => 0,
     }

@@ -16,9 +16,9 @@
 //! `specs/Verdict.antt` says what each verdict means.
 #![tactic(auto)]
 
+mod apart;
 mod decision;
-mod names;
-mod numbering;
+mod renumbering;
 mod verdict;
 
-pub use verdict::{Verdict, equal};
+pub use verdict::{Verdict, compare, equal};

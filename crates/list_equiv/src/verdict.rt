@@ -1,25 +1,21 @@
-//! The comparison of two lists.
-ghost use Rattle.std.specs.Prelude.{◌≡◌, ℕ, List, IfOk, MatchOption};
-ghost use Rattle.list_equiv.specs.Numbers.{AreAlike, IsFirstApart};
-ghost use Rattle.list_equiv.specs.Verdict.{IsVerdict};
+//! The comparison of two lists, or of a list and other rules.
+ghost use Rattle.std.specs.Prelude.{IfOk};
+ghost use Rattle.list_equiv.specs.Names.{AreWithin, name_of};
+ghost use Rattle.list_equiv.specs.Verdict.{IsListVerdict, IsVerdict};
 
+use crate::apart::first_apart;
 use crate::decision::decision;
-use crate::names::CommonNames;
-use crate::numbering::numbered;
-use fdd_build::build;
-use fdd_ops::least_difference;
-use field_boxes::{Header, Rule};
+use field_boxes::{Decisions, Header, Rule};
 use filter_reader::RuleList;
-use node_store::{Store, stated_order};
 use razor_base::Memory;
 use std::alloc::Global;
 
-/// What the comparison of two lists comes to.
+/// What the comparison of two sides comes to.
 #[derive(Clone, Copy, Debug, PartialEq, Eq)]
 pub enum Verdict {
-    /// Both lists decide every header alike.
+    /// Both decide every header alike.
     Equal,
-    /// The least header that they decide differently, and the number of each list's decision among its
+    /// The least header that they decide differently, and the number of each one's decision among its
     /// own names, 0 for none.
     Differ {
         header: Header,
@@ -33,13 +29,26 @@ pub enum Verdict {
 /// Headers are ordered by the stated order of the fields, the source address first. The cost is that of
 /// building the two diagrams; once both stand, they are compared by their numbers.
 pub fn equal(alloc: Global, left: &RuleList, right: &RuleList) -> Result<Verdict, Memory>
-    ensures { IfOk result (λ verdict. IsVerdict left.now right.now verdict) }
+    ensures { IfOk result (λ verdict. IsListVerdict left.now right.now verdict) }
 {
-    let mut names = CommonNames::new(alloc);
-    let left_rules = numbered(alloc, left, &mut names)?;
-    let right_rules = numbered(alloc, right, &mut names)?;
-    names.distinct();
-    match first_apart(alloc, &left_rules, &right_rules)? {
+    let verdict = compare(alloc, &left.rules, &left.names, &right.rules, &right.names)?;
+    Ok(verdict)
+}
+
+/// The same for rules that decide numbers of these names, 0 for none.
+pub fn compare(
+    alloc: Global,
+    left: &[Rule],
+    left_names: &Decisions,
+    right: &[Rule],
+    right_names: &Decisions,
+) -> Result<Verdict, Memory>
+    requires left { AreWithin left_names.now left.now }
+    requires right { AreWithin right_names.now right.now }
+    ensures { IfOk result (λ verdict.
+        IsVerdict left_names.now right_names.now (name_of left_names.now left.now) (name_of right_names.now right.now) verdict) }
+{
+    match first_apart(alloc, left, left_names, right, right_names)? {
         None => Ok(Verdict::Equal),
         Some(header) => Ok(Verdict::Differ {
             header,
@@ -47,14 +56,4 @@ pub fn equal(alloc: Global, left: &RuleList, right: &RuleList) -> Result<Verdict
             right: decision(right, &header),
         }),
     }
-}
-
-/// The least header on which the two lists decide different numbers.
-fn first_apart(alloc: Global, left: &[Rule], right: &[Rule]) -> Result<Option<Header>, Memory>
-    ensures { IfOk result (λ found. MatchOption found (AreAlike left.now right.now) (λ header. IsFirstApart left.now right.now header.values)) }
-{
-    let mut store = Store::new(alloc);
-    let left_node = build(alloc, &mut store, &stated_order(), left)?;
-    let right_node = build(alloc, &mut store, &stated_order(), right)?;
-    Ok(least_difference(&store, left_node, right_node))
 }

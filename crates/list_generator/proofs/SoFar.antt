@@ -1,13 +1,12 @@
 -- The rules that were drawn so far, and one more.
-use Rattle.std.proofs.Common.{◌≡◌, ◌∷◌, ◌++◌, ℕ, suc, ◌+◌, ◌≤◌, List, Bool, true, false, [], ap, refl, subst, sym, ◌∙◌, arith, append_assoc, fold, length, Some}
-use Rattle.std.specs.Prelude.{All, Option, if◌then◌else◌}
-use Rattle.std.specs.List.{AllByRecursion}
+use Rattle.std.proofs.Common.{◌≡◌, ◌∷◌, ◌++◌, ℕ, suc, ◌+◌, ◌≤◌, List, [], ap, subst, sym, ◌∙◌, arith, append_assoc, fold, length, Some}
+use Rattle.std.specs.Prelude.{All, Option}
 use Rattle.std.proofs.lemmas.List.{length-append, map-append}
-use Rattle.std.proofs.lemmas.List.Elements.{All-nil, All-push, All-weaker, recursion_from_All}
+use Rattle.std.proofs.lemmas.List.Elements.{All-push, All-weaker, recursion_from_All}
 use Rattle.field_boxes.specs.declared.rule.Rule as code
 use Rattle.field_boxes.specs.Classifier.{Rule}
 use Rattle.field_boxes.specs.NamedRules.{IsNumberedBy, named_rule, named_rules}
-use Rattle.field_boxes.specs.Names.{is_known, name_at, text_of, with_name}
+use Rattle.field_boxes.specs.Names.{name_at, text_of, with_name}
 use Rattle.field_boxes.specs.Rules.{sets_of}
 use Rattle.filter_reader.specs.FilterRules.{IsFilterRule}
 use Rattle.filter_reader.specs.FirstSeen.{first_seen}
@@ -15,6 +14,7 @@ use Rattle.list_generator.specs.Draws.{state_after}
 use Rattle.list_generator.specs.DrawnHeaders.{state_behind}
 use Rattle.list_generator.specs.DrawnRules.{drawn_rule, drawn_rules}
 use Rattle.list_generator.specs.Growing.{AddsDrawn, IsDrawn}
+use Rattle.filter_reader.proofs.SoFar.{same_rules, with_name-longer}
 
 -- the names after those of more rules were seen
 abbrev pub seen_after : List (List ℕ) → List (Rule (List ℕ)) → List (List ℕ)
@@ -30,16 +30,6 @@ pub record IsSoFar (seed count left state : ℕ) (names : List (List ℕ)) (rule
   pub spelled : All IsFilterRule rules
   pub numbered : All (IsNumberedBy names) rules
 
--- the first names keep their numbers
-abbrev KeepsNames : List (List ℕ) → List (List ℕ) → Type 0
-KeepsNames old new = (k : ℕ) → k ≤ length old → name_at new k ≡ name_at old k
-
-same_rules : (old new : List (List ℕ)) → KeepsNames old new → (rules : List code.Rule) → AllByRecursion (IsNumberedBy old) rules → named_rules new rules ≡ named_rules old rules
-same_rules old new keeps [] h = refl
-same_rules old new keeps (r ∷ rules) h =
-    ap (λ (o : Option (List ℕ)). let rule : Rule (List ℕ) = record { sets = sets_of r; decision = text_of o } in rule ∷ named_rules new rules) (keeps r.decision h.0.1)
-    ∙ ap (λ rs. named_rule old r ∷ rs) (same_rules old new keeps rules h.1)
-
 named_as : (new : List (List ℕ)) (r : code.Rule) (rule : Rule (List ℕ)) → sets_of r ≡ rule.sets → name_at new r.decision ≡ Some rule.decision → named_rule new r ≡ rule
 named_as new r rule sets at =
     ap (λ (o : Option (List ℕ)). let x : Rule (List ℕ) = record { sets = sets_of r; decision = text_of o } in x) at
@@ -53,19 +43,12 @@ rules_with state after old new rules r numbered is =
     ∙ ap (λ rs. rs ++ named_rule new r ∷ []) (same_rules old new is.kept rules (recursion_from_All (IsNumberedBy old) rules numbered))
     ∙ ap (λ x. named_rules old rules ++ x ∷ []) (named_as new r (drawn_rule state) is.sets is.number)
 
-longer_by : (names : List (List ℕ)) (name : List ℕ) (t : Bool) → (length names ≤ length (if t then names else names ++ name ∷ [])) × (length (if t then names else names ++ name ∷ []) ≤ length names + 1)
-longer_by names name true = (omega arith, omega arith)
-longer_by names name false = (simp length-append (omega arith), simp length-append (omega arith))
-
-longer : (names : List (List ℕ)) (name : List ℕ) → (length names ≤ length (with_name names name)) × (length (with_name names name) ≤ length names + 1)
-longer names name = longer_by names name (is_known names name)
-
 -- one more of those that are left is drawn
 step : (seed count left state after : ℕ) (old new : List (List ℕ)) (rules : List code.Rule) (r : code.Rule) → IsSoFar seed count (suc left) state old rules → IsDrawn state old after new r →
     IsSoFar seed count left after new (rules ++ r ∷ [])
 step seed count left state after old new rules r so is =
     let rest = drawn_rules left (state_after 6 state) in
-    let grown = longer old (drawn_rule state).decision in
+    let grown = with_name-longer old (drawn_rule state).decision in
     let same : length new ≡ length (with_name old (drawn_rule state).decision) = ap length is.seen in
     let less = so.few in
     let total = so.counted in
@@ -81,11 +64,7 @@ step seed count left state after old new rules r so is =
     }
 
 -- the same, where what is left is told by a count
-pub added : (seed count left next state after : ℕ) (old new : List (List ℕ)) (rules longer : List code.Rule) → left ≡ suc next → IsSoFar seed count left state old rules → AddsDrawn state old rules after new longer →
-    IsSoFar seed count next after new longer
-added seed count left next state after old new rules longer e so (r, is, same) =
+pub added : (seed count left next state after : ℕ) (old new : List (List ℕ)) (rules with_name-longer : List code.Rule) → left ≡ suc next → IsSoFar seed count left state old rules → AddsDrawn state old rules after new with_name-longer →
+    IsSoFar seed count next after new with_name-longer
+added seed count left next state after old new rules with_name-longer e so (r, is, same) =
     subst (λ rs. IsSoFar seed count next after new rs) (sym same) (step seed count next state after old new rules r (subst (λ n. IsSoFar seed count n state old rules) e so) is)
-
--- nothing is drawn yet
-pub none : (seed count : ℕ) → IsSoFar seed count count seed [] []
-none seed count = record { whole = refl; seen = refl; few = omega arith; counted = omega arith; turned = refl; spelled = All-nil IsFilterRule; numbered = All-nil (IsNumberedBy []) }

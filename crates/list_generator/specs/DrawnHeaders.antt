@@ -1,5 +1,6 @@
 -- Headers that are drawn: each takes five draws, one for each field.
 use Rattle.std.specs.Prelude.{ℕ, zero, suc, ◌+◌, ◌/◌, ◌%◌, ◌==◌, List, [], ◌∷◌, if◌then◌else◌}
+use Rattle.razor_base.specs.declared.limits.TheConstants.{GREATEST_PORT}
 use Rattle.list_generator.specs.Draws.{drawn, state_after}
 use Rattle.list_generator.specs.DrawnSets.{ten}
 
@@ -16,7 +17,7 @@ drawn_port y =
     else (if y % 8 == 3 then 22
     else (if y % 8 == 4 then 1024
     else (if y % 8 == 5 then 0
-    else (if y % 8 == 6 then 65535
+    else (if y % 8 == 6 then GREATEST_PORT
     else 1024 + y / 8 % 64))))))
 
 -- ICMP, TCP or UDP

@@ -1,5 +1,6 @@
 -- What a number that is drawn stands for in each column of a rule.
 use Rattle.std.specs.Prelude.{ℕ, ◌+◌, ◌*◌, ◌/◌, ◌%◌, ◌^◌, ◌==◌, List, codes, if◌then◌else◌}
+use Rattle.razor_base.specs.declared.limits.TheConstants.{GREATEST_PORT}
 use Rattle.field_boxes.specs.Classifier.{Interval}
 use Rattle.field_boxes.specs.Prefix.{prefix_interval}
 use Rattle.field_boxes.specs.declared.prefix.Prefix.{Prefix}
@@ -28,17 +29,17 @@ from_to lo hi = record { lo = lo; hi = hi }
 
 -- every port, or the ports from 1024 on
 unfoldable pub source_ports : ℕ → Interval
-source_ports y = if y % 4 == 3 then from_to 1024 65535 else from_to 0 65535
+source_ports y = if y % 4 == 3 then from_to 1024 GREATEST_PORT else from_to 0 GREATEST_PORT
 
 -- every port, a port of a service, those from 1024 on, those from 1 to 65534, or one port from 1024 to 1087
 unfoldable pub destination_ports : ℕ → Interval
 destination_ports y =
-    if y % 8 == 0 then from_to 0 65535
+    if y % 8 == 0 then from_to 0 GREATEST_PORT
     else (if y % 8 == 1 then from_to 80 80
     else (if y % 8 == 2 then from_to 443 443
     else (if y % 8 == 3 then from_to 53 53
     else (if y % 8 == 4 then from_to 22 22
-    else (if y % 8 == 5 then from_to 1024 65535
+    else (if y % 8 == 5 then from_to 1024 GREATEST_PORT
     else (if y % 8 == 6 then from_to 1 65534
     else from_to (1024 + y / 8 % 64) (1024 + y / 8 % 64)))))))
 

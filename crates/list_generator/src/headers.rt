@@ -1,11 +1,13 @@
 //! Headers that are drawn.
 ghost use Rattle.std.specs.Prelude.{◌≡◌, ◌≤◌, IfOk, map};
+ghost use Rattle.razor_base.specs.declared.limits.TheConstants.{GREATEST_PORT, GREATEST_PROTOCOL};
 ghost use Rattle.list_generator.specs.Draws.{state_after};
 ghost use Rattle.list_generator.specs.DrawnHeaders.{drawn_address, drawn_header, drawn_headers, drawn_port, drawn_protocol};
 
 use crate::draws::Draws;
 use field_boxes::Header;
 use razor_base::Memory;
+use razor_base::limits::GREATEST_PORT;
 use std::alloc::Global;
 
 /// The address 10.B.C.D, with B below 8, C below 4 and D below 16.
@@ -21,7 +23,7 @@ fn address(number: u32) -> u32
 #[tactic(auto, unfolding(crate::specs::DrawnHeaders::drawn_port))]
 fn port(number: u32) -> u32
     ensures value { result ≡ drawn_port number }
-    ensures port { result ≤ 65535 }
+    ensures port { result ≤ GREATEST_PORT }
 {
     match number % 8 {
         0 => 80,
@@ -30,7 +32,7 @@ fn port(number: u32) -> u32
         3 => 22,
         4 => 1024,
         5 => 0,
-        6 => 65_535,
+        6 => GREATEST_PORT,
         _ => 1024 + number / 8 % 64,
     }
 }
@@ -39,7 +41,7 @@ fn port(number: u32) -> u32
 #[tactic(auto, unfolding(crate::specs::DrawnHeaders::drawn_protocol))]
 fn protocol(number: u32) -> u32
     ensures value { result ≡ drawn_protocol number }
-    ensures protocol { result ≤ 255 }
+    ensures protocol { result ≤ GREATEST_PROTOCOL }
 {
     match number % 4 {
         0 => 1,

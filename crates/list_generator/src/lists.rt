@@ -1,5 +1,6 @@
 //! Drawing a list, and headers to try it.
 ghost use Rattle.std.specs.Prelude.{◌≡◌, ◌≤◌, ◌<◌, ◌^◌, IfOk, OnOk};
+ghost use Rattle.razor_base.specs.declared.limits.TheConstants.{MOST_RULES};
 ghost use Rattle.list_generator.specs.DrawnHeaders.{state_behind};
 ghost use Rattle.list_generator.specs.Generated.{IsGenerated};
 ghost use Rattle.list_generator.specs.Loads.{IsLoad};
@@ -18,7 +19,7 @@ const HEADERS: u32 = 256;
 
 /// The list of so many rules that is drawn next.
 fn draw_list(alloc: Global, draws: &mut Draws, rules: u32) -> Result<RuleList, Memory>
-    requires few { rules ≤ 65536 }
+    requires few { rules ≤ MOST_RULES }
     ensures list { IfOk result (λ list. IsGenerated draws.old.state rules list) }
     ensures state { OnOk result (draws.new.state ≡ state_behind rules draws.old.state) }
 {
@@ -37,7 +38,7 @@ fn draw_list(alloc: Global, draws: &mut Draws, rules: u32) -> Result<RuleList, M
 /// The list of so many rules that the seed gives, its decisions numbered in first-seen order.
 pub fn generate(alloc: Global, seed: u32, rules: u32) -> Result<RuleList, Memory>
     requires seed { seed < 2 ^ 31 }
-    requires few { rules ≤ 65536 }
+    requires few { rules ≤ MOST_RULES }
     ensures { IfOk result (λ list. IsGenerated seed rules list) }
 {
     draw_list(alloc, &mut Draws { state: seed }, rules)
@@ -46,7 +47,7 @@ pub fn generate(alloc: Global, seed: u32, rules: u32) -> Result<RuleList, Memory
 /// The list of so many rules that the seed gives, and the 256 headers that are drawn behind it.
 pub fn generate_load(alloc: Global, seed: u32, rules: u32) -> Result<Load, Memory>
     requires seed { seed < 2 ^ 31 }
-    requires few { rules ≤ 65536 }
+    requires few { rules ≤ MOST_RULES }
     ensures { IfOk result (λ load. IsLoad seed rules load) }
 {
     let mut draws = Draws { state: seed };

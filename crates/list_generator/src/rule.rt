@@ -1,5 +1,6 @@
 //! Drawing one rule.
 ghost use Rattle.std.specs.Prelude.{◌<◌, length, IfOk, OnOk};
+ghost use Rattle.razor_base.specs.declared.limits.TheConstants.{MOST_ENTRIES};
 ghost use Rattle.list_generator.specs.Growing.{AddsDrawn, IsDrawn};
 
 use crate::draws::Draws;
@@ -9,7 +10,7 @@ use razor_base::Memory;
 
 /// The next rule, whose decision is numbered among the names.
 fn draw_rule(draws: &mut Draws, names: &mut Decisions) -> Result<Rule, Memory>
-    requires { length names.old < 262144 }
+    requires { length names.old < MOST_ENTRIES }
     ensures { IfOk result (λ rule. IsDrawn draws.old.state names.old draws.new.state names.new rule) }
 {
     let source = addresses(draws.draw());
@@ -33,7 +34,7 @@ pub(crate) fn add_drawn(
     names: &mut Decisions,
     rules: &mut Vec<Rule>,
 ) -> Result<(), Memory>
-    requires { length names.old < 262144 }
+    requires { length names.old < MOST_ENTRIES }
     ensures { OnOk result (AddsDrawn draws.old.state names.old rules.old.items draws.new.state names.new rules.new.items) }
 {
     let rule = draw_rule(draws, names)?;

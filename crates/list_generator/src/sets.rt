@@ -1,5 +1,6 @@
 //! What a number that is drawn stands for in each column of a rule.
 ghost use Rattle.std.specs.Prelude.{◌≡◌, ◌≢◌, ◌≤◌, ◌∷◌, [], IsTrue};
+ghost use Rattle.razor_base.specs.declared.limits.TheConstants.{GREATEST_PORT, GREATEST_PROTOCOL};
 ghost use Rattle.field_boxes.specs.Names.{is_decision_word, miss};
 ghost use Rattle.field_boxes.specs.Prefix.{FitsWidth};
 ghost use Rattle.field_boxes.specs.Spans.{interval_of};
@@ -8,6 +9,7 @@ ghost use Rattle.filter_reader.specs.Protocols.{IsProtocol};
 ghost use Rattle.list_generator.specs.DrawnSets as drawn;
 
 use field_boxes::{Ports, Prefix, Span};
+use razor_base::limits::{GREATEST_PORT, GREATEST_PROTOCOL};
 
 /// 0.0.0.0/0, 10.B.0.0/16, 10.B.C.0/24 or 10.B.C.D/32.
 #[tactic(auto, unfolding(crate::specs::DrawnSets::drawn_prefix))]
@@ -39,15 +41,18 @@ pub(crate) fn addresses(number: u32) -> Span
 #[tactic(auto, unfolding(crate::specs::DrawnSets::source_ports))]
 pub(crate) fn source_ports(number: u32) -> Span
     ensures values { interval_of result ≡ drawn.source_ports number }
-    ensures ports { result.hi ≤ 65535 }
+    ensures ports { result.hi ≤ GREATEST_PORT }
 {
     if number % 4 == 3 {
         Span {
             lo: 1024,
-            hi: 65_535,
+            hi: GREATEST_PORT,
         }
     } else {
-        Span { lo: 0, hi: 65_535 }
+        Span {
+            lo: 0,
+            hi: GREATEST_PORT,
+        }
     }
 }
 
@@ -55,16 +60,16 @@ pub(crate) fn source_ports(number: u32) -> Span
 #[tactic(auto, unfolding(crate::specs::DrawnSets::destination_ports))]
 pub(crate) fn destination_ports(number: u32) -> Span
     ensures values { interval_of result ≡ drawn.destination_ports number }
-    ensures ports { result.hi ≤ 65535 }
+    ensures ports { result.hi ≤ GREATEST_PORT }
 {
     let high = 1024 + number / 8 % 64;
     let (lo, hi) = match number % 8 {
-        0 => (0, 65_535),
+        0 => (0, GREATEST_PORT),
         1 => (80, 80),
         2 => (443, 443),
         3 => (53, 53),
         4 => (22, 22),
-        5 => (1024, 65_535),
+        5 => (1024, GREATEST_PORT),
         6 => (1, 65_534),
         _ => (high, high),
     };
@@ -73,7 +78,7 @@ pub(crate) fn destination_ports(number: u32) -> Span
 
 /// The ports of the span.
 pub(crate) fn ports(span: Span) -> Ports
-    requires { span.hi ≤ 65535 }
+    requires { span.hi ≤ GREATEST_PORT }
     ensures { result ≡ interval_of span ∷ [] }
 {
     match Ports::of(&[span]) {
@@ -87,10 +92,13 @@ pub(crate) fn ports(span: Span) -> Ports
 pub(crate) fn protocols(number: u32) -> Span
     ensures values { interval_of result ≡ drawn.protocols number }
     ensures protocol { IsProtocol result }
-    ensures inside { result.hi ≤ 255 }
+    ensures inside { result.hi ≤ GREATEST_PROTOCOL }
 {
     match number % 4 {
-        0 => Span { lo: 0, hi: 255 },
+        0 => Span {
+            lo: 0,
+            hi: GREATEST_PROTOCOL,
+        },
         3 => Span { lo: 17, hi: 17 },
         _ => Span { lo: 6, hi: 6 },
     }

@@ -1,6 +1,6 @@
 -- What a store is after its set of nodes was asked to take one.
 use Rattle.std.proofs.Common.{◌≡◌, ◌≢◌, ◌∷◌, ◌++◌, ℕ, List, [], ◌<◌, length, refl, ap, sym, ◌∙◌, subst, inl, inr, true≢false}
-use Rattle.std.specs.Prelude.{◌⊎◌, ◌||◌, suc, zero, Some, slice_get, map, cond, true, false, Bool}
+use Rattle.std.specs.Prelude.{◌⊎◌, suc, zero, Some, slice_get, map, cond, true, false, Bool}
 use Rattle.std.specs.List.{list_any}
 use Rattle.std.specs.Option.{option_map}
 use Rattle.std.proofs.lemmas.Option.{slice_get-map}
@@ -10,6 +10,7 @@ use Rattle.node_store.specs.Nodes.{node_of}
 use Rattle.node_store.specs.Store.{IsStore, FitsAt, Grows, IsNumbered}
 use Rattle.node_store.proofs.Same.{equal, equal_decides}
 use Rattle.node_store.proofs.Growth.{grows, stays, place_of, store_gains}
+use Rattle.std.proofs.lemmas.Bool.{or_parts}
 
 abbrev nodes_of : List code.Node → List Node
 nodes_of keys = map node_of keys
@@ -18,16 +19,12 @@ nodes_push : (keys : List code.Node) (node : code.Node) → nodes_of (keys ++ no
 nodes_push [] node = refl
 nodes_push (k ∷ keys) node = ap (λ ns. node_of k ∷ ns) (nodes_push keys node)
 
-neither : (s t : Bool) → (s || t) ≡ false → (s ≡ false) × (t ≡ false)
-neither true t h = absurd (true≢false h)
-neither false t h = (refl, h)
-
 fresh : (keys : List code.Node) (node : code.Node) → list_any (equal node) keys ≡ false → (i : ℕ) → slice_get (nodes_of keys) i ≢ Some (node_of node)
 fresh [] node none i h = cc
 fresh (k ∷ keys) node none zero h =
     let e : node_of node ≡ node_of k = cc in
-    true≢false (sym ((equal_decides node k).1 e) ∙ (neither (equal node k) (list_any (equal node) keys) none).0)
-fresh (k ∷ keys) node none (suc i) h = fresh keys node (neither (equal node k) (list_any (equal node) keys) none).1 i h
+    true≢false (sym ((equal_decides node k).1 e) ∙ (or_parts (equal node k) (list_any (equal node) keys) none).0)
+fresh (k ∷ keys) node none (suc i) h = fresh keys node (or_parts (equal node k) (list_any (equal node) keys) none).1 i h
 
 -- the set holds a node that is equal to the one asked for
 record Holds (keys : List code.Node) (node : code.Node) (id : ℕ) : Type 0 where

@@ -3,12 +3,13 @@ use Rattle.std.proofs.Common.{◌≡◌, ◌∷◌, ℕ, List, [], ◌≤◌, �
 use Rattle.std.specs.Prelude.{suc, Option, Some, None, slice_get, unwrap_or, All, cond, nat_eq, nat_le, true, false, Bool}
 use Rattle.std.proofs.lemmas.Option.{slice_get-get_or, slice_get_within}
 use Rattle.std.proofs.lemmas.List.Elements.{All-tail}
+use Rattle.field_boxes.specs.Alike.{AreAlikeOver}
 use Rattle.node_store.specs.declared.edge.Edge.{Edge}
 use Rattle.node_store.specs.Edges.{child_of}
 use Rattle.node_store.specs.Levels.{HasField, IsLevel, next, top_of}
-use Rattle.node_store.specs.Diagram.{Node, node_level, node_edges, node_decision, level_of, edges_of}
+use Rattle.node_store.specs.Diagram.{Node, node_level, node_edges, node_decision, level_of, edges_of, answer}
 use Rattle.node_store.specs.Diagram.Node.{Leaf, Inner}
-use Rattle.node_store.specs.Store.{IsStore, AnswerAlike}
+use Rattle.node_store.specs.Store.{IsStore}
 use Rattle.node_store.proofs.Values.{values_from}
 use Rattle.node_store.proofs.Edges.{Rise, AreEdges, same, rise_of, edges_of as are_edges}
 
@@ -109,7 +110,7 @@ child_level : (nodes : List Node) (level : List ℕ) (id v : ℕ) → IsStore no
 child_level nodes level id v s field l h =
     (leads_on nodes id v s (subst HasField (sym l) field) (subst (λ f. v ≤ top_of f) (sym l) h)).1 ∙ ap next l
 
-pub one : (nodes : List Node) (level : List ℕ) (a b : ℕ) → IsStore nodes → IsLevel level → level_of nodes a ≡ level → level_of nodes b ≡ level → AnswerAlike nodes level a b → a ≡ b
+pub one : (nodes : List Node) (level : List ℕ) (a b : ℕ) → IsStore nodes → IsLevel level → level_of nodes a ≡ level → level_of nodes b ≡ level → AreAlikeOver level (answer nodes a) (answer nodes b) → a ≡ b
 one nodes [] a b s is l k h = leaves nodes a b s (slice_get nodes a) (slice_get nodes b) refl refl l k (h [] tt)
 one nodes (f ∷ level) a b s is l k h =
     inners nodes (f ∷ level) a b s is (slice_get nodes a) (slice_get nodes b) refl refl l k

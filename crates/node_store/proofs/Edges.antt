@@ -88,7 +88,7 @@ bounded greatest lo e (d ∷ edges) h = let b = bounded greatest (suc e.hi) d ed
 ends : (greatest lo : ℕ) (e : Edge) (edges : List Edge) → AreEdges greatest lo (e ∷ edges) → (lo ≤ e.hi) × (e.hi ≤ greatest)
 ends greatest lo e edges h = bounded greatest lo e edges (rise_in greatest lo (e ∷ edges) h)
 
-same_id : (a b : NodeId) → a.0 ≡ b.0 → a ≡ b
+pub same_id : (a b : NodeId) → a.0 ≡ b.0 → a ≡ b
 same_id a b p = ap (λ (n : ℕ). let r : NodeId = record { 0 = n } in r) p
 
 -- an edge can't end before the other's does: past it the first list leads elsewhere, the other doesn't

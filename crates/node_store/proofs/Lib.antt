@@ -9,4 +9,6 @@ pub mod Made
 pub mod Search
 pub mod Turns
 pub mod Values
+pub mod Orders
 pub mod Splitting
+pub mod Stated

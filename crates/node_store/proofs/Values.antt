@@ -14,7 +14,7 @@ pub rest_is : (level : List ℕ) → take (length level - 1) (drop 1 level) ≡ 
 rest_is [] = refl
 rest_is (f ∷ level) = ap (λ n. take n level) (omega arith) ∙ take_all level
 
-in_width : (field v : ℕ) → v ≤ greatest_of field → v < 2 ^ width field
+pub in_width : (field v : ℕ) → v ≤ greatest_of field → v < 2 ^ width field
 in_width field v h = let p = pow_pos (width field) in omega (arith, h, p)
 
 within : (field v : ℕ) → v < 2 ^ width field → v ≤ greatest_of field

@@ -1,6 +1,5 @@
 -- What holds of the nodes of every store, and what no call changes.
 use Rattle.std.specs.Prelude.{◌≡◌, ◌⊎◌, ℕ, ◌<◌, List, [], ◌∷◌, ◌++◌, length, Some, slice_get, All}
-use Rattle.field_boxes.specs.Fields.{AreValues}
 use Rattle.node_store.specs.Levels.{HasField, next, top_of}
 use Rattle.node_store.specs.declared.edge.Edge.{Edge}
 use Rattle.node_store.specs.Edges.{AreFull, LeadApart}
@@ -31,10 +30,6 @@ pub record IsStore (nodes : List Node) : Type 0 where
 -- all of the edges lead to nodes of the level
 abbrev pub LeadTo : List Node → List ℕ → List Edge → Type 0
 LeadTo nodes level edges = All (λ e. level_of nodes e.to.0 ≡ level) edges
-
--- the two nodes answer alike on all values of the level's fields
-abbrev pub AnswerAlike : List Node → List ℕ → ℕ → ℕ → Type 0
-AnswerAlike nodes level a b = (values : List ℕ) → AreValues level values → answer nodes a values ≡ answer nodes b values
 
 -- the store only gained nodes, and each old number answers as before
 pub record Grows (old new : List Node) : Type 0 where

@@ -1,11 +1,11 @@
 //! The walk from a node down to a leaf: one binary search a field.
-ghost use Rattle.std.specs.Prelude.{◌≡◌, ◌<◌, ◌≤◌, length};
+ghost use Rattle.std.specs.Prelude.{◌≡◌, ◌<◌, ◌≤◌, ℕ, length};
 ghost use Rattle.field_boxes.specs.Fields.{stated};
 ghost use Rattle.node_store.specs.Levels.{HasField, next, top_of};
 ghost use Rattle.node_store.specs.Diagram.{level_of, edges_of, answer};
-ghost use Rattle.node_store.specs.Edges.{child_of};
+ghost use Rattle.node_store.specs.Edges.{AreFull, child_of};
 
-use crate::edge::NodeId;
+use crate::edge::{Edge, NodeId};
 use crate::store::Store;
 use field_boxes::Header;
 
@@ -31,7 +31,17 @@ impl Store {
         ensures number { result.0 < length self.now }
         ensures level { level_of self.now result.0 ≡ next (level_of self.now id.0) }
     {
-        let edges = self.edges(id);
-        edges[edges.partition_point(|edge| edge.hi < value)].to
+        self.same_answers();
+        edge_at(self.edges(id), value).to
     }
+}
+
+/// The edge of the value, by a binary search.
+pub fn edge_at(edges: &[Edge], value: u32) -> Edge
+    requires { (greatest : ℕ) × AreFull greatest edges.now × (value ≤ greatest) }
+    ensures low { value ≤ result.hi }
+    ensures high { (greatest : ℕ) → AreFull greatest edges.now → result.hi ≤ greatest }
+    ensures leads { (v : ℕ) → value ≤ v → v ≤ result.hi → child_of edges.now v ≡ result.to.0 }
+{
+    edges[edges.partition_point(|edge| edge.hi < value)]
 }

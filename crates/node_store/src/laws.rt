@@ -1,16 +1,17 @@
 //! Laws of the definitions, for whoever relies on them. The functions do nothing.
 ghost use Rattle.std.specs.Prelude.{◌≡◌, ◌≤◌, ◌<◌, ℕ, List, [], ◌∷◌, ◌++◌, length};
+ghost use Rattle.field_boxes.specs.Alike.{AreAlikeOver};
 ghost use Rattle.field_boxes.specs.Fields.{AreValues};
 ghost use Rattle.node_store.specs.Levels.{HasField, IsLevel, next, top_of};
 ghost use Rattle.node_store.specs.declared.edge.Edge.{Edge};
 ghost use Rattle.node_store.specs.Edges.{AreFull, child_of};
-ghost use Rattle.node_store.specs.Diagram.{Node, level_of, edges_of, decision_of};
-ghost use Rattle.node_store.specs.Store.{IsStore, LeadTo, AnswerAlike, Grows};
+ghost use Rattle.node_store.specs.Diagram.{Node, level_of, edges_of, decision_of, answer};
+ghost use Rattle.node_store.specs.Store.{IsStore, LeadTo, Grows};
 
 /// Two nodes of one level that answer alike on all values of its fields have one number.
 pub fn one_number()
     ensures { (nodes : List Node) (level : List ℕ) (a b : ℕ) → IsStore nodes → IsLevel level →
-        level_of nodes a ≡ level → level_of nodes b ≡ level → AnswerAlike nodes level a b → a ≡ b }
+        level_of nodes a ≡ level → level_of nodes b ≡ level → AreAlikeOver level (answer nodes a) (answer nodes b) → a ≡ b }
 {}
 
 /// What doesn't grow grows by nothing, and what grows and grows again has grown.

@@ -34,6 +34,7 @@ mod node;
 mod split;
 mod store;
 
+pub use answer::edge_at;
 pub use edge::{Edge, NodeId};
 pub use level::stated_order;
 pub use split::{Part, Parts};

@@ -1,16 +1,19 @@
 //! The store, and what it tells of its nodes.
 ghost use Rattle.std.specs.Prelude.{◌≡◌, ◌<◌, ◌≤◌, ◌↔◌, ℕ, List, [], ◌∷◌, length, slice_get, Some, IsNone, IfOk, OnErr};
+ghost use Rattle.field_boxes.specs.Alike.{AreAlikeOver};
 ghost use Rattle.node_store.specs.Levels.{HasField, IsLevel, next, top_of};
 ghost use Rattle.node_store.specs.Diagram.{level_of, edges_of, decision_of, answer};
 ghost use Rattle.node_store.specs.Diagram.Node.{Leaf, Inner};
 ghost use Rattle.node_store.specs.Edges.{AreFull, child_of, merged};
-ghost use Rattle.node_store.specs.Store.{IsStore, IsInner, FitsAt, AnswerAlike, LeadTo, Grows, IsNumbered};
+ghost use Rattle.node_store.specs.Store.{IsStore, IsInner, FitsAt, LeadTo, Grows, IsNumbered};
 ghost use Rattle.node_store.specs.Nodes.{node_of};
 
 use crate::edge::{Edge, NodeId};
+use crate::laws::edges_in_turn;
 use crate::level::Level;
 use crate::merge::merge;
 use crate::node::Node;
+use field_boxes::greatest;
 use indexmap::IndexSet;
 use razor_base::Memory;
 use std::alloc::Global;
@@ -136,6 +139,20 @@ impl Store {
         self.add(Node::Inner { level, edges })
     }
 
+    /// The number of the node of the level that leads everywhere to one node.
+    pub fn everywhere(&mut self, level: &[u8], to: NodeId) -> Result<NodeId, Memory>
+        requires field { HasField level.now }
+        requires level { level_of self.old to.0 ≡ next level.now }
+        ensures level { IfOk result (λ id. level_of self.new id.0 ≡ level.now) }
+        ensures answers { IfOk result (λ id. (v : ℕ) (values : List ℕ) → v ≤ top_of level.now → answer self.new id.0 (v ∷ values) ≡ answer self.old to.0 values) }
+        ensures grows { Grows self.old self.new }
+    {
+        edges_in_turn();
+        let hi = greatest(usize::from(level[0]));
+        let id = self.make(level, &[Edge { hi, to }])?;
+        Ok(id)
+    }
+
     /// The number of the node, which the store gains where it isn't there.
     fn add(&mut self, node: Node) -> Result<NodeId, Memory>
         requires { FitsAt self.old (length self.old) (node_of node) }
@@ -159,7 +176,7 @@ impl Store {
     pub fn same_answers(&self)
         ensures store { IsStore self.now }
         ensures same { (level : List ℕ) (a b : ℕ) → IsLevel level → level_of self.now a ≡ level → level_of self.now b ≡ level →
-            AnswerAlike self.now level a b → a ≡ b }
+            AreAlikeOver level (answer self.now a) (answer self.now b) → a ≡ b }
     {
         let _nodes = &self.nodes;
     }

@@ -1,6 +1,5 @@
 -- Headers in a box of the code, field by field.
-use Rattle.std.proofs.Common.{◌≡◌, ◌∷◌, ℕ, zero, suc, ◌<◌, ◌≤◌, List, [], Bool, true, false, length, get_or, ap, refl, sym, subst, ◌∙◌, arith}
-use Rattle.std.specs.Prelude.{◌&&◌, ◌||◌, slice_index, slice_index_or, IsTrue}
+use Rattle.std.proofs.Common.{◌≡◌, ◌∷◌, ℕ, zero, suc, ◌<◌, ◌≤◌, List, [], Bool, true, false, length, get_or, ap, refl, sym, subst, ◌∙◌, arith, ◌&&◌, ◌||◌, slice_index, slice_index_or, IsTrue}
 use Rattle.std.proofs.lemmas.Bool.{and_parts, and_from}
 use Rattle.std.proofs.Math.Bool.{or-false}
 use Rattle.field_boxes.specs.declared.span.Span.{Span}
@@ -8,38 +7,27 @@ use Rattle.field_boxes.specs.Fields.{IsHeader}
 use Rattle.field_boxes.specs.Classifier.{Interval, interval_holds}
 use Rattle.field_boxes.specs.Spans.{interval_of, intervals_of}
 use Rattle.field_boxes.specs.SpanLists.{filling}
-use Rattle.field_boxes.specs.Boxes.{box_of, box_holds}
+use Rattle.field_boxes.specs.Boxes.{box_of, box_holds, LiesIn}
 use Rattle.field_boxes.proofs.FieldByField.{header_of}
 use Rattle.ternary_words.proofs.Fives.{five_of}
 use Rattle.std.proofs.lemmas.List.{length-map}
 use Rattle.field_boxes.proofs.Unions.{between, holds_between}
-use Rattle.partition_check.specs.Boxes.{ends, IsBox, AreUpTo, LiesIn}
+use Rattle.partition_check.specs.Boxes.{ends, IsBox, AreUpTo}
 use Rattle.partition_check.proofs.Passed.{held-values}
 
 -- a header up to the greatest values is a header, and the other way round
 pub up_to-header : (header : List ℕ) → AreUpTo ends header → IsHeader header
-up_to-header [] h = absurd h
-up_to-header (a ∷ []) h = absurd h.1
-up_to-header (a ∷ b ∷ []) h = absurd h.1.1
-up_to-header (a ∷ b ∷ c ∷ []) h = absurd h.1.1.1
-up_to-header (a ∷ b ∷ c ∷ d ∷ []) h = absurd h.1.1.1.1
 up_to-header (a ∷ b ∷ c ∷ d ∷ e ∷ []) h = (omega (arith, h.0), (omega (arith, h.1.0), (omega (arith, h.1.1.0), (omega (arith, h.1.1.1.0), (omega (arith, h.1.1.1.1.0), tt)))))
-up_to-header (a ∷ b ∷ c ∷ d ∷ e ∷ f ∷ header) h = absurd h.1.1.1.1.1
+up_to-header header h = absurd assumption
 
 pub header-up_to : (header : List ℕ) → IsHeader header → AreUpTo ends header
-header-up_to [] h = absurd h
-header-up_to (a ∷ []) h = absurd h.1
-header-up_to (a ∷ b ∷ []) h = absurd h.1.1
-header-up_to (a ∷ b ∷ c ∷ []) h = absurd h.1.1.1
-header-up_to (a ∷ b ∷ c ∷ d ∷ []) h = absurd h.1.1.1.1
 header-up_to (a ∷ b ∷ c ∷ d ∷ e ∷ []) h = (omega (arith, h.0), (omega (arith, h.1.0), (omega (arith, h.1.1.0), (omega (arith, h.1.1.1.0), (omega (arith, h.1.1.1.1.0), tt)))))
-header-up_to (a ∷ b ∷ c ∷ d ∷ e ∷ f ∷ header) h = absurd h.1.1.1.1.1
+header-up_to header h = absurd assumption
 
 pub lies-length : (box : List Interval) (header : List ℕ) → LiesIn box header → length header ≡ length box
 lies-length [] [] h = refl
-lies-length [] (v ∷ vs) h = absurd h
-lies-length (i ∷ box) [] h = absurd h
 lies-length (i ∷ box) (v ∷ vs) h = ap suc (lies-length box vs h.2)
+lies-length box vs h = absurd h
 
 -- the value of a field lies in its span
 pub lies-at : (spans : List Span) (header : List ℕ) (k : ℕ) (d : Span) → LiesIn (intervals_of spans) header → k < length spans →
@@ -73,28 +61,21 @@ boxed spans header five also =
     (subst (λ (vs : List ℕ). box_holds (box_of (at 0 ∷ at 1 ∷ at 2 ∷ at 3 ∷ at 4 ∷ [])) vs ≡ all_hold (at 0 ∷ at 1 ∷ at 2 ∷ at 3 ∷ at 4 ∷ []) vs) (sym (five_of header 0 also)) refl)
 
 lies-all : (spans : List Span) (header : List ℕ) → LiesIn (intervals_of spans) header → all_hold spans header ≡ true
-lies-all [] header h = refl
-lies-all (s ∷ spans) [] h = refl
 lies-all (s ∷ spans) (v ∷ vs) h =
     and_from (interval_holds v (interval_of s) || false) (all_hold spans vs) (or-false (interval_holds v (interval_of s)) ∙ holds_between v (interval_of s) h.0 h.1) (lies-all spans vs h.2)
+lies-all spans vs h = refl
 
 all-lies : (spans : List Span) (header : List ℕ) → length header ≡ length spans → all_hold spans header ≡ true → LiesIn (intervals_of spans) header
 all-lies [] [] e h = tt
-all-lies [] (v ∷ vs) e h = absurd (omega (arith, e))
-all-lies (s ∷ spans) [] e h = absurd (omega (arith, e))
 all-lies (s ∷ spans) (v ∷ vs) e h =
     let p = and_parts (interval_holds v (interval_of s) || false) (all_hold spans vs) h in
     let b = between v (interval_of s) (sym (or-false (interval_holds v (interval_of s))) ∙ p.0) in
     (b.0, b.1, all-lies spans vs (omega (arith, e)) p.1)
+all-lies spans vs e h = absurd (omega (arith, e))
 
 header-length : (header : List ℕ) → IsHeader header → length header ≡ 5
-header-length [] h = absurd h
-header-length (a ∷ []) h = absurd h.1
-header-length (a ∷ b ∷ []) h = absurd h.1.1
-header-length (a ∷ b ∷ c ∷ []) h = absurd h.1.1.1
-header-length (a ∷ b ∷ c ∷ d ∷ []) h = absurd h.1.1.1.1
 header-length (a ∷ b ∷ c ∷ d ∷ e ∷ []) h = refl
-header-length (a ∷ b ∷ c ∷ d ∷ e ∷ f ∷ header) h = absurd h.1.1.1.1.1
+header-length header h = absurd assumption
 
 -- the headers in a box are those that its spans have
 pub inside : (spans : List Span) (header : List ℕ) → length spans ≡ 5 → IsBox ends (intervals_of spans) → LiesIn (intervals_of spans) header →

@@ -1,6 +1,5 @@
 -- What stands in a buffer behind the bytes that are kept, and what is moved to its front.
-use Rattle.std.proofs.Common.{◌≡◌, ◌++◌, ℕ, ◌+◌, ◌-◌, ◌<◌, ◌≤◌, List, length, take, drop, ap, sym, ◌∙◌, arith, inl, inr, length-drop}
-use Rattle.std.specs.Prelude.{min}
+use Rattle.std.proofs.Common.{◌≡◌, ◌++◌, ℕ, ◌+◌, ◌-◌, ◌<◌, ◌≤◌, List, length, take, drop, ap, sym, ◌∙◌, arith, inl, inr, length-drop, min}
 use Rattle.std.specs.List.{copy_within}
 use Rattle.std.proofs.lemmas.Bool.{cases_lt}
 use Rattle.std.proofs.lemmas.List.{length-take, take_all, take-take, drop-take}
@@ -10,9 +9,8 @@ use Rattle.std.proofs.Math.Seq.{take-add}
 capped : (d : ℕ) (xs : List ℕ) → take 129 (take d xs) ≡ take (min d 129) xs
 capped d xs = elim (cases_lt d 129) [
   | inl less ↦
-      let cut = length-take d xs in
       let e : d ≡ min d 129 = omega (arith, less) in
-      take_all 129 (take d xs) (omega (arith, cut, less)) ∙ ap (λ n. take n xs) e
+      take_all 129 (take d xs) (omega (arith, length-take d xs, less)) ∙ ap (λ n. take n xs) e
   | inr more ↦
       let e : 129 ≡ min d 129 = omega (arith, more) in
       take-take 129 d xs more ∙ ap (λ n. take n xs) e
@@ -23,12 +21,11 @@ pub kept-front : (xs moved : List ℕ) (start ending count : ℕ) → start ≤ 
 kept-front xs moved start ending count ordered inside few e =
     let n : ℕ = start + count - start in
     let same : n ≡ count = omega arith in
-    let long = length-drop start xs in
     let zero : 0 + n ≡ count = omega (arith, same) in
     let split : start + (ending - start) ≡ ending = omega (arith, ordered) in
     ap (take count) e
     ∙ ap (λ k. take k (copy_within xs start (start + count) 0)) (sym zero)
-    ∙ take-paste xs 0 (drop start xs) n (omega arith) (omega (arith, long, same, few, inside, ordered))
+    ∙ take-paste xs 0 (drop start xs) n (omega arith) (omega (arith, length-drop start xs, same, few, inside, ordered))
     ∙ ap (λ k. take k (drop start xs)) (same ∙ few)
     ∙ sym (capped (ending - start) (drop start xs))
     ∙ ap (take 129) (sym (drop-take start (ending - start) xs) ∙ ap (λ k. drop start (take k xs)) split)

@@ -1,8 +1,6 @@
 -- Good certificates and the texts that are valid.
-use Rattle.std.proofs.Common.{◌≡◌, ◌∷◌, ◌++◌, ℕ, ◌+◌, ◌^◌, ◌<◌, ◌≤◌, List, [], true, false, Some, None, length, map, take, ap, sym, subst, ◌∙◌, refl, arith, append_assoc, append-nil}
-use Rattle.std.specs.Prelude.{Option, IfSome, MatchBool, nat_eq, vec_len}
+use Rattle.std.proofs.Common.{◌≡◌, ◌∷◌, ◌++◌, ℕ, suc, ◌+◌, ◌^◌, ◌<◌, ◌≤◌, List, [], true, false, Some, None, length, map, take, ap, sym, subst, ◌∙◌, refl, arith, append_assoc, append-nil, Option, IfSome, MatchBool, nat_eq, vec_len, decimal, fold}
 use Rattle.std.specs.List.{AllByRecursion, flat_map, list_all}
-use Rattle.std.specs.Fmt.{decimal}
 use Rattle.std.proofs.lemmas.Bool.{and_parts, and_left}
 use Rattle.std.proofs.lemmas.Fmt.{decimal_nonempty}
 use Rattle.std.proofs.lemmas.List.Elements.{recursion_from_All}
@@ -11,7 +9,7 @@ use Rattle.filter_reader.specs.declared.list.RuleList.{RuleList}
 use Rattle.std.specs.Cmp.Lexicographic.{pointwise}
 use Rattle.std.proofs.lemmas.Bool.Decides.{nat_tests}
 use Rattle.filter_reader.proofs.Bytes.{digit_number, is_number_byte}
-use Rattle.filter_reader.proofs.Decimals.{is_digit, decimal-digits}
+use Rattle.text_lines.proofs.Decimals.{decimal-digits, is_digit, plain_number-decimal}
 use Rattle.ternary_words.specs.declared.table.Table.{Table}
 use Rattle.partition_check.specs.Boxes.{ends, IsBox}
 use Rattle.partition_check.specs.NextBox.{IsFirstBox, MayCome, EachFollows, ReachesEnds, last_box}
@@ -24,7 +22,7 @@ use Rattle.partition_check.specs.Verdict.{Reading, started, TakesLast, TakesRow,
 use Rattle.partition_check.proofs.Passed.{first-box, next-box}
 use Rattle.partition_check.proofs.Sweeps.{partition-sweep}
 use Rattle.partition_check.proofs.JoinedLines.{HasNoFeed, append-no_feed, lines-joined}
-use Rattle.partition_check.proofs.RowReading.{written-read, plain-decimal}
+use Rattle.partition_check.proofs.RowReading.{written-read}
 use Rattle.partition_check.proofs.Streaming.{takes-append}
 
 -- The bytes of a line.
@@ -80,37 +78,13 @@ line-first line more h =
 
 -- What can be written of a row.
 
+small : (gs : List ℕ) (box : List Interval) → AllByRecursion (λ g. g < 2 ^ 32) gs → IsBox gs box → (length box ≡ length gs) × AreSmall box
+small [] [] few h = (refl, tt)
+small (g ∷ gs) (i ∷ box) few h = let k = small gs box few.1 h.2 in (ap suc k.0, (h.0, omega (arith, h.1, few.0), k.1))
+small gs box few h = absurd assumption
+
 box_small : (box : List Interval) → IsBox ends box → (length box ≡ 5) × AreSmall box
-box_small [] h = absurd h
-box_small (a ∷ []) h = absurd h.2
-box_small (a ∷ b ∷ []) h = absurd h.2.2
-box_small (a ∷ b ∷ c ∷ []) h = absurd h.2.2.2
-box_small (a ∷ b ∷ c ∷ d ∷ []) h = absurd h.2.2.2.2
-box_small (a ∷ b ∷ c ∷ d ∷ e ∷ []) h = (
-  refl,
-  (
-    h.0,
-    omega (arith, h.1),
-    (
-      h.2.0,
-      omega (arith, h.2.1),
-      (
-        h.2.2.0,
-        omega (arith, h.2.2.1),
-        (
-          h.2.2.2.0,
-          omega (arith, h.2.2.2.1),
-          (
-            h.2.2.2.2.0,
-            omega (arith, h.2.2.2.2.1),
-            tt,
-          ),
-        ),
-      ),
-    ),
-  ),
-)
-box_small (a ∷ b ∷ c ∷ d ∷ e ∷ f ∷ box) h = absurd h.2.2.2.2.2
+box_small box h = small ends box (omega arith, (omega arith, (omega arith, (omega arith, (omega arith, tt))))) h
 
 number_small : (o : Option ℕ) (count : ℕ) → count ≤ 262144 → IsNumber count o → IfSome o (λ n. n < 2 ^ 32)
 number_small None count few h = tt
@@ -119,11 +93,10 @@ number_small (Some n) count few h = omega (arith, few, h.1)
 writable : (list : RuleList) (table : Table) (s : Statement) → IsBox ends s.box → IsRight list table s → IsWritable s
 writable list table s ok right =
     let b = box_small s.box ok in
-    let rules = list.few in
     record {
       five = b.0;
       small = b.1;
-      rule = number_small s.rule (vec_len list.rules) (omega (arith, rules)) right.rule_number;
+      rule = number_small s.rule (vec_len list.rules) (omega (arith, list.few)) right.rule_number;
       entry = number_small s.entry (vec_len table.entries) table.few right.entry_number;
     }
 
@@ -150,12 +123,8 @@ row-taken c s ok comes right =
       refl,
     )
 
-abbrev with_rows : Checking → List Statement → Checking
-with_rows c [] = c
-with_rows c (s ∷ rows) = with_rows (with_row c s) rows
-
 rows-taken : (rows : List Statement) (c : Checking) (b : List Interval) → c.last ≡ Some b → IsBox ends b → EachFollows ends b (map box_of rows) → AllByRecursion (IsRight c.list c.table) rows →
-    TakesAll (started c) (map row_text rows) (started (with_rows c rows))
+    TakesAll (started c) (map row_text rows) (started (fold with_row c rows))
 rows-taken [] c b e ok h right = refl
 rows-taken (s ∷ rows) c b e ok h right =
     let next = next-box ends b s.box ok h.0 in (
@@ -164,11 +133,11 @@ rows-taken (s ∷ rows) c b e ok h right =
       rows-taken rows (with_row c s) s.box refl next h.1 right.1,
     )
 
-last_is : (rows : List Statement) (c : Checking) (b : List Interval) → c.last ≡ Some b → (with_rows c rows).last ≡ Some (last_box b (map box_of rows))
+last_is : (rows : List Statement) (c : Checking) (b : List Interval) → c.last ≡ Some b → (fold with_row c rows).last ≡ Some (last_box b (map box_of rows))
 last_is [] c b e = e
 last_is (s ∷ rows) c b e = last_is rows (with_row c s) s.box refl
 
-count_is : (rows : List Statement) (c : Checking) → (with_rows c rows).accepted ≡ c.accepted + length rows
+count_is : (rows : List Statement) (c : Checking) → (fold with_row c rows).accepted ≡ c.accepted + length rows
 count_is [] c = omega arith
 count_is (s ∷ rows) c = let e = count_is rows (with_row c s) in omega (arith, e)
 
@@ -178,25 +147,21 @@ last-no_feed : (n : ℕ) → n < 2 ^ 64 → HasNoFeed (last_text n)
 last-no_feed n h = (refl, (refl, (refl, (refl, (refl, decimal-no_feed n h)))))
 
 stated : (n : ℕ) → n < 2 ^ 64 → stated_rows (last_text n) ≡ Some n
-stated n h = plain-decimal 18446744073709551615 n h (omega (arith, h))
+stated n h = plain_number-decimal 18446744073709551615 n h (omega (arith, h))
 
 last-taken : (c : Checking) (n : ℕ) → n < 2 ^ 64 → EndsWell c n → TakesLine (started c) (last_text n) (record { checking = c; ended = Some n })
 last-taken c n h well =
     let after : Reading = record { checking = c; ended = Some n } in
     subst (λ (o : Option ℕ). TakesLast c o after) (sym (stated n h)) (well, refl)
 
-abbrev EachWritable : List Statement → Type 0
-EachWritable [] = Unit {0}
-EachWritable (s ∷ rows) = IsWritable s × EachWritable rows
-
-rows_writable : (rows : List Statement) (list : RuleList) (table : Table) (b : List Interval) → IsBox ends b → EachFollows ends b (map box_of rows) → AllByRecursion (IsRight list table) rows → EachWritable rows
+rows_writable : (rows : List Statement) (list : RuleList) (table : Table) (b : List Interval) → IsBox ends b → EachFollows ends b (map box_of rows) → AllByRecursion (IsRight list table) rows → AllByRecursion IsWritable rows
 rows_writable [] list table b ok h right = tt
 rows_writable (s ∷ rows) list table b ok h right =
     let next = next-box ends b s.box ok h.0 in
     (writable list table s next right.0, rows_writable rows list table s.box next h.1 right.1)
 
 -- the lines of rows and what comes behind them
-rows_lines : (rows : List Statement) (tail : List ℕ) → EachWritable rows →
+rows_lines : (rows : List Statement) (tail : List ℕ) → AllByRecursion IsWritable rows →
     lines_of (flat_map row_line rows ++ tail) ≡ record { whole = map row_text rows ++ (lines_of tail).whole; rest = (lines_of tail).rest }
 rows_lines [] tail w = refl
 rows_lines (s ∷ rows) tail w =
@@ -206,7 +171,7 @@ rows_lines (s ∷ rows) tail w =
     ap lines_of text ∙ line-first (row_text s) more (row-no_feed s w.0)
     ∙ ap (λ (l : Lines). let k : Lines = record { whole = row_text s ∷ l.whole; rest = l.rest } in k) (rows_lines rows tail w.1)
 
-certificate_lines : (rows : List Statement) → EachWritable rows → length rows < 2 ^ 64 →
+certificate_lines : (rows : List Statement) → AllByRecursion IsWritable rows → length rows < 2 ^ 64 →
     lines_of (certificate_text rows) ≡ record { whole = map row_text rows ++ last_text (length rows) ∷ []; rest = [] }
 certificate_lines rows w few =
     let tail : List ℕ = last_text (length rows) ++ (10 ∷ []) in
@@ -220,7 +185,7 @@ module _ (list : RuleList) (table : Table) (s : Statement) (rows : List Statemen
   one = with_row (begun list table) s
 
   abbrev end : Checking
-  end = with_rows one rows
+  end = fold with_row one rows
 
   box_ok : IsBox ends s.box
   box_ok = first-box ends s.box first
@@ -244,7 +209,7 @@ module _ (list : RuleList) (table : Table) (s : Statement) (rows : List Statemen
 
   text_valid : IsValid (begun list table) (certificate_text (s ∷ rows)) (length (s ∷ rows))
   text_valid =
-      let w : EachWritable (s ∷ rows) = (writable list table s box_ok right, rows_writable rows list table s.box box_ok follow rights) in
+      let w : AllByRecursion IsWritable (s ∷ rows) = (writable list table s box_ok right, rows_writable rows list table s.box box_ok follow rights) in
       let lines = certificate_lines (s ∷ rows) w few in
       record {
         after = record { checking = end; ended = Some (length (s ∷ rows)) };
@@ -253,13 +218,10 @@ module _ (list : RuleList) (table : Table) (s : Statement) (rows : List Statemen
         whole = ap (λ (l : Lines). l.rest) lines;
       }
 
-by_rows : (list : RuleList) (table : Table) (rows : List Statement) → IsGood list table rows → length rows < 2 ^ 64 → IsValid (begun list table) (certificate_text rows) (length rows)
-by_rows list table [] good few = absurd (partition-sweep ends [] good.partition)
-by_rows list table (s ∷ rows) good few =
+-- the text of a good certificate is valid
+pub good-valid : (list : RuleList) (table : Table) (rows : List Statement) → IsGood list table rows → length rows < 2 ^ 64 → IsValid (begun list table) (certificate_text rows) (length rows)
+good-valid list table [] good few = absurd (partition-sweep ends [] good.partition)
+good-valid list table (s ∷ rows) good few =
     let sweep = partition-sweep ends (map box_of (s ∷ rows)) good.partition in
     let right = recursion_from_All (IsRight list table) (s ∷ rows) good.right in
     text_valid list table s rows sweep.0.0 sweep.0.1 sweep.1 right.0 right.1 few
-
--- the text of a good certificate is valid
-pub good-valid : (list : RuleList) (table : Table) (rows : List Statement) → IsGood list table rows → length rows < 2 ^ 64 → IsValid (begun list table) (certificate_text rows) (length rows)
-good-valid list table rows good few = by_rows list table rows good few

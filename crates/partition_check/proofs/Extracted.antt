@@ -1,8 +1,8 @@
 -- The rows of a valid text are a good certificate.
-use Rattle.std.proofs.Common.{◌≡◌, ◌∷◌, ℕ, ◌+◌, List, [], Bool, true, false, Some, None, length, map, ap, sym, subst, ◌∙◌, arith}
-use Rattle.std.specs.Prelude.{Option, MatchBool, unwrap_or}
+use Rattle.std.proofs.Common.{◌≡◌, ◌∷◌, ℕ, ◌+◌, List, [], Bool, true, false, Some, None, length, map, ap, sym, subst, ◌∙◌, arith, Option, MatchBool}
 use Rattle.std.specs.List.{AllByRecursion}
 use Rattle.std.proofs.lemmas.List.Elements.{All-from_recursion}
+use Rattle.std.proofs.lemmas.Option.{none-some, same_Some}
 use Rattle.field_boxes.specs.Classifier.{Interval}
 use Rattle.filter_reader.specs.declared.list.RuleList.{RuleList}
 use Rattle.ternary_words.specs.declared.table.Table.{Table}
@@ -34,9 +34,6 @@ record HasRows (c : Checking) (n : ℕ) : Type 0 where
   right : AllByRecursion (IsRight c.list c.table) rows
   count : n ≡ c.accepted + length rows
 
-some_same : (m n : ℕ) → Some m ≡ Some n → m ≡ n
-some_same m n e = ap (λ o. unwrap_or o m) e
-
 passes_right : (c : Checking) (s : Statement) → Passes c s → IsRight c.list c.table s
 passes_right c s p = record {
   rule_number = p.formed.rule;
@@ -45,9 +42,6 @@ passes_right c s p = record {
   entry = p.entry;
   alike = p.alike;
 }
-
-none_some : (n : ℕ) → None ≡ Some n → ⊥
-none_some n e = grind (arith, e)
 
 one_more : (c : Checking) (s : Statement) (n : ℕ) → Passes c s → HasRows (with_row c s) n → HasRows c n
 one_more c s n p h =
@@ -61,19 +55,18 @@ one_more c s n p h =
 
 -- nothing is taken behind the last line
 behind_last : (c : Checking) (m n : ℕ) (lines : List (List ℕ)) (after : Reading) → TakesAll (record { checking = c; ended = Some m }) lines after → after.ended ≡ Some n → m ≡ n
-behind_last c m n [] after h e = some_same m n (sym (ap (λ (r : Reading). r.ended) h) ∙ e)
+behind_last c m n [] after h e = same_Some m n (sym (ap (λ (r : Reading). r.ended) h) ∙ e)
 behind_last c m n (line ∷ lines) after h e = absurd h.1
 
 last_rows : (c : Checking) (o : Option ℕ) (n : ℕ) (next : Reading) (lines : List (List ℕ)) (after : Reading) → TakesLast c o next → TakesAll next lines after → after.ended ≡ Some n → HasRows c n
 last_rows c None n next lines after t h e = absurd t
 last_rows c (Some m) n next lines after t h e =
-    let same = behind_last c m n lines after (subst (λ (r : Reading). TakesAll r lines after) t.1 h) e in
     let count = t.0.count in
     record {
       rows = [];
       turn = t.0.through;
       right = tt;
-      count = omega (arith, same, count);
+      count = omega (arith, behind_last c m n lines after (subst (λ (r : Reading). TakesAll r lines after) t.1 h) e, count);
     }
 
 by_kind : (lines : List (List ℕ)) (c : Checking) (line : List ℕ) (t : Bool) (n : ℕ) (next after : Reading) → ((d : Checking) → TakesAll (started d) lines after → HasRows d n) →
@@ -86,7 +79,7 @@ by_kind lines c line false n next after behind t h e =
 
 -- what was taken up to a last line has its rows
 taken_rows : (lines : List (List ℕ)) (c : Checking) (n : ℕ) (after : Reading) → TakesAll (started c) lines after → after.ended ≡ Some n → HasRows c n
-taken_rows [] c n after h e = absurd (none_some n (sym (ap (λ (r : Reading). r.ended) h) ∙ e))
+taken_rows [] c n after h e = absurd (none-some n (sym (ap (λ (r : Reading). r.ended) h) ∙ e))
 taken_rows (line ∷ lines) c n after h e = by_kind lines c line (is_last_line line) n h.0 after (λ d k. taken_rows lines d n after k e) h.1 h.2 e
 
 -- the rows of a valid text are a good certificate, as many as it states

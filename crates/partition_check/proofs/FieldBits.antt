@@ -1,31 +1,25 @@
 -- The values of an interval against the bits that a mask and a value ask for.
-use Rattle.std.proofs.Common.{◌≡◌, ℕ, zero, suc, ◌+◌, ◌-◌, ◌*◌, ◌/◌, ◌%◌, ◌^◌, ◌<◌, ◌≤◌, Bool, true, false, ap, refl, sym, subst, ◌∙◌, arith, inl, inr, suc-mul}
-use Rattle.std.specs.Prelude.{nat_eq, ◌&&◌, ◌⊎◌, bit_and, IsFalse}
-use Rattle.std.proofs.lemmas.Nat.{pow_pos, shl-shr, and_shr, and_mod, and_le_r, shr_split, mod_below, div-mul-add, mod-mul-add, mod-pow-add}
+use Rattle.std.proofs.Common.{◌≡◌, ℕ, zero, suc, ◌+◌, ◌-◌, ◌*◌, ◌/◌, ◌%◌, ◌^◌, ◌<◌, ◌≤◌, Bool, true, false, ap, refl, sym, subst, ◌∙◌, arith, inl, inr, suc-mul, nat_eq, ◌&&◌, ◌⊎◌, bit_and, IsFalse}
+use Rattle.std.proofs.lemmas.Nat.{pow_pos, shl-shr, and_shr, and_mod, and_le_r, shr_split, mod_below, div-mul-add, mod-mul-add}
 use Rattle.std.proofs.Math.Nat.{div-eq_of_lt, mod-eq_of_lt, mul-le-mul_right}
 use Rattle.std.proofs.Math.Pow.{shr_mono}
-use Rattle.std.proofs.Math.Numerals.{one-add}
-use Rattle.std.proofs.lemmas.Bool.{and_left, and_right, and_parts, and_from, cases_lt, false≢true}
+use Rattle.std.proofs.lemmas.Bool.{and_left, and_right, and_parts, and_from, cases_lt, false≢true, false_from_ne_true}
 use Rattle.field_boxes.specs.Bits.{bits}
 use Rattle.field_boxes.proofs.Bits.{bits-mod}
 use Rattle.field_boxes.proofs.Powers.{double}
 use Rattle.ternary_words.specs.Word.{trit, trits, trit_agrees, agrees}
 use Rattle.partition_check.specs.WordFields.{bit_agrees, field_agrees, SomeBetween, EachBetween}
+use Rattle.ternary_words.proofs.Matching.{split_top}
 
 -- the bit of a value at a place
 abbrev pub bit : ℕ → ℕ → Bool
 bit n v = nat_eq (v / 2 ^ n % 2) 1
 
-pub not_true : (b : Bool) → (b ≡ true → ⊥) → b ≡ false
-not_true true h = absurd (h refl)
-not_true false h = refl
-
 -- values that lie in one step of 2 ^ n have one bit at n
 pub one_step : (n lo hi v : ℕ) → lo / 2 ^ n ≡ hi / 2 ^ n → lo ≤ v → v ≤ hi → v / 2 ^ n ≡ lo / 2 ^ n
 one_step n lo hi v e low high =
     let a = shr_mono {a = lo} {b = v} n low in
-    let b = shr_mono {a = v} {b = hi} n high in
-    omega (arith, a, b, e)
+    omega (arith, a, shr_mono {a = v} {b = hi} n high, e)
 
 -- of two neighbours one is odd and one is even
 parities : (q : ℕ) → ((q % 2 ≡ 0) × (suc q % 2 ≡ 1)) ⊎ ((q % 2 ≡ 1) × (suc q % 2 ≡ 0))
@@ -95,10 +89,6 @@ value_agrees m x (suc n) = and_from (bit_agrees m x n (bit n x)) (field_agrees n
 pub rest_agrees : (m x n : ℕ) → field_agrees n m x (x % 2 ^ n) ≡ true
 rest_agrees m x n = ap (λ bs. agrees (trits (bits n m) (bits n x)) bs) (bits-mod n x) ∙ value_agrees m x n
 
--- the least and the greatest value that agree
-top_part : (n v : ℕ) → v % 2 ^ suc n ≡ (v / 2 ^ n % 2) * 2 ^ n + v % 2 ^ n
-top_part n v = ap (λ k. v % 2 ^ k) (sym (one-add n)) ∙ mod-pow-add v 1 n
-
 -- the bounds of one bit
 record IsBetween (mb xb vb : ℕ) : Type 0 where
   least : xb ≤ vb
@@ -109,12 +99,11 @@ one_bit zero zero zero a b c h t = record { least = omega arith; greatest = omeg
 one_bit zero zero (suc zero) a b c h t = record { least = omega arith; greatest = omega arith }
 one_bit zero (suc xb) vb a b c h t = absurd (omega (arith, h))
 one_bit (suc zero) zero zero a b c h t = record { least = omega arith; greatest = omega arith }
-one_bit (suc zero) zero (suc zero) a b c h t = absurd (false≢true t)
-one_bit (suc zero) (suc zero) zero a b c h t = absurd (false≢true t)
 one_bit (suc zero) (suc zero) (suc zero) a b c h t = record { least = omega arith; greatest = omega arith }
 one_bit (suc (suc mb)) xb vb a b c h t = absurd (omega (arith, a))
 one_bit mb (suc (suc xb)) vb a b c h t = absurd (omega (arith, b))
 one_bit mb xb (suc (suc vb)) a b c h t = absurd (omega (arith, c))
+one_bit mb xb vb a b c h t = absurd (false≢true t)
 
 masked_bit : (m x n : ℕ) → bit_and x m ≡ x → x / 2 ^ n % 2 ≤ m / 2 ^ n % 2
 masked_bit m x n masked =
@@ -129,9 +118,8 @@ pub record IsBounded (n m x v : ℕ) : Type 0 where
 joined_bounds : (p mb xb vb m x v : ℕ) → mb < 2 → xb < 2 → vb < 2 → IsBetween mb xb vb → x ≤ v → v + m < x + p →
     (xb * p + x ≤ vb * p + v) × (vb * p + v + (mb * p + m) < xb * p + x + (p + p))
 joined_bounds p mb xb vb m x v a b c h low high =
-    let le = mul-le-mul_right p h.least in
     let up : (vb + mb) * p ≤ (xb + 1) * p = mul-le-mul_right p h.greatest in
-    (omega (arith, le, low), omega (arith, up, high))
+    (omega (arith, mul-le-mul_right p h.least, low), omega (arith, up, high))
 
 pub bounded : (n m x v : ℕ) → bit_and x m ≡ x → field_agrees n m x v ≡ true → IsBounded n m x v
 bounded zero m x v masked t = record { least = omega arith; greatest = omega arith }
@@ -141,14 +129,14 @@ bounded (suc n) m x v masked t =
     let one = one_bit (m / 2 ^ n % 2) (x / 2 ^ n % 2) (v / 2 ^ n % 2) (omega arith) (omega arith) (omega arith) (masked_bit m x n masked) both.0 in
     let joined = joined_bounds (2 ^ n) (m / 2 ^ n % 2) (x / 2 ^ n % 2) (v / 2 ^ n % 2) (m % 2 ^ n) (x % 2 ^ n) (v % 2 ^ n) (omega arith) (omega arith) (omega arith) one rest.least rest.greatest in
     record {
-      least = rw (top_part n x, top_part n v) joined.0;
-      greatest = rw (top_part n x, top_part n v, top_part n m, double n) joined.1;
+      least = rw (split_top n x, split_top n v) joined.0;
+      greatest = rw (split_top n x, split_top n v, split_top n m, double n) joined.1;
     }
 
 -- no value of the interval agrees where it lies past the least or the greatest that does
 pub none_outside : (n m x lo hi : ℕ) → bit_and x m ≡ x → m < 2 ^ n → hi < 2 ^ n → ((hi < x) ⊎ (x + (2 ^ n - 1 - m) < lo)) →
     EachBetween lo hi (λ v. IsFalse (field_agrees n m x v))
-none_outside n m x lo hi masked small within outside v low high = not_true (field_agrees n m x v) (λ t.
+none_outside n m x lo hi masked small within outside v low high = false_from_ne_true (field_agrees n m x v) (λ t.
     let b = bounded n m x v masked t in
     let under : x ≤ m = subst (λ y. y ≤ m) masked (and_le_r x m) in
     let xs : x % 2 ^ n ≡ x = mod-eq_of_lt (omega (arith, under, small)) in

@@ -1,6 +1,5 @@
 -- What agrees in the two halves of a field.
-use Rattle.std.proofs.Common.{◌≡◌, ℕ, suc, ◌+◌, ◌-◌, ◌*◌, ◌%◌, ◌^◌, ◌<◌, ◌≤◌, true, false, ap, subst, ◌∙◌, arith, add-one}
-use Rattle.std.specs.Prelude.{◌&&◌, min, IsTrue, IsFalse}
+use Rattle.std.proofs.Common.{◌≡◌, ℕ, suc, ◌+◌, ◌-◌, ◌*◌, ◌%◌, ◌^◌, ◌<◌, ◌≤◌, true, false, ap, subst, ◌∙◌, arith, add-one, ◌&&◌, min, IsTrue, IsFalse}
 use Rattle.std.proofs.lemmas.Bool.{and_left, and_right, and_from}
 use Rattle.std.proofs.lemmas.Nat.{pow_pos, mod_below}
 use Rattle.field_boxes.proofs.Powers.{double}
@@ -17,10 +16,9 @@ module _ (m x n : ℕ) where
 
   upper : (v : ℕ) → 2 ^ n ≤ v → v < 2 ^ (n + 1) → field_agrees (n + 1) m x v ≡ bit_agrees m x n true && field_agrees n m x (rest v)
   upper v h small =
-      let d = double n in
       let bound : v < 2 ^ suc n = subst (λ k. v < 2 ^ k) (add-one n) small in
       let e : v ≡ 1 * 2 ^ n + rest v = omega (arith, h) in
-      ap (λ k. field_agrees k m x v) (add-one n) ∙ ap (field_agrees (suc n) m x) e ∙ upper_half m x n (rest v) (omega (arith, bound, d, h))
+      ap (λ k. field_agrees k m x v) (add-one n) ∙ ap (field_agrees (suc n) m x) e ∙ upper_half m x n (rest v) (omega (arith, bound, double n, h))
 
   pub lower_fails : bit_agrees m x n false ≡ false → (v : ℕ) → v < 2 ^ n → field_agrees (n + 1) m x v ≡ false
   lower_fails f v h = lower v h ∙ and_left (bit_agrees m x n false) (field_agrees n m x v) f
@@ -44,12 +42,11 @@ module _ (m x n : ℕ) where
   pub upper_yes : (lo hi half begin : ℕ) → half ≡ 2 ^ n → begin ≡ lo - half → half ≤ hi → hi < 2 ^ (n + 1) → bit_agrees m x n true ≡ true →
       SomeBetween begin (hi - half) (λ v. IsTrue (field_agrees n m x v)) → SomeBetween lo hi (λ v. IsTrue (field_agrees (n + 1) m x v))
   upper_yes lo hi half begin e is above small t some =
-      let low = some.1 in
       let high = some.2 in
       let v : ℕ = some.0 + 2 ^ n in
       let back : rest v ≡ some.0 = omega arith in (
         v,
-        omega (arith, low, e, is),
+        omega (arith, some.1, e, is),
         omega (arith, high, e, above),
         upper v (omega arith) (omega (arith, high, e, above, small)) ∙ and_from (bit_agrees m x n true) (field_agrees n m x (rest v)) t (ap (field_agrees n m x) back ∙ some.3),
       )
@@ -62,5 +59,4 @@ module _ (m x n : ℕ) where
   -- of a whole field some value agrees
   pub whole_agrees : (lo hi : ℕ) → lo ≡ 0 → hi + 1 ≡ 2 ^ n → SomeBetween lo hi (λ v. IsTrue (field_agrees n m x v))
   whole_agrees lo hi a b =
-      let small = mod_below x (2 ^ n) (pow_pos n) in
-      (x % 2 ^ n, omega (arith, a), omega (arith, small, b), rest_agrees m x n)
+      (x % 2 ^ n, omega (arith, a), omega (arith, mod_below x (2 ^ n) (pow_pos n), b), rest_agrees m x n)

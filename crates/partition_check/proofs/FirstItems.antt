@@ -1,6 +1,5 @@
 -- Claims on the first of several items that each header of a box matches.
-use Rattle.std.proofs.Common.{◌≡◌, ℕ, ◌+◌, ◌-◌, ◌<◌, List, Bool, true, false, Some, None, length, get_or, take, ap, refl, sym, subst, ◌∙◌, arith, inl, inr}
-use Rattle.std.specs.Prelude.{◌≢◌, Option, position, slice_get}
+use Rattle.std.proofs.Common.{◌≡◌, ℕ, ◌+◌, ◌-◌, ◌<◌, List, Bool, true, false, Some, None, length, get_or, take, ap, refl, sym, subst, ◌∙◌, arith, inl, inr, ◌≢◌, Option, position, slice_get}
 use Rattle.std.proofs.lemmas.Bool.{cases_lt}
 use Rattle.std.proofs.lemmas.Option.{slice_get-get_or}
 use Rattle.field_boxes.specs.Classifier.{Interval}

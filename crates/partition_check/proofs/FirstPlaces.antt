@@ -1,10 +1,8 @@
 -- The first place at which a test passes.
-use Rattle.std.proofs.Common.{◌≡◌, ◌∷◌, ℕ, ◌+◌, ◌<◌, List, [], Bool, true, false, Some, None, length, get_or, take, ap, refl, sym, subst, ◌∙◌, arith, inl, inr}
-use Rattle.std.specs.Prelude.{◌≢◌, nat_lt, cond, position, slice_get, unwrap_or}
+use Rattle.std.proofs.Common.{◌≡◌, ◌∷◌, ℕ, ◌+◌, ◌<◌, List, [], Bool, true, false, Some, None, length, get_or, take, ap, refl, sym, subst, ◌∙◌, arith, inl, inr, ◌≢◌, nat_lt, cond, position, slice_get, unwrap_or, get_or-take, length-take}
 use Rattle.std.specs.List.{position_or_len}
 use Rattle.std.proofs.lemmas.Bool.{false≢true, cases_lt, lt-ltb, le-ltb}
 use Rattle.std.proofs.lemmas.Option.{slice_get_within, slice_get-get_or, unwrap_or-slice_get, none-some}
-use Rattle.std.proofs.lemmas.List.{get_or-take, length-take}
 use Rattle.std.proofs.lemmas.List.Quantifiers.{position-Some}
 use Rattle.std.proofs.lemmas.List.Sums.{position_or_len_is, fails_before_first}
 
@@ -63,7 +61,6 @@ module _ {X : Type 0} (p : X → Bool) where
 
   pub not-later : (xs : List X) (i k : ℕ) (x : X) → slice_get (take i xs) k ≡ Some x → p x ≡ true → position p xs ≢ Some i
   not-later xs i k x at t e =
-      let small = slice_get_within (take i xs) k x at in
       let cut = length-take i xs in
-      let less : k < i = omega (arith, small, cut) in
+      let less : k < i = omega (arith, slice_get_within (take i xs) k x at, cut) in
       false≢true (sym ((position-Some p xs i x e).2 k less) ∙ ap p (sym (get_or-take i xs k x less) ∙ got (take i xs) k x x at) ∙ t)

@@ -1,32 +1,13 @@
 -- The lines that are left, step by step.
-use Rattle.std.proofs.Common.{◌≡◌, ◌∷◌, ◌++◌, ℕ, zero, suc, ◌+◌, ◌-◌, ◌≤◌, List, [], length, drop, ap, sym, subst, ◌∙◌, refl, arith, inl, inr, length-append}
+use Rattle.std.proofs.Common.{◌≡◌, ◌∷◌, ◌++◌, ℕ, ◌+◌, ◌-◌, ◌≤◌, List, [], length, drop, ap, sym, subst, ◌∙◌, refl, arith, inl, inr, length-append, drop-drop}
 use Rattle.std.proofs.Math.Seq.{drop-append-add}
 use Rattle.partition_check.specs.declared.row.Wrong.{Wrong}
 use Rattle.partition_check.specs.CertificateText.{Lines, lines_of}
 use Rattle.partition_check.specs.Verdict.{Reading, TakesLine, TakesAll, FailsLine, FindsWrong}
 use Rattle.partition_check.specs.Left.{IsLeft}
 
-drop-nil : (n : ℕ) → drop {A = ℕ} n [] ≡ []
-drop-nil zero = refl
-drop-nil (suc n) = refl
-
-drop-drop : (n m : ℕ) (xs : List ℕ) → drop n (drop m xs) ≡ drop (m + n) xs
-drop-drop n zero xs = ap (λ k. drop k xs) (let e : n ≡ 0 + n = omega arith in e)
-drop-drop n (suc m) [] = drop-nil n ∙ sym (drop-nil (suc m + n))
-drop-drop n (suc m) (x ∷ xs) = drop-drop n m xs ∙ ap (λ k. drop k (x ∷ xs)) (let e : suc (m + n) ≡ suc m + n = omega arith in e)
-
 drop_line : (line more : List ℕ) → drop (length line + 1) (line ++ (10 ∷ more)) ≡ more
 drop_line line more = drop-append-add line (10 ∷ more) 1
-
-pub all-left : (r : Reading) (bytes : List ℕ) → IsLeft r bytes r bytes
-all-left r bytes = record {
-  takes = λ after t. t;
-  finds = λ w f. f;
-  rest = refl;
-  shorter = omega arith;
-  behind = ap (λ n. drop n bytes) (let e : length bytes - length bytes ≡ 0 = omega arith in e);
-  rows = omega arith;
-}
 
 module _ (before : Reading) (bytes : List ℕ) (now : Reading) (left : List ℕ) (h : IsLeft before bytes now left) where
   module _ (line more : List ℕ) (e : lines_of left ≡ record { whole = line ∷ (lines_of more).whole; rest = (lines_of more).rest }) where
@@ -36,22 +17,20 @@ module _ (before : Reading) (bytes : List ℕ) (now : Reading) (left : List ℕ)
     behind_line : left ≡ line ++ (10 ∷ more) → drop (length bytes - length more) bytes ≡ more
     behind_line parts =
         let long = ap length parts ∙ length-append line (10 ∷ more) in
-        let shorter = h.shorter in
-        let split : length bytes - length more ≡ (length bytes - length left) + (length line + 1) = omega (arith, long, shorter) in
+        let split : length bytes - length more ≡ (length bytes - length left) + (length line + 1) = omega (arith, long, h.shorter) in
         ap (λ n. drop n bytes) split ∙ sym (drop-drop (length line + 1) (length bytes - length left) bytes) ∙ ap (drop (length line + 1)) (h.behind ∙ parts) ∙ drop_line line more
 
     pub line-taken : (next : Reading) → left ≡ line ++ (10 ∷ more) → TakesLine now line next → next.checking.accepted ≤ now.checking.accepted + 1 → IsLeft before bytes next more
     line-taken next parts step rows =
         let long = ap length parts ∙ length-append line (10 ∷ more) in
         let shorter = h.shorter in
-        let old = h.rows in
         record {
           takes = λ after t. h.takes after (subst (λ (l : Lines). TakesAll now l.whole after) (sym e) (next, step, t));
           finds = λ w f. h.finds w (subst (λ (l : Lines). FindsWrong now l.whole w) (sym e) (inr (next, step, f)));
           rest = sym (ap (λ (l : Lines). l.rest) e) ∙ h.rest;
           shorter = omega (arith, long, shorter);
           behind = behind_line parts;
-          rows = omega (arith, long, old, rows);
+          rows = omega (arith, long, h.rows, rows);
         }
 
   module _ (e : lines_of left ≡ record { whole = []; rest = left }) where

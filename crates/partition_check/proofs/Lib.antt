@@ -1,4 +1,3 @@
-pub mod Held
 pub mod Passed
 pub mod Sweeps
 pub mod Places
@@ -20,7 +19,6 @@ pub mod Lines
 pub mod Taking
 pub mod LeftLines
 pub mod JoinedLines
-pub mod LongNumbers
 pub mod LongLines
 pub mod Streaming
 pub mod Buffers

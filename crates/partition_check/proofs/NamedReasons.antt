@@ -1,55 +1,30 @@
 -- The decisions of a reason have names.
-use Rattle.std.proofs.Common.{◌≡◌, ◌∷◌, ℕ, ◌≤◌, ◌-◌, List, [], Bool, true, false, Some, None, length, refl, sym, subst, inl, inr, arith}
-use Rattle.std.specs.Prelude.{All, MatchBool, Option, slice_get}
-use Rattle.std.specs.Option.{option_map_or}
-use Rattle.std.proofs.lemmas.Option.{slice_get_within}
+use Rattle.std.proofs.Common.{◌≡◌, ◌∷◌, ℕ, ◌≤◌, ◌-◌, List, [], Some, None, length, sym, subst, inl, inr, Option}
 use Rattle.field_boxes.specs.declared.rule.Rule as code
-use Rattle.field_boxes.specs.NamedRules.{IsNumberedBy}
 use Rattle.filter_reader.specs.declared.list.RuleList.{RuleList}
-use Rattle.ternary_words.specs.declared.entry.Entry.{Entry}
 use Rattle.ternary_words.specs.declared.table.Table.{Table}
-use Rattle.ternary_words.specs.Limits.{AreNumbered}
 use Rattle.partition_check.specs.declared.row.Why.{Why}
-use Rattle.partition_check.specs.declared.row.Why.TheVariants.{Form, NotNext, RuleClaim, EntryClaim, Decisions, EndsEarly, Count}
+use Rattle.partition_check.specs.declared.row.Why.TheVariants.{Decisions, EndsEarly, Count}
 use Rattle.partition_check.specs.declared.row.Wrong.{Wrong}
 use Rattle.partition_check.specs.Agreement.{HaveNames}
 use Rattle.partition_check.specs.CertificateText.{is_last_line, lines_of, stated_rows}
 use Rattle.partition_check.specs.Checking.{Statement, Checking, FailsFirst, EndsWrong}
 use Rattle.partition_check.specs.Claims.{rule_decision, entry_decision}
-use Rattle.partition_check.specs.RowLines.{LineFails, StatementFails}
+use Rattle.partition_check.specs.RowLines.{StatementFails}
 use Rattle.partition_check.specs.RowText.{statement_of_text}
 use Rattle.partition_check.specs.Verdict.{EndsBadly, Fails, FailsLast, FindsWrong, LacksEnd, Reading, started}
-use Rattle.partition_check.proofs.FirstPlaces.{got}
-use Rattle.partition_check.proofs.Soundness.{numbered_by}
+use Rattle.partition_check.proofs.Outcomes.{either_way}
+use Rattle.partition_check.proofs.Soundness.{entry_decision-within, rule_decision-within}
 use Rattle.partition_check.proofs.Streaming.{IsRead, all_keep, line_keeps}
 
-rule_within : (names : List (List ℕ)) (rs : List code.Rule) → All (IsNumberedBy names) rs → (k : ℕ) (o : Option code.Rule) → slice_get rs k ≡ o → option_map_or (λ (r : code.Rule). r.decision) o 0 ≤ length names
-rule_within names rs all k None at = omega arith
-rule_within names rs all k (Some r) at = (numbered_by names rs all k r at).1
-
-entry_within : (count : ℕ) (es : List Entry) → AreNumbered count es → (k : ℕ) (o : Option Entry) → slice_get es k ≡ o → option_map_or (λ (e : Entry). e.decision) o 0 ≤ count
-entry_within count es all k None at = omega arith
-entry_within count es all k (Some e) at = subst (λ (x : Entry). x.decision ≤ count) (got es k e e at) (all k e (slice_get_within es k e at))
-
-left_within : (list : RuleList) (number : Option ℕ) → rule_decision list.rules.items number ≤ length list.names
-left_within list None = omega arith
-left_within list (Some n) = rule_within list.names list.rules.items list.numbered (n - 1) (slice_get list.rules.items (n - 1)) refl
-
-right_within : (table : Table) (number : Option ℕ) → entry_decision table.entries.items number ≤ length table.names
-right_within table None = omega arith
-right_within table (Some n) = entry_within (length table.names) table.entries.items table.numbered (n - 1) (slice_get table.entries.items (n - 1)) refl
-
 first_named : (c : Checking) (s : Statement) (why : Why) → FailsFirst c s why → HaveNames c.list c.table why
-first_named c s Form f = tt
-first_named c s NotNext f = tt
-first_named c s RuleClaim f = tt
-first_named c s EntryClaim f = tt
 first_named c s (Decisions left right) f = (
-  subst (λ (n : ℕ). n ≤ length c.list.names) (sym f.5) (left_within c.list s.rule),
-  subst (λ (n : ℕ). n ≤ length c.table.names) (sym f.6) (right_within c.table s.entry),
+  subst (λ (n : ℕ). n ≤ length c.list.names) (sym f.5) (rule_decision-within c.list.names c.list.rules.items c.list.numbered s.rule),
+  subst (λ (n : ℕ). n ≤ length c.table.names) (sym f.6) (entry_decision-within (length c.table.names) c.table.entries.items c.table.numbered s.entry),
 )
 first_named c s EndsEarly f = absurd f
 first_named c s (Count stated found) f = absurd f
+first_named c s why f = tt
 
 stated_named : (c : Checking) (o : Option Statement) (why : Why) → StatementFails c o why → HaveNames c.list c.table why
 stated_named c None why f = subst (HaveNames c.list c.table) (sym f) tt
@@ -58,22 +33,14 @@ stated_named c (Some s) why f = first_named c s why f
 end_named : (c : Checking) (n : ℕ) (why : Why) → EndsWrong c n why → HaveNames c.list c.table why
 end_named c n EndsEarly f = tt
 end_named c n (Count stated found) f = tt
-end_named c n Form f = absurd f
-end_named c n NotNext f = absurd f
-end_named c n RuleClaim f = absurd f
-end_named c n EntryClaim f = absurd f
-end_named c n (Decisions left right) f = absurd f
+end_named c n why f = absurd f
 
 last_named : (c : Checking) (o : Option ℕ) (why : Why) → FailsLast c o why → HaveNames c.list c.table why
 last_named c None why f = subst (HaveNames c.list c.table) (sym f) tt
 last_named c (Some n) why f = end_named c n why f
 
-kind_named : (c : Checking) (line : List ℕ) (t : Bool) (why : Why) → MatchBool t (FailsLast c (stated_rows line) why) (LineFails c line why) → HaveNames c.list c.table why
-kind_named c line true why f = last_named c (stated_rows line) why f
-kind_named c line false why f = stated_named c (statement_of_text line) why f
-
 line_named : (c : Checking) (o : Option ℕ) (line : List ℕ) (why : Why) → Fails c o line why → HaveNames c.list c.table why
-line_named c None line why f = kind_named c line (is_last_line line) why f
+line_named c None line why f = either_way (is_last_line line) (last_named c (stated_rows line) why) (stated_named c (statement_of_text line) why) f
 line_named c (Some n) line why f = subst (HaveNames c.list c.table) (sym f) tt
 
 same_names : (a b : RuleList) (s t : Table) (why : Why) → a ≡ b → s ≡ t → HaveNames a s why → HaveNames b t why
@@ -88,9 +55,8 @@ lines_named (line ∷ lines) r w (inr f) =
 
 lacks_named : (list : RuleList) (table : Table) (ended : Option ℕ) (rest : List ℕ) (why : Why) → LacksEnd ended rest why → HaveNames list table why
 lacks_named list table None [] why f = subst (HaveNames list table) (sym f) tt
-lacks_named list table None (b ∷ rest) why f = subst (HaveNames list table) (sym f) tt
 lacks_named list table (Some n) [] why f = absurd f
-lacks_named list table (Some n) (b ∷ rest) why f = subst (HaveNames list table) (sym f) tt
+lacks_named list table ended rest why f = subst (HaveNames list table) (sym f) tt
 
 -- A wrong line that is found while the certificate is read, and a wrong end.
 module _ (c : Checking) (limit : ℕ) (start now : Option (List ℕ)) (room : ℕ) (kept : List ℕ) (r : Reading) (h : IsRead c limit start now room kept r) where

@@ -1,6 +1,6 @@
 -- A certificate's text has at most one verdict.
-use Rattle.std.proofs.Common.{◌≡◌, ◌∷◌, ℕ, List, [], Bool, true, false, Some, None, ap, sym, subst, ◌∙◌, inl, inr}
-use Rattle.std.specs.Prelude.{Option, MatchBool, unwrap_or}
+use Rattle.std.proofs.Common.{◌≡◌, ◌∷◌, ℕ, List, [], Bool, true, false, Some, None, ap, sym, subst, ◌∙◌, inl, inr, Option, MatchBool}
+use Rattle.std.proofs.lemmas.Option.{same_Some}
 use Rattle.partition_check.specs.declared.row.Why.{Why}
 use Rattle.partition_check.specs.declared.row.Why.TheVariants.{Form, NotNext, RuleClaim, EntryClaim, Decisions, EndsEarly, Count}
 use Rattle.partition_check.specs.declared.row.Wrong.{Wrong}
@@ -16,17 +16,12 @@ passes_or_fails c s NotNext p f = f.1 p.next
 passes_or_fails c s RuleClaim p f = f.2 p.rule
 passes_or_fails c s EntryClaim p f = f.3 p.entry
 passes_or_fails c s (Decisions left right) p f = f.4 p.alike
-passes_or_fails c s EndsEarly p f = f
-passes_or_fails c s (Count stated found) p f = f
+passes_or_fails c s why p f = f
 
 well_or_wrong : (c : Checking) (n : ℕ) (why : Why) → EndsWell c n → EndsWrong c n why → ⊥
 well_or_wrong c n EndsEarly e f = f e.through
 well_or_wrong c n (Count stated found) e f = f.1 e.count
-well_or_wrong c n Form e f = f
-well_or_wrong c n NotNext e f = f
-well_or_wrong c n RuleClaim e f = f
-well_or_wrong c n EntryClaim e f = f
-well_or_wrong c n (Decisions left right) e f = f
+well_or_wrong c n why e f = f
 
 row_apart : (c : Checking) (line : List ℕ) (after : Reading) (why : Why) → TakesRow c line after → LineFails c line why → ⊥
 row_apart c line after why t f = passes_or_fails c t.1.states why t.1.passes (subst (λ (o : Option Statement). StatementFails c o why) t.1.spelled f)
@@ -45,12 +40,9 @@ line_apart : (c : Checking) (o : Option ℕ) (line : List ℕ) (after : Reading)
 line_apart c None line after why h f = kind_apart c line (is_last_line line) after why h f
 line_apart c (Some n) line after why h f = h
 
-some_one : {A : Type 0} (x y : A) → Some x ≡ Some y → x ≡ y
-some_one x y e = ap (λ o. unwrap_or o x) e
-
 row_one : (c : Checking) (line : List ℕ) (a b : Reading) → TakesRow c line a → TakesRow c line b → a ≡ b
 row_one c line a b s t =
-    let same = some_one s.1.states t.1.states (sym s.1.spelled ∙ t.1.spelled) in
+    let same = same_Some s.1.states t.1.states (sym s.1.spelled ∙ t.1.spelled) in
     let next : s.0 ≡ t.0 = s.1.one_more ∙ ap (with_row c) same ∙ sym t.1.one_more in
     s.2 ∙ ap started next ∙ sym t.2
 
@@ -93,4 +85,4 @@ valid-apart c text n w v (inr u) =
 pub valid-one : (c : Checking) (text : List ℕ) (m n : ℕ) → IsValid c text m → IsValid c text n → m ≡ n
 valid-one c text m n u v =
     let same = all_one (lines_of text).whole (started c) u.after v.after u.takes v.takes in
-    some_one m n (sym u.ended ∙ ap (λ (x : Reading). x.ended) same ∙ v.ended)
+    same_Some m n (sym u.ended ∙ ap (λ (x : Reading). x.ended) same ∙ v.ended)

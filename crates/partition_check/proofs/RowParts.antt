@@ -1,21 +1,9 @@
 -- The spans of a row one by one, and the text of its line in parts.
-use Rattle.std.proofs.Common.{◌≡◌, ◌∷◌, ◌++◌, ℕ, List, [], length, get_or, ap, sym, ◌∙◌, refl, arith, append_assoc}
-use Rattle.std.specs.Prelude.{Option}
-use Rattle.std.specs.Fmt.{decimal}
+use Rattle.std.proofs.Common.{◌≡◌, ◌∷◌, ◌++◌, ℕ, List, [], ap, sym, ◌∙◌, refl, append_assoc, Option, decimal}
 use Rattle.field_boxes.specs.declared.span.Span.{Span}
 use Rattle.field_boxes.specs.Classifier.{Interval}
 use Rattle.field_boxes.specs.Spans.{intervals_of}
 use Rattle.partition_check.specs.RowText.{claim_text, columns_before, row_line}
-
--- the spans by their places
-pub five_spans : (spans : List Span) (a b c d e : Span) → length spans ≡ 5 → get_or spans 0 a ∷ get_or spans 1 b ∷ get_or spans 2 c ∷ get_or spans 3 d ∷ get_or spans 4 e ∷ [] ≡ spans
-five_spans [] a b c d e h = absurd (omega (arith, h))
-five_spans (v ∷ []) a b c d e h = absurd (omega (arith, h))
-five_spans (v ∷ w ∷ []) a b c d e h = absurd (omega (arith, h))
-five_spans (v ∷ w ∷ x ∷ []) a b c d e h = absurd (omega (arith, h))
-five_spans (v ∷ w ∷ x ∷ y ∷ []) a b c d e h = absurd (omega (arith, h))
-five_spans (v ∷ w ∷ x ∷ y ∷ z ∷ []) a b c d e h = refl
-five_spans (v ∷ w ∷ x ∷ y ∷ z ∷ u ∷ spans) a b c d e h = absurd (omega (arith, h))
 
 -- what stands behind the columns
 columns-append : (box : List Interval) (rest more : List ℕ) → columns_before box rest ++ more ≡ columns_before box (rest ++ more)

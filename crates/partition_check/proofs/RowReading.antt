@@ -1,61 +1,29 @@
 -- A row is read from its line as it was written.
-use Rattle.std.proofs.Common.{◌≡◌, ◌∷◌, ◌++◌, ℕ, zero, suc, ◌^◌, ◌<◌, ◌≤◌, List, [], true, false, Some, None, length, get_or, ap, sym, ◌∙◌, refl, arith, append_assoc}
-use Rattle.std.specs.Prelude.{Option, IfSome}
+use Rattle.std.proofs.Common.{◌≡◌, ◌∷◌, ◌++◌, ℕ, ◌^◌, ◌<◌, ◌≤◌, List, [], true, false, Some, None, length, ap, sym, ◌∙◌, refl, arith, append_assoc, Option, IfSome, decimal, bytes_eq}
 use Rattle.std.specs.List.{list_all}
-use Rattle.std.specs.Fmt.{decimal}
-use Rattle.std.specs.Str.{bytes_eq}
-use Rattle.std.proofs.lemmas.Bool.{ne_eqb, le-leb, false≢true}
-use Rattle.std.proofs.lemmas.Bool.Decides.{nat_tests}
-use Rattle.std.proofs.lemmas.Fmt.{first_decimal, decimal_digit}
+use Rattle.std.proofs.lemmas.Bool.{le-leb, false≢true, false_from_ne_true}
 use Rattle.std.proofs.lemmas.Slice.Eq.{bytes_eq-Decides}
 use Rattle.field_boxes.specs.Classifier.{Interval}
-use Rattle.filter_reader.proofs.Bytes.{all_joined, decimal-all, digit_number, is_number_byte}
-use Rattle.filter_reader.proofs.Decimals.{is_digit, decimal-digits, number_within-decimal}
-use Rattle.filter_reader.proofs.Spelling.{split_once-joined, is_other}
+use Rattle.text_lines.proofs.Decimals.{decimal-digits, decimal-other, is_digit, plain_number-decimal}
+use Rattle.text_lines.proofs.Joins.{all_joined, split_once-joined, is_other}
 use Rattle.partition_check.specs.Checking.{Statement}
-use Rattle.partition_check.specs.RowText.{has_leading_zero, plain_number, interval_of_text, claim_of_text, claim_text, first_interval, statement_of_text, columns_before, row_text}
+use Rattle.partition_check.specs.RowText.{interval_of_text, claim_of_text, claim_text, first_interval, statement_of_text, columns_before, row_text}
 use Rattle.partition_check.specs.RowLines.{AreSmall, IsWritable}
-use Rattle.partition_check.proofs.FieldBits.{not_true}
-
-no_zero_first : (text : List ℕ) → 48 < get_or text 0 0 → has_leading_zero text ≡ false
-no_zero_first [] h = absurd (omega (arith, h))
-no_zero_first (b ∷ []) h = refl
-no_zero_first (b ∷ c ∷ text) h = ne_eqb b 48 (λ e. omega (arith, h, e))
-
-no_leading_zero : (n : ℕ) → n < 2 ^ 64 → has_leading_zero (decimal n) ≡ false
-no_leading_zero zero h = rw (decimal_digit 0 (omega arith)) refl
-no_leading_zero (suc n) h = no_zero_first (decimal (suc n)) (first_decimal (suc n) (omega arith) h)
-
-pub plain-decimal : (greatest n : ℕ) → n < 2 ^ 64 → n ≤ greatest → plain_number greatest (decimal n) ≡ Some n
-unfolding plain_number
-plain-decimal greatest n h le = rw (no_leading_zero n h) (number_within-decimal greatest n h le)
-
-number_no_dash : (b : ℕ) → is_number_byte b ≡ true → is_other 45 b ≡ true
-number_no_dash b h = grind (arith, nat_tests)
-
-number_no_space : (b : ℕ) → is_number_byte b ≡ true → is_other 32 b ≡ true
-number_no_space b h = grind (arith, nat_tests)
-
-digit_no_dash : (b : ℕ) → is_digit b ≡ true → is_other 45 b ≡ true
-digit_no_dash b h = number_no_dash b (digit_number b h)
-
-digit_no_space : (b : ℕ) → is_digit b ≡ true → is_other 32 b ≡ true
-digit_no_space b h = number_no_space b (digit_number b h)
 
 interval_read : (i : Interval) → i.lo ≤ i.hi → i.hi < 2 ^ 32 → interval_of_text (decimal i.lo ++ (45 ∷ decimal i.hi)) ≡ Some i
 unfolding interval_of_text
 interval_read i low high =
     rw (
-      split_once-joined 45 (decimal i.lo) (decimal i.hi) (decimal-all (is_other 45) digit_no_dash i.lo (omega (arith, low, high))),
-      plain-decimal 4294967295 i.lo (omega (arith, low, high)) (omega (arith, low, high)),
-      plain-decimal 4294967295 i.hi (omega (arith, high)) (omega (arith, high)),
+      split_once-joined 45 (decimal i.lo) (decimal i.hi) (decimal-other 45 i.lo (omega arith) (omega (arith, low, high))),
+      plain_number-decimal 4294967295 i.lo (omega (arith, low, high)) (omega (arith, low, high)),
+      plain_number-decimal 4294967295 i.hi (omega (arith, high)) (omega (arith, high)),
       le-leb i.lo i.hi low,
     ) refl
 
 column_no_space : (i : Interval) → i.lo ≤ i.hi → i.hi < 2 ^ 32 → list_all (is_other 32) (decimal i.lo ++ (45 ∷ decimal i.hi)) ≡ true
 column_no_space i low high =
-    all_joined (is_other 32) (decimal i.lo) (45 ∷ decimal i.hi) (decimal-all (is_other 32) digit_no_space i.lo (omega (arith, low, high)))
-    (all_joined (is_other 32) (45 ∷ []) (decimal i.hi) refl (decimal-all (is_other 32) digit_no_space i.hi (omega (arith, high))))
+    all_joined (is_other 32) (decimal i.lo) (45 ∷ decimal i.hi) (decimal-other 32 i.lo (omega arith) (omega (arith, low, high)))
+    (all_joined (is_other 32) (45 ∷ []) (decimal i.hi) refl (decimal-other 32 i.hi (omega arith) (omega (arith, high))))
 
 first_read : (i : Interval) (rest : List ℕ) → i.lo ≤ i.hi → i.hi < 2 ^ 32 → first_interval (decimal i.lo ++ (45 ∷ (decimal i.hi ++ (32 ∷ rest)))) ≡ Some (i, rest)
 unfolding first_interval
@@ -65,7 +33,7 @@ first_read i rest low high =
 
 -- the decimal digits of a number are no dash
 no_dash : (n : ℕ) → n < 2 ^ 64 → bytes_eq (decimal n) (45 ∷ []) ≡ false
-no_dash n h = not_true (bytes_eq (decimal n) (45 ∷ [])) (λ t.
+no_dash n h = false_from_ne_true (bytes_eq (decimal n) (45 ∷ [])) (λ t.
     let e = (bytes_eq-Decides (decimal n) (45 ∷ [])).0 t in
     let none : false ≡ true = ap (list_all is_digit) (sym e) ∙ decimal-digits n h in
     false≢true none)
@@ -73,11 +41,11 @@ no_dash n h = not_true (bytes_eq (decimal n) (45 ∷ [])) (λ t.
 claim_read : (o : Option ℕ) → IfSome o (λ n. n < 2 ^ 32) → claim_of_text (claim_text o) ≡ Some o
 unfolding claim_of_text
 claim_read None h = refl
-claim_read (Some n) h = rw (no_dash n (omega (arith, h)), plain-decimal 4294967295 n (omega (arith, h)) (omega (arith, h))) refl
+claim_read (Some n) h = rw (no_dash n (omega (arith, h)), plain_number-decimal 4294967295 n (omega (arith, h)) (omega (arith, h))) refl
 
 claim_no_space : (o : Option ℕ) → IfSome o (λ n. n < 2 ^ 32) → list_all (is_other 32) (claim_text o) ≡ true
 claim_no_space None h = refl
-claim_no_space (Some n) h = decimal-all (is_other 32) digit_no_space n (omega (arith, h))
+claim_no_space (Some n) h = decimal-other 32 n (omega arith) (omega (arith, h))
 
 five_read : (a b c d e : Interval) (rule entry : Option ℕ) → AreSmall (a ∷ b ∷ c ∷ d ∷ e ∷ []) → IfSome rule (λ n. n < 2 ^ 32) → IfSome entry (λ n. n < 2 ^ 32) →
     statement_of_text (row_text (record { box = a ∷ b ∷ c ∷ d ∷ e ∷ []; rule = rule; entry = entry })) ≡ Some (record { box = a ∷ b ∷ c ∷ d ∷ e ∷ []; rule = rule; entry = entry })
@@ -97,13 +65,8 @@ five_read a b c d e rule entry s r t =
 
 by_box : (box : List Interval) (rule entry : Option ℕ) → length box ≡ 5 → AreSmall box → IfSome rule (λ n. n < 2 ^ 32) → IfSome entry (λ n. n < 2 ^ 32) →
     statement_of_text (row_text (record { box = box; rule = rule; entry = entry })) ≡ Some (record { box = box; rule = rule; entry = entry })
-by_box [] rule entry h s r t = absurd (omega (arith, h))
-by_box (a ∷ []) rule entry h s r t = absurd (omega (arith, h))
-by_box (a ∷ b ∷ []) rule entry h s r t = absurd (omega (arith, h))
-by_box (a ∷ b ∷ c ∷ []) rule entry h s r t = absurd (omega (arith, h))
-by_box (a ∷ b ∷ c ∷ d ∷ []) rule entry h s r t = absurd (omega (arith, h))
 by_box (a ∷ b ∷ c ∷ d ∷ e ∷ []) rule entry h s r t = five_read a b c d e rule entry s r t
-by_box (a ∷ b ∷ c ∷ d ∷ e ∷ f ∷ box) rule entry h s r t = absurd (omega (arith, h))
+by_box box rule entry h s r t = absurd (omega (arith, h))
 
 pub written-read : (s : Statement) → IsWritable s → statement_of_text (row_text s) ≡ Some s
 written-read s w = by_box s.box s.rule s.entry w.five w.small w.rule w.entry

@@ -1,7 +1,5 @@
 -- Spans that are the same.
-use Rattle.std.proofs.Common.{◌≡◌, ◌≤◌, ℕ, List, ap, subst}
-use Rattle.std.specs.Prelude.{Bool, nat_eq, ◌&&◌}
-use Rattle.std.specs.Bool.{Decides}
+use Rattle.std.proofs.Common.{◌≡◌, ◌≤◌, ℕ, List, ap, subst, Bool, nat_eq, ◌&&◌, Decides}
 use Rattle.std.specs.Coded.{le_prop}
 use Rattle.std.specs.Cmp.Lexicographic.{pointwise, pointwise_decides}
 use Rattle.std.proofs.lemmas.Bool.Decides.{Decides-eqb, Decides-and, Decides-like}

@@ -1,6 +1,5 @@
 -- What is said of a certificate depends on what list and table are, and not on how they are kept.
-use Rattle.std.proofs.Common.{◌≡◌, ◌∷◌, ℕ, ◌+◌, ◌-◌, List, [], Bool, true, false, Some, None, length, ap, refl, sym, subst, inl, inr, arith, ◌∙◌}
-use Rattle.std.specs.Prelude.{All, MatchBool, Option, map, option_and_then, option_map, position, slice_get, take, vec_len}
+use Rattle.std.proofs.Common.{◌≡◌, ◌∷◌, ℕ, ◌+◌, ◌-◌, List, [], Bool, true, false, Some, None, length, ap, refl, sym, subst, inl, inr, arith, ◌∙◌, All, MatchBool, Option, map, option_and_then, option_map, position, slice_get, take, vec_len}
 use Rattle.std.specs.List.{position_or_len}
 use Rattle.std.specs.Option.{option_map_or}
 use Rattle.std.proofs.lemmas.List.{length-map}
@@ -28,7 +27,8 @@ use Rattle.partition_check.specs.NextBox.{MayCome}
 use Rattle.partition_check.specs.Streams.{ReadsTooMuch, ReadsWrong}
 use Rattle.partition_check.specs.Verdict.{Reading, Takes, TakesAll, TakesLast, TakesRow, started}
 use Rattle.partition_check.proofs.OneVerdict.{all-apart}
-use Rattle.partition_check.proofs.Soundness.{matches_by_sets, name_of, numbered_name}
+use Rattle.partition_check.proofs.Soundness.{name_of, numbered_name}
+use Rattle.field_boxes.proofs.SameSets.{matches_by_sets}
 
 -- two checkings that have come as far, of lists and tables that are the same
 record SeenAlike (c d : Checking) : Type 0 where

@@ -1,34 +1,31 @@
 -- Boxes that lie in one another, and items before a place.
-use Rattle.std.proofs.Common.{◌≡◌, ◌∷◌, ℕ, zero, suc, ◌≤◌, ◌<◌, List, [], Bool, Some, length, take, sym, subst, arith, inl, inr}
-use Rattle.std.specs.Prelude.{Contains, slice_get, slice_index_or, IsFalse}
+use Rattle.std.proofs.Common.{◌≡◌, ◌∷◌, ℕ, zero, suc, ◌≤◌, ◌<◌, List, [], Bool, Some, length, take, sym, subst, arith, inl, inr, Contains, slice_get, slice_index_or, IsFalse}
 use Rattle.std.proofs.lemmas.Bool.{cases_lt}
 use Rattle.std.proofs.lemmas.Option.{slice_get_within, none-some}
 use Rattle.field_boxes.specs.Classifier.{Interval}
-use Rattle.partition_check.specs.Boxes.{LiesIn, EachIn}
+use Rattle.partition_check.specs.Boxes.{EachIn}
+use Rattle.field_boxes.specs.Boxes.{LiesIn}
 use Rattle.partition_check.specs.Sieves.{IsWithin, NoneBefore, OneBefore, IsMissedOrKept, IsSifted}
 use Rattle.partition_check.proofs.FirstItems.{NoneMeets, OneMeets}
 
 -- a header of the inner box lies in the outer one
 pub within-lies : (inner outer : List Interval) (header : List ℕ) → IsWithin inner outer → LiesIn inner header → LiesIn outer header
-within-lies [] [] header w h = h
 within-lies [] (j ∷ outer) header w h = absurd w
 within-lies (i ∷ inner) [] header w h = absurd w
-within-lies (i ∷ inner) (j ∷ outer) [] w h = h
 within-lies (i ∷ inner) (j ∷ outer) (v ∷ vs) w h = (omega (arith, w.0, h.0), omega (arith, w.1, h.1), within-lies inner outer vs w.2 h.2)
+within-lies inner outer header w h = h
 
 -- what stands in the first n items stands there in all of them, and the other way round
 pub taken : {X : Type 0} (xs : List X) (n k : ℕ) (x : X) → slice_get (take n xs) k ≡ Some x → (k < n) × (slice_get xs k ≡ Some x)
-taken [] zero k x at = absurd (none-some x at)
 taken [] (suc n) k x at = absurd (none-some x at)
-taken (y ∷ xs) zero k x at = absurd (none-some x at)
 taken (y ∷ xs) (suc n) zero x at = (omega arith, at)
 taken (y ∷ xs) (suc n) (suc k) x at = let t = taken xs n k x at in (omega (arith, t.0), t.1)
+taken xs n k x at = absurd (none-some x at)
 
 pub take-it : {X : Type 0} (xs : List X) (n k : ℕ) (x : X) → k < n → slice_get xs k ≡ Some x → slice_get (take n xs) k ≡ Some x
 take-it xs zero k x less at = absurd (omega (arith, less))
-take-it [] (suc n) k x less at = at
-take-it (y ∷ xs) (suc n) zero x less at = at
 take-it (y ∷ xs) (suc n) (suc k) x less at = take-it xs n k x (omega (arith, less)) at
+take-it xs n k x less at = at
 
 module _ {X : Type 0} (p : List ℕ → X → Bool) (box : List Interval) where
   -- before a place, and in the items taken up to there

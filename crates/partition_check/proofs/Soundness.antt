@@ -1,47 +1,40 @@
 -- An accepted row: what its claims say of names, and that the checking stays sound.
-use Rattle.std.proofs.Common.{◌≡◌, ◌∷◌, ℕ, zero, suc, ◌-◌, ◌^◌, ◌<◌, ◌≤◌, List, [], Bool, true, false, cond, Some, None, length, get_or, ap, refl, sym, subst, ◌∙◌, arith}
-use Rattle.std.specs.Prelude.{◌&&◌, All, Option, find, map, nat_lt, option_and_then, option_map, position, slice_get, unwrap_or}
+use Rattle.std.proofs.Common.{◌≡◌, ◌∷◌, ℕ, zero, suc, ◌-◌, ◌^◌, ◌<◌, ◌≤◌, List, [], Bool, true, false, cond, Some, None, length, get_or, ap, refl, sym, subst, ◌∙◌, arith, All, Option, find, map, nat_lt, option_and_then, option_map, position, slice_get, ltb-false}
+use Rattle.std.proofs.lemmas.Bool.{cond_both}
 use Rattle.std.specs.Option.{option_map_or}
 use Rattle.std.specs.List.{position_or_len}
-use Rattle.std.proofs.lemmas.Bool.{ltb-false}
 use Rattle.std.proofs.lemmas.List.Folds.{find_at}
 use Rattle.std.proofs.lemmas.Option.{slice_get-get_or, slice_get_past, slice_get_within}
 use Rattle.field_boxes.specs.declared.rule.Rule as code
-use Rattle.field_boxes.specs.Classifier.{Interval, Rule, union_holds, set_holds, matches, source}
+use Rattle.field_boxes.specs.Classifier.{Interval, Rule, matches, source}
 use Rattle.field_boxes.specs.Fields.{stated}
 use Rattle.field_boxes.specs.NamedRules.{IsNumberedBy, named_rule, named_rules}
 use Rattle.field_boxes.specs.Names.{name_at, text_of}
 use Rattle.field_boxes.specs.Rules as rules
+use Rattle.field_boxes.proofs.SameSets.{matches_by_sets}
 use Rattle.filter_reader.specs.declared.list.RuleList.{RuleList}
 use Rattle.ternary_words.specs.declared.entry.Entry.{Entry}
 use Rattle.ternary_words.specs.declared.table.Table.{Table}
 use Rattle.ternary_words.specs.Limits.{AreNumbered}
 use Rattle.ternary_words.specs.Table.{answer}
 use Rattle.ternary_words.specs.Views as words
-use Rattle.partition_check.specs.Boxes.{ends, LiesIn}
+use Rattle.partition_check.specs.Boxes.{ends}
+use Rattle.field_boxes.specs.Boxes.{LiesIn}
 use Rattle.partition_check.specs.Passed.{WasPassed}
 use Rattle.partition_check.specs.Claims.{place_of, rule_decision, entry_decision}
-use Rattle.partition_check.specs.Agreement.{name_decided, name_answered, AgreeOn, Agree}
+use Rattle.filter_reader.specs.Lists.{name_decided}
+use Rattle.partition_check.specs.Agreement.{name_answered, AgreeOn, Agree}
 use Rattle.partition_check.specs.Checking.{Statement, Checking, IsSound, Passes, IsThrough, IsLastOfAll, with_row}
 use Rattle.partition_check.proofs.Passed.{keeps, passed-ends}
 use Rattle.partition_check.proofs.FirstPlaces.{got}
 use Rattle.partition_check.proofs.BoxHeaders.{up_to-header, header-up_to}
 
--- what decides has no part in whether it matches
-pub matches_by_sets : {A B : Type 0} (fields values : List ℕ) (r : Rule A) (s : Rule B) → r.sets ≡ s.sets → matches fields values r ≡ matches fields values s
-matches_by_sets [] values r s e = refl
-matches_by_sets (f ∷ fields) [] r s e = refl
-matches_by_sets (f ∷ fields) (v ∷ values) r s e =
-    ap (λ sets. union_holds v (unwrap_or (slice_get sets f) []) && matches fields values r) e
-    ∙ ap (λ b. set_holds f v s && b) (matches_by_sets fields values r s e)
-
-place_step : {A : Type 0} (xs : List A) (k : ℕ) (t : Bool) → nat_lt k (length xs) ≡ t → option_and_then (slice_get xs) (cond t (Some k) None) ≡ slice_get xs k
-place_step xs k true h = refl
-place_step xs k false h = sym (slice_get_past xs k (ltb-false k (length xs) h))
-
 -- what stands at the first place is the first that passes
 found_at : {A : Type 0} (p : A → Bool) (xs : List A) → option_and_then (slice_get xs) (position p xs) ≡ find p xs
-found_at p xs = place_step xs (position_or_len p xs) (nat_lt (position_or_len p xs) (length xs)) refl ∙ sym (find_at p xs)
+found_at p xs =
+    let k = position_or_len p xs in
+    cond_both (nat_lt k (length xs)) (Some k) None (λ o. option_and_then (slice_get xs) o ≡ slice_get xs k) (λ e. refl) (λ e. sym (slice_get_past xs k (ltb-false k (length xs) e)))
+    ∙ sym (find_at p xs)
 
 -- the name of a decision
 abbrev pub name_of : List (List ℕ) → code.Rule → List ℕ
@@ -132,18 +125,17 @@ pub through-agrees : (c : Checking) → IsSound c → IsThrough c → Agree c.li
 through-agrees c sound t = through c c.last refl sound t
 
 -- the decisions of rules and of entries with a number are those of names
-rule_below : (names : List (List ℕ)) (rs : List code.Rule) → All (IsNumberedBy names) rs → (k : ℕ) (o : Option code.Rule) → slice_get rs k ≡ o → option_map_or (λ (r : code.Rule). r.decision) o 0 ≤ length names
-rule_below names rs all k None at = omega arith
-rule_below names rs all k (Some r) at = (numbered_by names rs all k r at).1
+decision_below : {X : Type 0} (decision : X → ℕ) (count : ℕ) (xs : List X) → ((k : ℕ) (x : X) → slice_get xs k ≡ Some x → decision x ≤ count) →
+    (k : ℕ) (o : Option X) → slice_get xs k ≡ o → option_map_or decision o 0 ≤ count
+decision_below decision count xs all k None at = omega arith
+decision_below decision count xs all k (Some x) at = all k x at
 
 pub rule_decision-within : (names : List (List ℕ)) (rs : List code.Rule) → All (IsNumberedBy names) rs → (number : Option ℕ) → rule_decision rs number ≤ length names
 rule_decision-within names rs all None = omega arith
-rule_decision-within names rs all (Some n) = rule_below names rs all (n - 1) (slice_get rs (n - 1)) refl
-
-entry_below : (count : ℕ) (es : List Entry) → AreNumbered count es → (k : ℕ) (o : Option Entry) → slice_get es k ≡ o → option_map_or (λ (e : Entry). e.decision) o 0 ≤ count
-entry_below count es all k None at = omega arith
-entry_below count es all k (Some e) at = subst (λ (x : Entry). x.decision ≤ count) (got es k e e at) (all k e (slice_get_within es k e at))
+rule_decision-within names rs all (Some n) =
+    decision_below (λ (r : code.Rule). r.decision) (length names) rs (λ k r at. (numbered_by names rs all k r at).1) (n - 1) (slice_get rs (n - 1)) refl
 
 pub entry_decision-within : (count : ℕ) (es : List Entry) → AreNumbered count es → (number : Option ℕ) → entry_decision es number ≤ count
 entry_decision-within count es all None = omega arith
-entry_decision-within count es all (Some n) = entry_below count es all (n - 1) (slice_get es (n - 1)) refl
+entry_decision-within count es all (Some n) =
+    decision_below (λ (e : Entry). e.decision) count es (λ k e at. subst (λ (x : Entry). x.decision ≤ count) (got es k e e at) (all k e (slice_get_within es k e at))) (n - 1) (slice_get es (n - 1)) refl

@@ -1,11 +1,9 @@
 -- A certificate that is read piece by piece: what is taken of the pieces is what is taken of the whole.
-use Rattle.std.proofs.Common.{◌≡◌, ◌∷◌, ◌++◌, ℕ, zero, suc, ◌+◌, ◌-◌, ◌<◌, ◌≤◌, List, [], Bool, true, false, Some, None, length, take, drop, ap, sym, subst, ◌∙◌, refl, arith, inl, inr, append_assoc, append-nil, length-append, length-drop, Result, Ok, Err}
-use Rattle.std.specs.Prelude.{Option, IfSome, ◌⊎◌, MatchBool}
+use Rattle.std.proofs.Common.{◌≡◌, ◌∷◌, ◌++◌, ℕ, ◌+◌, ◌-◌, ◌<◌, ◌≤◌, List, [], Some, None, length, take, drop, ap, sym, subst, ◌∙◌, refl, arith, inl, inr, append_assoc, append-nil, length-append, length-drop, Result, Ok, Err, Option, IfSome, ◌⊎◌, length-take, take_all, take_at, take-append-drop, IsErrAnd}
 use Rattle.std.specs.Io.KnownBytes.{Consumes, IsAtEnd}
 use Rattle.std.specs.Io.KnownBytes as known
-use Rattle.std.proofs.KnownBytes.{Consumes-nil, Consumes-trans, Consumes-kept}
+use Rattle.std.proofs.KnownBytes.{Consumes-trans, Consumes-kept}
 use Rattle.std.proofs.lemmas.Bool.{cases_lt}
-use Rattle.std.proofs.lemmas.List.{length-take, take_all, take_at, take-append-drop}
 use Rattle.filter_reader.specs.declared.list.RuleList.{RuleList}
 use Rattle.ternary_words.specs.declared.table.Table.{Table}
 use Rattle.partition_check.specs.Agreement.{Agree}
@@ -14,13 +12,13 @@ use Rattle.partition_check.specs.declared.row.Why.TheVariants.{Form}
 use Rattle.partition_check.specs.declared.row.Wrong.{Wrong}
 use Rattle.partition_check.specs.declared.stream.Stop.{Stop}
 use Rattle.partition_check.specs.declared.stream.Stop.TheVariants as stops
-use Rattle.razor_base.specs.Faults.{Rose}
-use Rattle.std.specs.Result.{IsErrAnd}
 use Rattle.partition_check.specs.CertificateText.{Lines, lines_of, is_last_line, stated_rows}
 use Rattle.partition_check.specs.Checking.{Checking, EndsWell}
 use Rattle.partition_check.specs.Verdict.{Reading, started, Takes, Fails, TakesRow, TakesLast, TakesAll, FindsWrong, EndsBadly, LacksEnd, IsValid, IsUnended, HasNoWrongLine}
 use Rattle.partition_check.specs.Streams.{ReadsValid, ReadsWrong, ReadsTooMuch, ReadsUpTo}
 use Rattle.partition_check.proofs.JoinedLines.{lines-append, lines-joined, join, HasNoFeed, rest-no_feed, append-no_feed, take-no_feed, whole-count}
+use Rattle.partition_check.proofs.Outcomes.{either_way}
+use Rattle.std.proofs.Math.Seq.{take-append-add}
 use Rattle.partition_check.proofs.LongLines.{long-fails, long-form, long-taken}
 
 -- Lines that are taken, one list after another.
@@ -38,66 +36,30 @@ finds-behind : (a b : List (List ℕ)) (r m : Reading) (w : Wrong) → TakesAll 
 finds-behind [] b r m w h f = subst (λ (x : Reading). FindsWrong x b w) h f
 finds-behind (line ∷ a) b r m w h f = inr (h.0, h.1, finds-behind a b h.0 m w h.2 f)
 
--- What a line that is taken keeps: the list, the table, the count but for one, and that an end is well.
-pub record Keeps (r after : Reading) : Type 0 where
+-- What so many lines that are taken keep: the list, the table, the count but for as many, and that an end is well.
+pub record Keep (count : ℕ) (r after : Reading) : Type 0 where
   pub list : after.checking.list ≡ r.checking.list
   pub table : after.checking.table ≡ r.checking.table
-  pub rows : after.checking.accepted ≤ r.checking.accepted + 1
+  pub rows : after.checking.accepted ≤ r.checking.accepted + count
   pub well : IfSome after.ended (EndsWell after.checking)
 
-row_keeps : (c : Checking) (line : List ℕ) (after : Reading) → TakesRow c line after → Keeps (started c) after
-row_keeps c line after h =
-    let e = ap (λ (x : Reading). x.checking) h.2 ∙ h.1.one_more in
-    let rows = ap (λ (x : Checking). x.accepted) e in
-    record {
-      list = ap (λ (x : Checking). x.list) e;
-      table = ap (λ (x : Checking). x.table) e;
-      rows = omega (arith, rows);
-      well = subst (λ (x : Reading). IfSome x.ended (EndsWell x.checking)) (sym h.2) tt;
-    }
+row_keeps : (c : Checking) (line : List ℕ) (after : Reading) → TakesRow c line after → Keep 1 (started c) after
+row_keeps c line after h = subst (λ (x : Reading). Keep 1 (started c) x) (sym (h.2 ∙ ap started h.1.one_more)) (record { list = refl; table = refl; rows = omega arith; well = tt })
 
-last_keeps : (c : Checking) (o : Option ℕ) (after : Reading) → TakesLast c o after → Keeps (started c) after
+last_keeps : (c : Checking) (o : Option ℕ) (after : Reading) → TakesLast c o after → Keep 1 (started c) after
 last_keeps c None after h = absurd h
-last_keeps c (Some n) after h =
-    let e = ap (λ (x : Reading). x.checking) h.1 in
-    let rows = ap (λ (x : Checking). x.accepted) e in
-    record {
-      list = ap (λ (x : Checking). x.list) e;
-      table = ap (λ (x : Checking). x.table) e;
-      rows = omega (arith, rows);
-      well = subst (λ (x : Reading). IfSome x.ended (EndsWell x.checking)) (sym h.1) h.0;
-    }
+last_keeps c (Some n) after h = subst (λ (x : Reading). Keep 1 (started c) x) (sym h.1) (record { list = refl; table = refl; rows = omega arith; well = h.0 })
 
-kind_keeps : (c : Checking) (line : List ℕ) (t : Bool) (after : Reading) → MatchBool t (TakesLast c (stated_rows line) after) (TakesRow c line after) → Keeps (started c) after
-kind_keeps c line true after h = last_keeps c (stated_rows line) after h
-kind_keeps c line false after h = row_keeps c line after h
-
-pub line_keeps : (c : Checking) (o : Option ℕ) (line : List ℕ) (after : Reading) → Takes c o line after → Keeps (record { checking = c; ended = o }) after
-line_keeps c None line after h = let k = kind_keeps c line (is_last_line line) after h in record { list = k.list; table = k.table; rows = k.rows; well = k.well }
+pub line_keeps : (c : Checking) (o : Option ℕ) (line : List ℕ) (after : Reading) → Takes c o line after → Keep 1 (record { checking = c; ended = o }) after
+line_keeps c None line after h = either_way (is_last_line line) (last_keeps c (stated_rows line) after) (row_keeps c line after) h
 line_keeps c (Some n) line after h = absurd h
 
--- and so do all lines
-pub record KeepAll (r after : Reading) (lines : List (List ℕ)) : Type 0 where
-  pub list : after.checking.list ≡ r.checking.list
-  pub table : after.checking.table ≡ r.checking.table
-  pub rows : after.checking.accepted ≤ r.checking.accepted + length lines
-  pub well : IfSome after.ended (EndsWell after.checking)
-
-pub all_keep : (lines : List (List ℕ)) (r after : Reading) → IfSome r.ended (EndsWell r.checking) → TakesAll r lines after → KeepAll r after lines
-all_keep [] r after well h =
-    let rows = ap (λ (x : Reading). x.checking.accepted) h in
-    record {
-      list = ap (λ (x : Reading). x.checking.list) h;
-      table = ap (λ (x : Reading). x.checking.table) h;
-      rows = omega (arith, rows);
-      well = subst (λ (x : Reading). IfSome x.ended (EndsWell x.checking)) (sym h) well;
-    }
+pub all_keep : (lines : List (List ℕ)) (r after : Reading) → IfSome r.ended (EndsWell r.checking) → TakesAll r lines after → Keep (length lines) r after
+all_keep [] r after well h = subst (λ (x : Reading). Keep 0 r x) (sym h) (record { list = refl; table = refl; rows = omega arith; well = well })
 all_keep (line ∷ lines) r after well h =
     let k = line_keeps r.checking r.ended line h.0 h.1 in
     let rest = all_keep lines h.0 after k.well h.2 in
-    let one = k.rows in
-    let more = rest.rows in
-    record { list = rest.list ∙ k.list; table = rest.table ∙ k.table; rows = omega (arith, one, more); well = rest.well }
+    record { list = rest.list ∙ k.list; table = rest.table ∙ k.table; rows = omega (arith, k.rows, rest.rows); well = rest.well }
 
 -- What is kept of an unfinished line: all of it, or of a line that is too long some bytes that are too many.
 
@@ -113,11 +75,7 @@ StandsFor rest kept = (rest ≡ kept) ⊎ AreLong rest kept
 module _ (rest kept : List ℕ) (l : AreLong rest kept) where
   front_long : (text : List ℕ) → (128 < length (rest ++ text)) × (128 < length (kept ++ text))
   front_long text =
-      let a = length-append rest text in
-      let b = length-append kept text in
-      let c = l.rest_long in
-      let d = l.kept_long in
-      (omega (arith, a, c), omega (arith, b, d))
+      (omega (arith, length-append rest text, l.rest_long), omega (arith, length-append kept text, l.kept_long))
 
   join_takes : (lines : List (List ℕ)) (more : List ℕ) (r after : Reading) → HasNoFeed more → TakesAll r (join kept lines more).whole after →
       TakesAll r (join rest lines more).whole after × AreLong (join rest lines more).rest (join kept lines more).rest
@@ -186,9 +144,6 @@ pub record IsRead (c : Checking) (limit : ℕ) (start now : Option (List ℕ)) (
   pub takes : TakesAll (started c) (lines_of seen).whole r
   pub rest : StandsFor (lines_of seen).rest kept
 
-pub nothing-read : (c : Checking) (limit : ℕ) (start : Option (List ℕ)) → IsRead c limit start start limit [] (started c)
-nothing-read c limit start = record { seen = []; moved = Consumes-nil start; room_is = omega arith; takes = refl; rest = inl refl }
-
 module _ (c : Checking) (limit : ℕ) (start now : Option (List ℕ)) (room : ℕ) (kept : List ℕ) (r : Reading) (h : IsRead c limit start now room kept r) where
   -- the lines of what was read, and of a piece behind it
   both_taken : (piece : List ℕ) (after : Reading) → TakesAll r (lines_of (kept ++ piece)).whole after →
@@ -210,24 +165,18 @@ module _ (c : Checking) (limit : ℕ) (start now : Option (List ℕ)) (room : �
       IsRead c limit start after (room - length piece) (take 129 (lines_of (kept ++ piece)).rest) next
   piece-read after piece next moved small t =
       let both = both_taken piece next t in
-      let long = length-append h.seen piece in
-      let fits = h.room_is in
       record {
         seen = h.seen ++ piece;
         moved = Consumes-trans start now after h.seen piece h.moved moved;
-        room_is = omega (arith, long, fits, small);
+        room_is = omega (arith, length-append h.seen piece, h.room_is, small);
         takes = both.0;
         rest = cut_kept (lines_of (h.seen ++ piece)).rest (lines_of (kept ++ piece)).rest (rest-no_feed (h.seen ++ piece)) both.1;
       }
 
 take_past : (n : ℕ) (xs ys : List ℕ) → length xs ≤ n → take n (xs ++ ys) ≡ xs ++ take (n - length xs) ys
-take_past n [] ys h = ap (λ k. take k ys) (let e : n ≡ n - 0 = omega arith in e)
-take_past zero (x ∷ xs) ys h = absurd (omega (arith, h))
-take_past (suc n) (x ∷ xs) ys h =
-    ap (λ t. x ∷ t) (take_past n xs ys (omega (arith, h)) ∙ ap (λ k. xs ++ take k ys) (let e : n - length xs ≡ suc n - length (x ∷ xs) = omega arith in e))
-
-no_longer : (xs : List ℕ) (n : ℕ) → length xs ≤ n → length (xs ++ []) ≤ n
-no_longer xs n h = let e = length-append xs [] in omega (arith, e, h)
+take_past n xs ys h =
+    let e : length xs + (n - length xs) ≡ n = omega (arith, h) in
+    ap (λ m. take m (xs ++ ys)) (sym e) ∙ take-append-add xs ys (n - length xs)
 
 lacks : (ended : Option ℕ) (rest kept : List ℕ) (why : Why) → StandsFor rest kept → LacksEnd ended kept why → LacksEnd ended rest why
 lacks ended rest kept why (inl e) h = subst (λ (x : List ℕ). LacksEnd ended x why) (sym e) h
@@ -235,6 +184,13 @@ lacks ended [] kept why (inr l) h = let long = l.rest_long in absurd (omega (ari
 lacks ended (b ∷ rest) [] why (inr l) h = let long = l.kept_long in absurd (omega (arith, long))
 lacks None (b ∷ rest) (d ∷ kept) why (inr l) h = h
 lacks (Some n) (b ∷ rest) (d ∷ kept) why (inr l) h = h
+
+-- what holds of a start that goes on behind what was taken, where this much is known of what is left
+from_start : (E : Option (List ℕ) → Type 0) (Q : List ℕ → Option (List ℕ) → Type 0) (seen : List ℕ) (start after : Option (List ℕ)) →
+    ((all left : List ℕ) → all ≡ seen ++ left → E (Some left) → Q all (Some left)) → Consumes start after seen → E after → IfSome start (λ all. Q all after)
+from_start E Q seen None after f moved end = tt
+from_start E Q seen (Some all) (Some left) f moved end = f all left moved end
+from_start E Q seen (Some all) None f moved end = absurd moved
 
 no_rest : (rest kept : List ℕ) → StandsFor rest kept → kept ≡ [] → rest ≡ []
 no_rest rest kept (inl e) h = e ∙ h
@@ -257,89 +213,68 @@ module _ (c : Checking) (limit : ℕ) (start now : Option (List ℕ)) (room : �
 
   pub found-wrong : (after : Option (List ℕ)) (piece more : List ℕ) (w : Wrong) → Consumes now after (piece ++ more) → length piece ≤ room →
       FindsWrong r (lines_of (kept ++ piece)).whole w → IfSome start (λ all. ReadsWrong c limit all w)
-  found-wrong after piece more w moved small f = at_start start after (Consumes-trans start now after h.seen (piece ++ more) h.moved moved)
-    where
-      at_start : (start after : Option (List ℕ)) → Consumes start after (h.seen ++ (piece ++ more)) → IfSome start (λ all. ReadsWrong c limit all w)
-      at_start None after m = tt
-      at_start (Some all) None m = absurd m
-      at_start (Some all) (Some left) m = found_in all left piece more w m small f
+  found-wrong after piece more w moved small f =
+      from_start (λ left. Unit {0}) (λ all left. ReadsWrong c limit all w) (h.seen ++ (piece ++ more)) start after (λ all left e end. found_in all left piece more w e small f)
+      (Consumes-trans start now after h.seen (piece ++ more) h.moved moved) tt
 
   too_much : (all left : List ℕ) (piece more : List ℕ) (next : Reading) → all ≡ (h.seen ++ (piece ++ more)) ++ left → length piece ≡ room → 0 < length more →
       TakesAll r (lines_of (kept ++ piece)).whole next → ReadsTooMuch c limit all
   too_much all left piece more next e full some t =
       let long = length-append h.seen piece in
       let fits = h.room_is in
-      let rest = length-append more left in
       let parts : all ≡ (h.seen ++ piece) ++ (more ++ left) =
       e ∙ ap (λ t. t ++ left) (sym (append_assoc h.seen piece more)) ∙ append_assoc (h.seen ++ piece) more left in
-      let whole = ap length parts ∙ length-append (h.seen ++ piece) (more ++ left) in
       let cut : take limit all ≡ h.seen ++ piece =
       ap (take limit) parts ∙ take_at (h.seen ++ piece) (more ++ left) limit (omega (arith, long, fits, full)) in
       record {
-        longer = omega (arith, whole, long, fits, full, rest, some);
+        longer = omega (arith, ap length parts ∙ length-append (h.seen ++ piece) (more ++ left), long, fits, full, length-append more left, some);
         right = subst (λ (t : List ℕ). HasNoWrongLine c t) (sym cut) (next, (both_taken c limit start now room kept r h piece next t).0);
       }
 
   pub past-limit : (after : Option (List ℕ)) (piece more : List ℕ) (next : Reading) → Consumes now after (piece ++ more) → length piece ≡ room → 0 < length more →
       TakesAll r (lines_of (kept ++ piece)).whole next → IfSome start (λ all. ReadsTooMuch c limit all)
-  past-limit after piece more next moved full some t = at_start start after (Consumes-trans start now after h.seen (piece ++ more) h.moved moved)
-    where
-      at_start : (start after : Option (List ℕ)) → Consumes start after (h.seen ++ (piece ++ more)) → IfSome start (λ all. ReadsTooMuch c limit all)
-      at_start None after m = tt
-      at_start (Some all) None m = absurd m
-      at_start (Some all) (Some left) m = too_much all left piece more next m full some t
+  past-limit after piece more next moved full some t =
+      from_start (λ left. Unit {0}) (λ all left. ReadsTooMuch c limit all) (h.seen ++ (piece ++ more)) start after (λ all left e end. too_much all left piece more next e full some t)
+      (Consumes-trans start now after h.seen (piece ++ more) h.moved moved) tt
 
   valid_in : (all : List ℕ) (left : List ℕ) (rows : ℕ) → all ≡ h.seen ++ left → left ≡ [] → r.ended ≡ Some rows → kept ≡ [] → ReadsValid c limit all (Some left) rows
   valid_in all left rows e none ended empty =
       let same : all ≡ h.seen = e ∙ ap (λ t. h.seen ++ t) none ∙ append-nil h.seen in
-      let long = ap length same in
-      let fits = h.room_is in
       record {
         valid = subst (λ (t : List ℕ). IsValid c t rows) (sym same) (record { after = r; takes = h.takes; ended = ended; whole = no_rest (lines_of h.seen).rest kept h.rest empty });
-        within = omega (arith, long, fits);
+        within = omega (arith, ap length same, h.room_is);
         whole = ap (λ t. Some t) none;
       }
 
   pub all-valid : (rows : ℕ) (after : Option (List ℕ)) → Consumes now after [] → IsAtEnd after → r.ended ≡ Some rows → kept ≡ [] → IfSome start (λ all. ReadsValid c limit all after rows)
-  all-valid rows after moved done ended empty = at_start start after (Consumes-trans start now after h.seen [] h.moved moved) done
-    where
-      at_start : (start after : Option (List ℕ)) → Consumes start after (h.seen ++ []) → IsAtEnd after → IfSome start (λ all. ReadsValid c limit all after rows)
-      at_start None after m d = tt
-      at_start (Some all) None m d = absurd m
-      at_start (Some all) (Some left) m d = valid_in all left rows (m ∙ ap (λ t. t ++ left) (append-nil h.seen)) d ended empty
+  all-valid rows after moved done ended empty =
+      from_start IsAtEnd (λ all left. ReadsValid c limit all left rows) (h.seen ++ []) start after
+      (λ all left e end. valid_in all left rows (e ∙ ap (λ t. t ++ left) (append-nil h.seen)) end ended empty) (Consumes-trans start now after h.seen [] h.moved moved) done
 
   unended_in : (all left : List ℕ) (w : Wrong) → all ≡ h.seen ++ left → left ≡ [] → EndsBadly r kept w → ReadsWrong c limit all w
   unended_in all left w e none bad =
       let same : all ≡ h.seen = e ∙ ap (λ t. h.seen ++ t) none ∙ append-nil h.seen in
       let long = ap length same in
-      let fits = h.room_is in
       let ends : EndsBadly r (lines_of h.seen).rest w = record { row = bad.row; why = lacks r.ended (lines_of h.seen).rest kept w.why h.rest bad.why } in
-      inr (omega (arith, long, fits), subst (λ (t : List ℕ). IsUnended c t w) (sym same) (record { after = r; takes = h.takes; ends = ends }))
+      inr (omega (arith, long, h.room_is), subst (λ (t : List ℕ). IsUnended c t w) (sym same) (record { after = r; takes = h.takes; ends = ends }))
 
   pub ends-wrong : (w : Wrong) (after : Option (List ℕ)) → Consumes now after [] → IsAtEnd after → EndsBadly r kept w → IfSome start (λ all. ReadsWrong c limit all w)
-  ends-wrong w after moved done bad = at_start start after (Consumes-trans start now after h.seen [] h.moved moved) done
-    where
-      at_start : (start after : Option (List ℕ)) → Consumes start after (h.seen ++ []) → IsAtEnd after → IfSome start (λ all. ReadsWrong c limit all w)
-      at_start None after m d = tt
-      at_start (Some all) None m d = absurd m
-      at_start (Some all) (Some left) m d = unended_in all left w (m ∙ ap (λ t. t ++ left) (append-nil h.seen)) d bad
+  ends-wrong w after moved done bad =
+      from_start IsAtEnd (λ all left. ReadsWrong c limit all w) (h.seen ++ []) start after
+      (λ all left e end. unended_in all left w (e ∙ ap (λ t. t ++ left) (append-nil h.seen)) end bad) (Consumes-trans start now after h.seen [] h.moved moved) done
 
   pub faulted : (after : Option (List ℕ)) → known.Keeps now after → IfSome start (λ all. ReadsUpTo c limit all after)
-  faulted after same = at_start start after (Consumes-kept start now after h.seen h.moved same)
-    where
-      at_start : (start after : Option (List ℕ)) → Consumes start after h.seen → IfSome start (λ all. ReadsUpTo c limit all after)
-      at_start None after m = tt
-      at_start (Some all) None m = absurd m
-      at_start (Some all) (Some left) m = let fits = h.room_is in record { front = h.seen; rest = left; parts = m; left_is = refl; within = omega (arith, fits); right = (r, h.takes) }
+  faulted after same =
+      from_start (λ left. Unit {0}) (λ all left. ReadsUpTo c limit all left) h.seen start after
+      (λ all left e end. record { front = h.seen; rest = left; parts = e; left_is = refl; within = omega (arith, h.room_is); right = (r, h.takes) })
+      (Consumes-kept start now after h.seen h.moved same) tt
 
 -- so few rows were taken
 pub rows-read : (c : Checking) (limit : ℕ) (start now : Option (List ℕ)) (room : ℕ) (kept : List ℕ) (r : Reading) → IsRead c limit start now room kept r → c.accepted ≡ 0 →
     r.checking.accepted + room ≤ limit
 rows-read c limit start now room kept r h none =
     let k = (all_keep (lines_of h.seen).whole (started c) r tt h.takes).rows in
-    let few = whole-count h.seen in
-    let fits = h.room_is in
-    omega (arith, k, few, fits, none)
+    omega (arith, k, whole-count h.seen, h.room_is, none)
 
 pub end-well : (c : Checking) (limit : ℕ) (start now : Option (List ℕ)) (room : ℕ) (kept : List ℕ) (r : Reading) → IsRead c limit start now room kept r →
     IfSome r.ended (EndsWell r.checking)
@@ -356,9 +291,8 @@ agree-before c limit start now room kept r h agree =
 module _ (c : Checking) (limit : ℕ) (start now : Option (List ℕ)) (room : ℕ) (kept : List ℕ) (r : Reading) (h : IsRead c limit start now room kept r) (after : Option (List ℕ)) (piece bytes : List ℕ) (moved : Consumes now after piece) where
   pub cut-wrong : (w : Wrong) → bytes ≡ kept ++ take room piece → FindsWrong r (lines_of bytes).whole w → IfSome start (λ all. ReadsWrong c limit all w)
   cut-wrong w e f =
-      let cut = length-take room piece in
       found-wrong c limit start now room kept r h after (take room piece) (drop room piece) w
-      (subst (λ (t : List ℕ). Consumes now after t) (sym (take-append-drop room piece)) moved) (omega (arith, cut))
+      (subst (λ (t : List ℕ). Consumes now after t) (sym (take-append-drop room piece)) moved) (omega (arith, length-take room piece))
       (subst (λ (t : List ℕ). FindsWrong r (lines_of t).whole w) e f)
 
   pub cut-past : (next : Reading) → bytes ≡ kept ++ take room piece → room < length piece → TakesAll r (lines_of bytes).whole next → IfSome start (λ all. ReadsTooMuch c limit all)
@@ -396,7 +330,3 @@ module _ (c : Checking) (limit : ℕ) (start now : Option (List ℕ)) (room : �
 pub told-wrong : {T : Type 0} (r : Result T Stop) (w v : Wrong) → IsErrAnd r (λ e. e ≡ stops.Wrong w) → r ≡ Err (stops.Wrong v) → w ≡ v
 told-wrong (Ok x) w v h e = absurd h
 told-wrong (Err s) w v h e = let same : stops.Wrong w ≡ stops.Wrong v = sym h ∙ (cc) in cc
-
-pub rose-since : (a b c : ℕ) → a ≤ b → Rose b c → Rose a c
-rose-since a b c h (inl less) = inl (omega (arith, h, less))
-rose-since a b c h (inr last) = inr last

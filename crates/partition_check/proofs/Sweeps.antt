@@ -1,6 +1,5 @@
 -- A partition is a sweep from next box to next box, and a sweep is a partition.
-use Rattle.std.proofs.Common.{◌≡◌, ◌∷◌, ℕ, List, [], ◌++◌, ◌≤◌, arith, ap, refl, inl, inr}
-use Rattle.std.specs.Prelude.{suc, map}
+use Rattle.std.proofs.Common.{◌≡◌, ◌∷◌, ℕ, List, [], ◌++◌, ◌≤◌, arith, ap, refl, inl, inr, suc, map}
 use Rattle.field_boxes.specs.Classifier.{Interval}
 use Rattle.partition_check.specs.NextBox.{IsFirstBox, IsNextBox, ReachesEnds, EachFollows, IsSweep, last_box}
 use Rattle.partition_check.specs.Partition.{Group, rows_of, put_first, AreGroups, IsPartition}
@@ -49,15 +48,13 @@ part P g gs i b ((j ∷ c) ∷ rows) each w e = part_step P g gs i j b c rows ea
 
 swept : (gs : List ℕ) (b : List Interval) (rows : List (List Interval)) → IsFirstBox gs b → EachFollows gs b rows → ReachesEnds gs (last_box b rows) → IsPartition gs (b ∷ rows)
 swept [] [] [] f w e = refl
-swept [] [] (c ∷ rows) f w e = absurd w.0
-swept [] (i ∷ b) rows f w e = absurd f
-swept (g ∷ gs) [] rows f w e = absurd f
 swept (g ∷ gs) (i ∷ b) rows f w e =
     let s = part (IsPartition gs) g gs i b rows (swept gs) w e in (
       record { first = i; rest = b ∷ s.same } ∷ s.groups,
       ap (λ more. (i ∷ b) ∷ more) s.parts,
       (omega arith, f.0, omega arith, swept gs b s.same f.2 s.follow s.ends, s.after),
     )
+swept gs b rows f w e = absurd assumption
 
 pub sweep-partition : (gs : List ℕ) (rows : List (List Interval)) → IsSweep gs rows → IsPartition gs rows
 sweep-partition gs [] w = absurd w

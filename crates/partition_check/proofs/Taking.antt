@@ -1,6 +1,5 @@
 -- Lines that are taken.
-use Rattle.std.proofs.Common.{◌≡◌, ℕ, List, false, Some, None, Result, Ok, Err, sym, subst, refl}
-use Rattle.std.specs.Prelude.{Option, is_some, MatchBool, OnOk}
+use Rattle.std.proofs.Common.{◌≡◌, ℕ, List, false, Some, None, Result, Ok, Err, sym, subst, refl, Option, is_some, MatchBool, OnOk}
 use Rattle.std.proofs.lemmas.Bool.{false≢true}
 use Rattle.partition_check.specs.CertificateText.{is_last_line, stated_rows}
 use Rattle.partition_check.specs.Checking.{Checking}

@@ -1,6 +1,5 @@
 -- A word matches a header where it agrees in each field.
-use Rattle.std.proofs.Common.{◌≡◌, ◌∷◌, ◌++◌, ℕ, ◌+◌, ◌/◌, ◌%◌, ◌^◌, ◌<◌, ◌≤◌, List, [], Bool, true, false, length, ap, refl, sym, subst, ◌∙◌, arith}
-use Rattle.std.specs.Prelude.{◌&&◌, cond, nat_eq, bit_and, slice_index, slice_index_or, IsTrue, IsFalse}
+use Rattle.std.proofs.Common.{◌≡◌, ◌∷◌, ◌++◌, ℕ, ◌+◌, ◌/◌, ◌%◌, ◌^◌, ◌<◌, ◌≤◌, List, [], Bool, true, false, length, ap, refl, sym, subst, ◌∙◌, arith, ◌&&◌, cond, nat_eq, bit_and, slice_index, slice_index_or, IsTrue, IsFalse}
 use Rattle.std.proofs.lemmas.Bool.{and_left, and_right, eqb-true, eq-eqb}
 use Rattle.std.proofs.lemmas.Nat.{and_shr, and_mod}
 use Rattle.field_boxes.specs.Bits.{bits}
@@ -14,7 +13,8 @@ use Rattle.ternary_words.specs.declared.word.Word.{Word}
 use Rattle.ternary_words.specs.Word.{Trit, trit, trits, trit_agrees, agrees, field_bits, header_bits}
 use Rattle.ternary_words.specs.Views.{word_of}
 use Rattle.ternary_words.proofs.Fives.{five_of}
-use Rattle.partition_check.specs.Boxes.{LiesIn, EachIn, SomeIn}
+use Rattle.partition_check.specs.Boxes.{EachIn, SomeIn}
+use Rattle.field_boxes.specs.Boxes.{LiesIn}
 use Rattle.partition_check.specs.WordFields.{field_agrees, field_part, low_bit, word_field, SomeBetween, EachBetween}
 use Rattle.partition_check.proofs.BoxHeaders.{lies-at, lies-five, lies-length}
 
@@ -25,13 +25,12 @@ first_and false b c d h = refl
 agrees-append : (ms ns vs ws bs cs : List Bool) → length ms ≡ length bs → length vs ≡ length bs →
     agrees (trits (ms ++ ns) (vs ++ ws)) (bs ++ cs) ≡ agrees (trits ms vs) bs && agrees (trits ns ws) cs
 agrees-append [] ns [] ws [] cs h k = refl
-agrees-append [] ns vs ws (b ∷ bs) cs h k = absurd (omega (arith, h))
 agrees-append [] ns (v ∷ vs) ws [] cs h k = absurd (omega (arith, k))
-agrees-append (m ∷ ms) ns vs ws [] cs h k = absurd (omega (arith, h))
 agrees-append (m ∷ ms) ns [] ws (b ∷ bs) cs h k = absurd (omega (arith, k))
 agrees-append (m ∷ ms) ns (v ∷ vs) ws (b ∷ bs) cs h k =
     first_and (trit_agrees (trit m v) b) (agrees (trits ms vs) bs) (agrees (trits ns ws) cs) (agrees (trits (ms ++ ns) (vs ++ ws)) (bs ++ cs))
     (agrees-append ms ns vs ws bs cs (omega (arith, h)) (omega (arith, k)))
+agrees-append ms ns vs ws bs cs h k = absurd (omega (arith, h))
 
 -- one field in front of lower bits
 split_field : (w l m x v : ℕ) (cs : List Bool) →
@@ -108,9 +107,8 @@ module _ (w : Word) where
 
     header-is : (header : List ℕ) → LiesIn (intervals_of spans) header → header ≡ header_of (slice_index header)
     header-is header lies =
-        let long = lies-length (intervals_of spans) header lies in
         let same = length-map spans interval_of in
-        five_of header 0 (omega (arith, long, same, count))
+        five_of header 0 (omega (arith, lies-length (intervals_of spans) header lies, same, count))
 
     -- what holds of the header that is built field by field holds of the header
     on_header : (b : Bool) (header : List ℕ) → LiesIn (intervals_of spans) header → agrees (word_of w) (header_bits (header_of (slice_index header))) ≡ b → agrees (word_of w) (header_bits header) ≡ b

@@ -1,6 +1,7 @@
 -- Boxes of one interval for each field, and the headers in them. A field is given by its greatest value.
 use Rattle.std.specs.Prelude.{ℕ, ◌≤◌, List, [], ◌∷◌, map}
 use Rattle.field_boxes.specs.Fields.{stated, greatest_of}
+use Rattle.field_boxes.specs.Boxes.{LiesIn}
 use Rattle.field_boxes.specs.Classifier.{Interval}
 
 -- the greatest values of the five fields
@@ -20,13 +21,6 @@ AreUpTo [] [] = Unit {0}
 AreUpTo [] (v ∷ vs) = ⊥
 AreUpTo (g ∷ gs) [] = ⊥
 AreUpTo (g ∷ gs) (v ∷ vs) = (v ≤ g) × AreUpTo gs vs
-
--- the values lie in the box
-abbrev pub LiesIn : List Interval → List ℕ → Type 0
-LiesIn [] [] = Unit {0}
-LiesIn [] (v ∷ vs) = ⊥
-LiesIn (i ∷ box) [] = ⊥
-LiesIn (i ∷ box) (v ∷ vs) = (i.lo ≤ v) × (v ≤ i.hi) × LiesIn box vs
 
 -- what holds of each header in the box
 abbrev pub EachIn : List Interval → (List ℕ → Type 0) → Type 0

@@ -1,23 +1,14 @@
 -- The line of a row: five spans, a rule and an entry.
-use Rattle.std.specs.Prelude.{ℕ, ◌==◌, Bool, false, nat_le, List, [], ◌∷◌, ◌++◌, Option, Some, None, option_map, if◌then◌else◌}
+use Rattle.std.specs.Prelude.{ℕ, nat_le, List, [], ◌∷◌, ◌++◌, Option, Some, None, option_map, if◌then◌else◌}
 use Rattle.std.specs.Fmt.{decimal}
 use Rattle.std.specs.Str.{bytes_eq}
 use Rattle.field_boxes.specs.Classifier.{Interval}
-use Rattle.filter_reader.specs.Numbers.{number_within}
-use Rattle.filter_reader.specs.Optional.{◌>>=◌, split_once}
+use Rattle.text_lines.specs.Cuts.{split_once}
+use Rattle.text_lines.specs.Numbers.{plain_number}
+use Rattle.text_lines.specs.Steps.{◌>>=◌}
 use Rattle.partition_check.specs.Checking.{Statement}
 
 -- Reading: numbers below 2 ^ 32 (no field, list or table has a greater one), single spaces between columns.
-
--- whether the first of two digits or more is a zero
-abbrev pub has_leading_zero : List ℕ → Bool
-has_leading_zero [] = false
-has_leading_zero (b ∷ []) = false
-has_leading_zero (b ∷ c ∷ text) = b == 48
-
--- the decimal number that the text writes without leading zeros, where it is no greater than this
-unfoldable pub plain_number : ℕ → List ℕ → Option ℕ
-plain_number greatest text = if has_leading_zero text then None else number_within 10 greatest text
 
 -- the interval from the first to the second, where they are in order
 abbrev pub ordered_interval : ℕ → ℕ → Option Interval

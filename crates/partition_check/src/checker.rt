@@ -13,6 +13,7 @@ use crate::row::{NotPrefix, Row, Why, Wrong};
 use crate::text::row_of_text;
 use field_boxes::Span;
 use filter_reader::RuleList;
+use razor_base::limits::{GREATEST_PORT, GREATEST_PROTOCOL};
 use std::marker::Model;
 use ternary_words::Table;
 use ternary_words::laws::first_match_answers;
@@ -240,7 +241,9 @@ fn in_fields(spans: &[Span; 5]) -> bool
     ensures { IsTrue result ↔ IsBox ends (intervals_of spans.now) }
 {
     let [_, _, source_port, destination_port, protocol] = spans;
-    source_port.hi <= 65_535 && destination_port.hi <= 65_535 && protocol.hi <= 255
+    source_port.hi <= GREATEST_PORT
+        && destination_port.hi <= GREATEST_PORT
+        && protocol.hi <= GREATEST_PROTOCOL
 }
 
 /// Whether there is no number, or it is that of one of so many, counted from 1.

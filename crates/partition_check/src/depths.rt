@@ -9,6 +9,7 @@ ghost use Rattle.partition_check.specs.Depths.{AreSieves};
 use crate::item::Item;
 use crate::sieve::Sieve;
 use field_boxes::Span;
+use razor_base::limits::{GREATEST_PORT, GREATEST_PROTOCOL};
 
 /// For the last box that was asked for: a sieve for its first span alone, for its first two, and so on.
 #[derive(Drop)]
@@ -26,7 +27,10 @@ fn any_protocol(spans: &[Span; 5]) -> [Span; 5]
     ensures wider { IsWithin (intervals_of spans.now) (intervals_of result) }
 {
     let [source, destination, source_port, destination_port, _] = *spans;
-    let any = Span { lo: 0, hi: 255 };
+    let any = Span {
+        lo: 0,
+        hi: GREATEST_PROTOCOL,
+    };
     [source, destination, source_port, destination_port, any]
 }
 
@@ -37,7 +41,10 @@ fn any_destination_port(spans: &[Span; 5]) -> [Span; 5]
     ensures wider { IsWithin (intervals_of spans.now) (intervals_of result) }
 {
     let [source, destination, source_port, _, protocol] = *spans;
-    let any = Span { lo: 0, hi: 65_535 };
+    let any = Span {
+        lo: 0,
+        hi: GREATEST_PORT,
+    };
     [source, destination, source_port, any, protocol]
 }
 
@@ -48,7 +55,10 @@ fn any_source_port(spans: &[Span; 5]) -> [Span; 5]
     ensures wider { IsWithin (intervals_of spans.now) (intervals_of result) }
 {
     let [source, destination, _, destination_port, protocol] = *spans;
-    let any = Span { lo: 0, hi: 65_535 };
+    let any = Span {
+        lo: 0,
+        hi: GREATEST_PORT,
+    };
     [source, destination, any, destination_port, protocol]
 }
 

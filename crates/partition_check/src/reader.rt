@@ -3,9 +3,9 @@ ghost use Rattle.std.specs.Prelude.{◌≡◌, ◌+◌, ◌≤◌, ◌<◌, ◌^
 ghost use Rattle.partition_check.specs.CertificateText.{lines_of};
 
 use crate::checker::Checker;
-use crate::number::plain_number;
+use crate::number::long_number;
 use crate::row::{Why, Wrong};
-use crate::text::split_once;
+use text_lines::split_once;
 
 /// The first line of the text, without its line feed, and what stands after it; none where no line ends.
 fn next_line(text: &[u8]) -> Option<(&[u8], &[u8])>
@@ -72,7 +72,7 @@ impl<'a> Reader<'a> {
             return Err(self.wrong(Why::Form));
         }
         if line.starts_with(b"rows ") {
-            return self.take_last(plain_number(&line[5..], u64::MAX));
+            return self.take_last(long_number(&line[5..]));
         }
         self.checker.line(line)
     }

@@ -2,6 +2,7 @@
 ghost use Rattle.std.specs.Prelude.{◌≡◌, ◌≢◌, ◌≤◌, ◌<◌, ◌+◌, ◌-◌, ℕ, List, Err, IfSome, IfOk, OnOk, IsErrOf, MatchResult, OnErr, length, take, drop, min};
 ghost use Rattle.std.specs.Io.KnownBytes.{Consumes, IsAtEnd, Keeps};
 ghost use Rattle.razor_base.specs.Faults.{Rose};
+ghost use Rattle.razor_base.specs.declared.limits.TheConstants.{MOST_CERTIFICATE_BYTES};
 ghost use Rattle.partition_check.specs.declared.row.Wrong.{Wrong as wrong_row};
 ghost use Rattle.partition_check.specs.Agreement.{Agree, HaveNames};
 ghost use Rattle.partition_check.specs.Streams.{ReadsUpTo, ReadsTooMuch, ReadsValid, ReadsWrong};
@@ -9,11 +10,9 @@ ghost use Rattle.partition_check.specs.Streams.{ReadsUpTo, ReadsTooMuch, ReadsVa
 use crate::checker::Checker;
 use crate::reader::Reader;
 use crate::row::Wrong;
+use razor_base::limits::MOST_CERTIFICATE_BYTES;
 use razor_base::{Desk, Failed};
 use thiserror::Error;
-
-/// As many bytes as a certificate may have.
-const LIMIT: u64 = 268_435_456;
 
 /// As many bytes of an unfinished line as are kept: more than any line has that isn't wrong.
 const KEPT: usize = 129;
@@ -100,15 +99,15 @@ pub fn check_stream<D: Desk>(
     requires buffer { 256 ≤ length buffer.old }
     requires rows { checker.accepted ≡ 0 }
     ensures valid { IfOk result (λ rows. IfSome (D.remaining desk.old name.now)
-        (λ all. ReadsValid checker.entry 268435456 all (D.remaining desk.new name.now) rows)) }
+        (λ all. ReadsValid checker.entry MOST_CERTIFICATE_BYTES all (D.remaining desk.new name.now) rows)) }
     ensures agree { OnOk result (Agree checker.entry.list checker.entry.table) }
     ensures wrong { (w : wrong_row) → result ≡ Err (Stop.Wrong w) → IfSome (D.remaining desk.old name.now)
-        (λ all. ReadsWrong checker.entry 268435456 all w) }
+        (λ all. ReadsWrong checker.entry MOST_CERTIFICATE_BYTES all w) }
     ensures named { (w : wrong_row) → result ≡ Err (Stop.Wrong w) → HaveNames checker.entry.list checker.entry.table w.why }
     ensures too_long { IsErrOf result Stop.TooLong → IfSome (D.remaining desk.old name.now)
-        (λ all. ReadsTooMuch checker.entry 268435456 all) }
+        (λ all. ReadsTooMuch checker.entry MOST_CERTIFICATE_BYTES all) }
     ensures fault { IsErrOf result Stop.ReadFault → Rose (D.faults desk.old name.now) (D.faults desk.new name.now)
-        × IfSome (D.remaining desk.old name.now) (λ all. ReadsUpTo checker.entry 268435456 all (D.remaining desk.new name.now)) }
+        × IfSome (D.remaining desk.old name.now) (λ all. ReadsUpTo checker.entry MOST_CERTIFICATE_BYTES all (D.remaining desk.new name.now)) }
 
     // The other inputs keep what they had, and no count falls.
     ensures others { (other : List ℕ) → other ≢ name.now → Keeps (D.remaining desk.old other) (D.remaining desk.new other) }
@@ -119,7 +118,7 @@ pub fn check_stream<D: Desk>(
         ended: None,
     };
     let mut kept = 0;
-    let mut room = LIMIT;
+    let mut room = MOST_CERTIFICATE_BYTES;
     'pieces: loop {
         let count = read_behind(desk, name, buffer, kept)?;
         if count == 0 {

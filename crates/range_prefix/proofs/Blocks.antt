@@ -2,13 +2,9 @@
 use Rattle.std.proofs.Common.{◌≡◌, ◌∷◌, ◌++◌, ℕ, zero, suc, ◌+◌, ◌^◌, ◌<◌, [], Bool, true, false, ap, refl, sym, subst, ◌∙◌, arith}
 use Rattle.std.specs.Prelude.{◌&&◌, if◌then◌else◌}
 use Rattle.std.proofs.lemmas.Nat.{pow_pos}
-use Rattle.std.proofs.lemmas.Bool.{and_parts, false≢true}
+use Rattle.std.proofs.lemmas.Bool.{and_parts, false≢true, and_from}
 use Rattle.range_prefix.specs.Shortest.{has_block, block_prefix, shortest_in}
 use Rattle.field_boxes.proofs.Powers.{on_block, on_low, on_high}
-
-and_both : (a b : Bool) → a ≡ true → b ≡ true → (a && b) ≡ true
-and_both true b h k = k
-and_both false b h k = absurd (false≢true h)
 
 pub has_block-at : (set : ℕ → Bool) (n v : ℕ) → has_block set n v ≡ true → (k : ℕ) → k < 2 ^ n → set (v + k) ≡ true
 has_block-at set zero v h k small = let e : v + k ≡ v = omega arith in ap set e ∙ h
@@ -19,7 +15,7 @@ has_block-at set (suc n) v h k small =
 pub has_block-from : (set : ℕ → Bool) (n v : ℕ) → ((k : ℕ) → k < 2 ^ n → set (v + k) ≡ true) → has_block set n v ≡ true
 has_block-from set zero v h = let e : v ≡ v + 0 = omega arith in ap set e ∙ h 0 (omega arith)
 has_block-from set (suc n) v h =
-    and_both (has_block set n v) (has_block set n (v + 2 ^ n)) (has_block-from set n v (on_low (λ x. set x ≡ true) n v h)) (has_block-from set n (v + 2 ^ n) (on_high (λ x. set x ≡ true) n v h))
+    and_from (has_block set n v) (has_block set n (v + 2 ^ n)) (has_block-from set n v (on_low (λ x. set x ≡ true) n v h)) (has_block-from set n (v + 2 ^ n) (on_high (λ x. set x ≡ true) n v h))
 
 lacks : (set : ℕ → Bool) (n v k : ℕ) → k < 2 ^ n → set (v + k) ≡ false → (t : Bool) → has_block set n v ≡ t → t ≡ false
 lacks set n v k small h true e = absurd (false≢true (sym h ∙ has_block-at set n v e k small))

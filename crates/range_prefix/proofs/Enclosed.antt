@@ -1,7 +1,7 @@
 -- A prefix that holds all values of a set: the set's shortest cover is that of the prefix.
-use Rattle.std.proofs.Common.{◌≡◌, ◌++◌, ◌∷◌, ℕ, zero, suc, ◌+◌, ◌-◌, ◌*◌, ◌/◌, ◌^◌, ◌<◌, ◌≤◌, List, [], Bool, true, false, ap, append-nil, arith, inl, inr, length, refl, subst, sym, ◌∙◌, Some, slice_get}
+use Rattle.std.proofs.Common.{◌≡◌, ◌++◌, ◌∷◌, ℕ, zero, suc, ◌+◌, ◌-◌, ◌*◌, ◌/◌, ◌^◌, ◌<◌, ◌≤◌, List, [], Bool, true, false, ap, append-nil, arith, inl, inr, length, subst, sym, ◌∙◌, Some, slice_get}
 use Rattle.std.proofs.Math.Nat.{add-mul, mul-add, one-mul, zero-mul}
-use Rattle.std.proofs.lemmas.Bool.{cases_lt, eqb-true, false≢true}
+use Rattle.std.proofs.lemmas.Bool.{cases_lt, eqb-true, false≢true, false_from_ne_true}
 use Rattle.std.proofs.lemmas.Nat.{div-mul-add, div_below, le-div, mod_below, pow_pos, shr-shr, shr_split}
 use Rattle.field_boxes.specs.declared.prefix.Prefix.{Prefix}
 use Rattle.field_boxes.specs.declared.span.Span.{Span}
@@ -25,13 +25,9 @@ Lacks n v set = (k : ℕ) → k < 2 ^ n → set (v + k) ≡ false
 lies_at_greater : (n d x : ℕ) (set : ℕ → Bool) → LiesAt n x set → LiesAt (n + d) x set
 lies_at_greater n d x set lies = λ v has. sym (shr-shr v n d) ∙ ap (λ q. q / 2 ^ d) (lies v has) ∙ shr-shr x n d
 
-is_false : (t : Bool) → (t ≡ true → ⊥) → t ≡ false
-is_false true not = absurd (not refl)
-is_false false not = refl
-
 -- another block of that size has none of them
 elsewhere : (n x q : ℕ) (set : ℕ → Bool) → LiesAt n x set → (q ≡ x / 2 ^ n → ⊥) → Lacks n (q * 2 ^ n) set
-elsewhere n x q set lies other k small = is_false (set (q * 2 ^ n + k)) (λ has. other (sym (div-mul-add q (2 ^ n) k small) ∙ lies (q * 2 ^ n + k) has))
+elsewhere n x q set lies other k small = false_from_ne_true (set (q * 2 ^ n + k)) (λ has. other (sym (div-mul-add q (2 ^ n) k small) ∙ lies (q * 2 ^ n + k) has))
 
 in_low : (width n v : ℕ) (set : ℕ → Bool) → Lacks n (v + 2 ^ n) set → shortest_in width set (suc n) v ≡ shortest_in width set n v
 in_low width n v set lacks =

@@ -1,6 +1,6 @@
 -- No list of prefixes that holds exactly a set is shorter than the prefixes that halving finds.
 -- Shown over the bits of the values: of a list without a row at a block itself each row lies in one half.
-use Rattle.std.proofs.Common.{◌≡◌, ◌⊎◌, ◌∷◌, ◌++◌, ℕ, zero, suc, ◌+◌, ◌-◌, ◌%◌, ◌/◌, ◌^◌, ◌<◌, ◌≤◌, List, [], Bool, true, false, nat_eq, map, ap, refl, sym, subst, ◌∙◌, arith, length, inl, inr, take}
+use Rattle.std.proofs.Common.{◌≡◌, ◌⊎◌, ◌∷◌, ◌++◌, ℕ, zero, suc, ◌+◌, ◌-◌, ◌%◌, ◌/◌, ◌^◌, ◌<◌, ◌≤◌, List, [], Bool, true, false, nat_eq, map, ap, refl, sym, ◌∙◌, arith, length, inl, inr}
 use Rattle.std.specs.Prelude.{◌||◌, if◌then◌else◌, All, Option, Some, cond, find, is_some, option_map, sum_by}
 use Rattle.std.specs.List.{list_any}
 use Rattle.std.proofs.lemmas.Nat.{pow_pos}
@@ -11,7 +11,7 @@ use Rattle.std.proofs.Math.Nat.{add-div_left, add-mod_left, div-eq_of_lt}
 use Rattle.field_boxes.specs.declared.prefix.Prefix.{Prefix}
 use Rattle.field_boxes.specs.Prefix.{FitsWidth, prefix_bits, prefix_holds}
 use Rattle.field_boxes.specs.Bits.{bits, begins}
-use Rattle.field_boxes.proofs.Bits.{bits-mod, prefix-begins}
+use Rattle.field_boxes.proofs.Bits.{bits-mod, begins_at}
 use Rattle.field_boxes.proofs.Halves.{Row, IsRootless, front, front-half, half, is_root, weight-halves}
 use Rattle.range_prefix.specs.Cover.{HoldExactly}
 use Rattle.range_prefix.specs.Shortest.{has_block, block_prefix, shortest_in}
@@ -100,10 +100,6 @@ block_least width set (suc n) v rows h =
 -- the rows of prefixes
 abbrev row_of : ℕ → Prefix → Row Prefix
 row_of width p = record { bits = prefix_bits width p; payload = p }
-
-begins_at : (w l k p v : ℕ) → l + k ≡ w → p < 2 ^ w → v < 2 ^ w → begins (take l (bits w p)) (bits w v) ≡ nat_eq (v / 2 ^ k) (p / 2 ^ k)
-begins_at w l k p v e =
-    subst (λ n. p < 2 ^ n → v < 2 ^ n → begins (take l (bits n p)) (bits n v) ≡ nat_eq (v / 2 ^ k) (p / 2 ^ k)) e (λ h j. sym (prefix-begins l k p v h j))
 
 begins-prefix : (width : ℕ) (p : Prefix) (v : ℕ) → FitsWidth width p → v < 2 ^ width → begins (prefix_bits width p) (bits width v) ≡ prefix_holds width p v
 begins-prefix width p v fits small =

@@ -1,4 +1,3 @@
-pub mod Digits
 pub mod Input
 pub mod Output
 pub mod Streams

@@ -15,13 +15,13 @@
 
 mod calm_desk;
 mod count_sink;
-mod decimal;
 mod desk;
 mod failure;
 mod fault_plan;
 mod host_desk;
 mod host_sink;
 mod host_stream;
+pub mod limits;
 mod mem_desk;
 mod mem_sink;
 mod opener;

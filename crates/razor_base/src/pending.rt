@@ -3,10 +3,10 @@ ghost use Rattle.std.specs.Prelude.{◌≡◌, ◌≤◌, ◌+◌, [], ◌++◌,
 ghost use Rattle.std.specs.Fmt.{decimal};
 ghost use Rattle.razor_base.specs.Output.{Puts, Writes};
 
-use crate::decimal::Decimal;
 use crate::failure::Failed;
 use crate::sink::Sink;
 use crate::write::write_all;
+use itoa::Buffer;
 use std::marker::Model;
 
 /// As many bytes as may wait.
@@ -65,7 +65,8 @@ impl Pending {
     pub fn put_number<K: Sink>(&mut self, sink: &mut K, number: u128) -> Result<(), Failed>
         ensures { Puts K.written K.faults sink.old sink.new self.old self.new (decimal number) result }
     {
-        self.put(sink, Decimal::of(number).bytes())
+        let mut digits = Buffer::new();
+        self.put(sink, digits.format(number).as_bytes())
     }
 
     /// Writes all that waits.

@@ -4,6 +4,7 @@ ghost use Rattle.std.specs.Io.KnownBytes.{Consumes, Keeps};
 ghost use Rattle.razor_base.specs.Faults.{Rose};
 ghost use Rattle.razor_base.specs.Input.{ReadsWhole, ReadsFront, PassesLimit};
 ghost use Rattle.razor_base.specs.declared.read.ReadError.TheVariants.{Fault, TooLong, Memory};
+ghost use Rattle.razor_base.specs.declared.limits.TheConstants.{MOST_CERTIFICATE_BYTES};
 
 use crate::desk::Desk;
 use crate::failure::Failed;
@@ -50,7 +51,7 @@ pub fn read_all<D: Desk>(
     into: &mut Vec<u8>,
 ) -> Result<(), ReadError>
     requires empty { into.old.items ≡ [] }
-    requires limit { limit ≤ 268435456 }
+    requires limit { limit ≤ MOST_CERTIFICATE_BYTES }
     ensures ok { OnOk result
         (ReadsWhole (D.remaining desk.old name.now) (D.remaining desk.new name.now) into.new.items) }
     ensures within { length into.new.items ≤ limit }

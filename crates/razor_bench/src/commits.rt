@@ -3,13 +3,14 @@ ghost use Rattle.std.specs.Prelude.{◌≡◌, ◌<◌, All, IfOk};
 ghost use Rattle.filter_reader.specs.FilterRules.{IsFilterRule};
 ghost use Rattle.edit_session.specs.Lists.{IsEditable};
 
-use crate::input::{MOST_LIST_BYTES, input, list_of};
+use crate::input::{input, list_of};
 use crate::numbers::Numbers;
 use crate::tables::checksum;
 use anyhow::{Result, anyhow, ensure};
 use edit_session::Editor;
 use field_boxes::{Rule, decision_word};
 use filter_reader::RuleList;
+use razor_base::limits::{MOST_ENTRIES, MOST_LIST_BYTES};
 use rule_compilation::{Compiler, compile};
 use std::alloc::Global;
 use std::fs::Files;
@@ -24,15 +25,12 @@ pub enum Way {
     Session,
     /// `compile`, each time anew.
     Anew,
-    /// Both, one after the other: a compiler that keeps what it worked out must give the table of `compile`.
+    /// `compile` and a compiler that keeps what it worked out, one after the other: both must give the same table.
     Both,
 }
 
 /// As many slots as the memory has.
 const SLOTS: u32 = 65_536;
-
-/// As many entries as a table may have.
-const MOST_ENTRIES: u32 = 262_144;
 
 const SLOT: u16 = 144;
 
@@ -89,25 +87,74 @@ fn session(alloc: Global, list: RuleList, slots: u32) -> Result<Editor<Bank>> {
     Ok(Editor::new(alloc, list, SLOT, MOST_ENTRIES, bank))
 }
 
-/// Commits the list, and prints how many entries its table has and how long it took to be made.
+/// Commits the list.
 fn commit(
     rt: &(impl Print + CpuClock + AllocGlobal),
     way: Way,
     compiler: &mut Compiler,
     editor: &mut Editor<Bank>,
 ) -> Result<()> {
+    match way {
+        Way::Session => commit_kept(rt, editor),
+        Way::Anew => compile_anew(rt, editor),
+        Way::Both => compile_both(rt, compiler, editor),
+    }
+}
+
+/// Has the session commit the list, prints how many entries its table has and how long it took, and aborts the swap.
+fn commit_kept(
+    rt: &(impl Print + CpuClock + AllocGlobal),
+    editor: &mut Editor<Bank>,
+) -> Result<()> {
     let start = rt.thread_cpu_time()?;
-    let entries = match way {
-        Way::Session => editor.commit()?,
-        Way::Anew => table_of(rt.alloc(), editor)?.entries.len() as u64,
-        Way::Both => both(rt.alloc(), compiler, editor)?,
-    };
+    let entries = editor.commit()?;
     let time = rt.thread_cpu_time()?.saturating_sub(start);
     let _stage = editor.abort().ok();
     println!(rt;
         "rules {} entries {entries} nanoseconds {}",
         editor.rules().len(),
         time.as_nanos()
+    )?;
+    Ok(())
+}
+
+/// Compiles the list anew, and prints how many entries its table has and how long it took.
+fn compile_anew(rt: &(impl Print + CpuClock + AllocGlobal), editor: &Editor<Bank>) -> Result<()> {
+    let start = rt.thread_cpu_time()?;
+    let table = table_of(rt.alloc(), editor)?;
+    let time = rt.thread_cpu_time()?.saturating_sub(start);
+    println!(rt;
+        "rules {} entries {} nanoseconds {}",
+        editor.rules().len(),
+        table.entries.len(),
+        time.as_nanos()
+    )?;
+    Ok(())
+}
+
+/// Compiles the list over what the compiler kept, and right before that anew, which must give the same table. Prints
+/// how many entries it has and how long either took.
+fn compile_both(
+    rt: &(impl Print + CpuClock + AllocGlobal),
+    compiler: &mut Compiler,
+    editor: &Editor<Bank>,
+) -> Result<()> {
+    let start = rt.thread_cpu_time()?;
+    let anew = table_of(rt.alloc(), editor)?;
+    let middle = rt.thread_cpu_time()?;
+    let kept = kept_table(compiler, editor)?;
+    let end = rt.thread_cpu_time()?;
+    ensure!(anew.composed == kept.composed, "the costs differ");
+    ensure!(
+        checksum(&anew.entries) == checksum(&kept.entries),
+        "the entries differ"
+    );
+    println!(rt;
+        "rules {} entries {} nanoseconds {} anew {}",
+        editor.rules().len(),
+        anew.entries.len(),
+        end.saturating_sub(middle).as_nanos(),
+        middle.saturating_sub(start).as_nanos()
     )?;
     Ok(())
 }
@@ -124,18 +171,6 @@ fn kept_table(compiler: &mut Compiler, editor: &Editor<Bank>) -> Result<Table> {
     compiler
         .compile(editor.rules(), editor.names(), MOST_ENTRIES, SLOT)
         .map_err(|_refused| anyhow!("no table is composed"))
-}
-
-/// How many entries both tables of the list have, which must be the same.
-fn both(alloc: Global, compiler: &mut Compiler, editor: &Editor<Bank>) -> Result<u64> {
-    let anew = table_of(alloc, editor)?;
-    let kept = kept_table(compiler, editor)?;
-    ensure!(anew.composed == kept.composed, "the costs differ");
-    ensure!(
-        checksum(&anew.entries) == checksum(&kept.entries),
-        "the entries differ"
-    );
-    Ok(anew.entries.len() as u64)
 }
 
 /// Does so many edits.

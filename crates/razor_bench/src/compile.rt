@@ -3,10 +3,11 @@ ghost use Rattle.std.specs.Prelude.{◌≡◌};
 ghost use Rattle.field_boxes.specs.Fields.{stated};
 ghost use Rattle.node_store.specs.Diagram.{level_of};
 
-use crate::input::{MOST_LIST_BYTES, input, list_of};
+use crate::input::{input, list_of};
 use anyhow::{Result, bail};
 use fdd_build::build;
 use node_store::{NodeId, Store, stated_order};
+use razor_base::limits::{MOST_ENTRIES, MOST_LIST_BYTES};
 use redundancy::{TightTable, compose_tight};
 use redundancy_laws::laws::orders;
 use std::alloc::Global;
@@ -28,9 +29,6 @@ pub enum Step {
     /// To those that stay.
     Removal,
 }
-
-/// As many entries as a table may have.
-const MOST_ENTRIES: u32 = 262_144;
 
 /// Compiles the list on standard input so far and so often, and prints what each time came of it.
 pub fn run(rt: &(impl Files + Input + Print + AllocGlobal), step: Step, times: u32) -> Result<()> {

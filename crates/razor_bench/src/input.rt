@@ -1,5 +1,6 @@
 //! Standard input, and the filter list that it spells.
 ghost use Rattle.std.specs.Prelude.{◌≤◌};
+ghost use Rattle.razor_base.specs.declared.limits.TheConstants.{MOST_CERTIFICATE_BYTES};
 
 use anyhow::{Result, bail};
 use filter_reader::{RuleList, read_list};
@@ -7,15 +8,9 @@ use razor_base::{HostDesk, read_all};
 use std::alloc::Global;
 use std::fs::Files;
 
-/// As many bytes as a list may have.
-pub const MOST_LIST_BYTES: u64 = 16_777_216;
-
-/// As many bytes as a table may have.
-pub const MOST_TABLE_BYTES: u64 = 134_217_728;
-
 /// The bytes of standard input, at most so many.
 pub fn input(rt: &(impl Files + Input + AllocGlobal), most: u64) -> Result<Vec<u8>>
-    requires { most ≤ 268435456 }
+    requires { most ≤ MOST_CERTIFICATE_BYTES }
 {
     let mut desk = HostDesk::new(rt, rt.alloc());
     let mut bytes = Vec::new(rt.alloc());

@@ -1,8 +1,9 @@
 //! Reading a filter list.
 
-use crate::input::{MOST_LIST_BYTES, input, list_of};
+use crate::input::{input, list_of};
 use anyhow::Result;
 use field_boxes::{Rule, Span};
+use razor_base::limits::MOST_LIST_BYTES;
 use std::fs::Files;
 
 /// Reads the list on standard input so often, and prints what each time came of it.

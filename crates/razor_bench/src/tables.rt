@@ -1,7 +1,8 @@
 //! Reading a table.
 
-use crate::input::{MOST_TABLE_BYTES, input};
+use crate::input::input;
 use anyhow::{Result, bail};
+use razor_base::limits::MOST_TABLE_BYTES;
 use std::fs::Files;
 use table_text::read_table;
 use ternary_words::Entry;

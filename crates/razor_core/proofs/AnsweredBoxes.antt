@@ -7,7 +7,8 @@ use Rattle.std.proofs.lemmas.Option.{none-some, slice_get-get_or}
 use Rattle.std.proofs.lemmas.Slice.Eq.{bytes_eq-Decides}
 use Rattle.razor_base.specs.Faults.{Rose}
 use Rattle.razor_base.specs.Output.{AppendsFront}
-use Rattle.razor_base.proofs.Output.{appends-then, appends_front-after, appends_front-longer}
+use Rattle.razor_base.proofs.Output.{appends_front-after, appends_front-longer}
+use Rattle.std.proofs.KnownBytes.{Appends-trans}
 use Rattle.field_boxes.specs.Classifier.{Interval, Rule, matches, source}
 use Rattle.field_boxes.specs.Fields.{stated}
 use Rattle.field_boxes.specs.Names.{miss, name_at, number_of, text_of}
@@ -91,7 +92,7 @@ module _ (box : List Interval) (name : Option (List ℕ)) (rules : List (Rule (L
   pub counted_end : (boxes : List (List Interval)) (before between after : Option (List ℕ)) (old mid new : ℕ) (ending : Ending) → AreBoxesOf rules box name boxes → Appends before between (boxes_text boxes) → mid ≡ old →
       IsCounted (length boxes) between after mid new ending → IsEndOf (AreAnswered box name rules) before after old new ending
   counted_end boxes before between after old mid new (Done summary) right written calm h =
-      (h.0, (boxes_text boxes ++ count_line (length boxes), record { boxes = boxes; right = right; spelled = refl }, appends-then before between after (boxes_text boxes) (count_line (length boxes)) written h.1))
+      (h.0, (boxes_text boxes ++ count_line (length boxes), record { boxes = boxes; right = right; spelled = refl }, Appends-trans before between after (boxes_text boxes) (count_line (length boxes)) written h.1))
   counted_end boxes before between after old mid new No right written calm h = absurd h
   counted_end boxes before between after old mid new (Bad file line reason) right written calm h = absurd h
   counted_end boxes before between after old mid new (TooLong file limit) right written calm h = absurd h

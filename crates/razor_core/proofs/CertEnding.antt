@@ -3,9 +3,10 @@ use Rattle.std.proofs.Common.{◌≡◌, ℕ, zero, suc, ◌+◌, List, [], ◌�
 use Rattle.std.specs.Prelude.{true, false, Option, map, slice_get, ◌⊎◌}
 use Rattle.std.specs.Io.KnownBytes.{Appends, Keeps}
 use Rattle.razor_base.specs.Output.{AppendsFront}
+use Rattle.field_boxes.specs.Alike.{IsFirstDifference}
 use Rattle.field_boxes.specs.Classifier.{source}
 use Rattle.field_boxes.specs.Fields.{stated}
-use Rattle.filter_reader.specs.Lists.{filter_list}
+use Rattle.filter_reader.specs.Lists.{filter_list, name_decided}
 use Rattle.filter_reader.specs.declared.list.RuleList.{RuleList}
 use Rattle.ternary_words.specs.Prefixes.{IsPrefixInEach}
 use Rattle.ternary_words.specs.Table.{answer}
@@ -13,9 +14,9 @@ use Rattle.ternary_words.specs.Table as tables
 use Rattle.ternary_words.specs.Views.{entry_of, table_of}
 use Rattle.ternary_words.specs.declared.entry.Entry.{Entry}
 use Rattle.ternary_words.specs.declared.table.Table.{Table}
+use Rattle.partition_check.specs.Agreement.{name_answered}
 use Rattle.partition_check.specs.Good.{certificate_text}
 use Rattle.partition_check.specs.PrefixWords.{ArePrefixes, IsFirstOther}
-use Rattle.box_partition.specs.Difference.{IsFirstDifference}
 use Rattle.box_partition.specs.Outcome.{IsCut, IsWritten}
 use Rattle.command_words.specs.Command.{Command, Cert}
 use Rattle.razor_core.specs.declared.ending.Ending.{Ending}
@@ -106,7 +107,7 @@ module _ (first second : List ℕ) (before after : Outside) (list : RuleList) (t
   abbrev difference_outcome : List ℕ → Outcome
   difference_outcome header = record { yes = false; text = differ_line header (source stated header (filter_list list).rules) (answer (table_of table).entries header); line = [] }
 
-  gives_difference : (header : List ℕ) → IsFirstDifference list table header → Gives command values (difference_outcome header)
+  gives_difference : (header : List ℕ) → IsFirstDifference (name_decided list) (name_answered table) header → Gives command values (difference_outcome header)
   gives_difference header h = inr (header, record { in_fields = h.in_fields; differ = h.differ; least = h.least }, refl)
 
   gives_written : (count : ℕ) (w : IsWritten list table before.written after.written count) → Gives command values (certificate_outcome (certificate_text w.rows))

@@ -8,7 +8,7 @@ use Rattle.filter_reader.specs.declared.list.RuleList.{RuleList}
 use Rattle.filter_reader.specs.Lists.{filter_list}
 use Rattle.list_equiv.specs.declared.verdict.Verdict.{Verdict}
 use Rattle.list_equiv.specs.declared.verdict.Verdict.TheVariants.{Equal, Differ}
-use Rattle.list_equiv.specs.Verdict.{IsVerdict}
+use Rattle.list_equiv.specs.Verdict.{IsListVerdict}
 use Rattle.command_words.specs.Command.{Equiv}
 use Rattle.razor_core.specs.declared.ending.Ending.{Ending}
 use Rattle.razor_core.specs.declared.ending.Ending.TheVariants.{WriteFault}
@@ -43,10 +43,10 @@ outcome_of : Verdict → RuleList → RuleList → Outcome
 outcome_of Equal first second = record { yes = true; text = equal_line; line = [] }
 outcome_of (Differ header left right) first second = record { yes = false; text = verdict_text (Differ header left right) (filter_list first).rules (filter_list second).rules; line = [] }
 
-compares : (verdict : Verdict) (first second : RuleList) → IsVerdict first second verdict → Compares (filter_list first).rules (filter_list second).rules (outcome_of verdict first second)
+compares : (verdict : Verdict) (first second : RuleList) → IsListVerdict first second verdict → Compares (filter_list first).rules (filter_list second).rules (outcome_of verdict first second)
 unfolding outcome_of
 compares Equal first second h = inl (h, refl)
-compares (Differ header left right) first second h = inr (header.values, (record { in_fields = h.least.in_fields; differ = h.least.differ; least = h.least.least }), refl)
+compares (Differ header left right) first second h = inr (header.values, h.least, refl)
 
 text_is : (verdict : Verdict) (first second : RuleList) → verdict_text verdict (filter_list first).rules (filter_list second).rules ≡ (outcome_of verdict first second).text
 unfolding outcome_of
@@ -54,7 +54,7 @@ text_is Equal first second = refl
 text_is (Differ header left right) first second = refl
 
 -- the verdict was written whole
-pub answered_ends : (left right : List ℕ) (before after : Outside) (first second : RuleList) (verdict : Verdict) (ending : Ending) → ReadBoth left right before after first second → IsVerdict first second verdict →
+pub answered_ends : (left right : List ℕ) (before after : Outside) (first second : RuleList) (verdict : Verdict) (ending : Ending) → ReadBoth left right before after first second → IsListVerdict first second verdict →
     Appends before.written after.written (verdict_text verdict (filter_list first).rules (filter_list second).rules) → IsAnswer verdict ending → Ends (Equiv left right) before after ending
 unfolding outcome_of
 answered_ends left right before after first second Equal ending reads is written same = subst (Ends (Equiv left right) before after) (sym same) (
@@ -68,7 +68,7 @@ answered_ends left right before after first second (Differ header a b) ending re
     (compares (Differ header a b) first second is) refl written (both_read left right before after first second reads tells) tells)
 
 -- a write of the verdict failed
-pub cut_verdict_ends : (left right : List ℕ) (before after : Outside) (first second : RuleList) (verdict : Verdict) → ReadBoth left right before after first second → IsVerdict first second verdict →
+pub cut_verdict_ends : (left right : List ℕ) (before after : Outside) (first second : RuleList) (verdict : Verdict) → ReadBoth left right before after first second → IsListVerdict first second verdict →
     Rose before.write_faults after.write_faults → AppendsFront before.written after.written (verdict_text verdict (filter_list first).rules (filter_list second).rules) → Ends (Equiv left right) before after WriteFault
 cut_verdict_ends left right before after first second verdict reads is rose written =
     cut_off_ends (Equiv left right) before after (value_of first ∷ value_of second ∷ []) (outcome_of verdict first second) (both_passed left right before after first second reads) (inl (λ stop later. later))

@@ -7,7 +7,8 @@ use Rattle.table_text.specs.Reading as tables
 use Rattle.bank_update.specs.Script as scripts
 use Rattle.edit_session.specs.SessionText as sessions
 use Rattle.table_text.specs.Reading.{table_in_text}
-use Rattle.ternary_words.specs.Table.{Table}
+use Rattle.ternary_words.specs.Table.{Table, answer}
+use Rattle.field_boxes.specs.Alike.{AreAlike, source_of}
 use Rattle.field_boxes.specs.Classifier.{Interval, Rule}
 use Rattle.filter_reader.specs.ListText.{list_text}
 use Rattle.list_generator.specs.DrawnRules.{generated}
@@ -17,9 +18,9 @@ use Rattle.command_words.specs.Command.{Command, Method, Arrange, Compile, Expan
 use Rattle.razor_core.specs.Selfrun.{Summarises}
 use Rattle.razor_core.specs.Trace.{answers_text, taken_of}
 use Rattle.razor_core.specs.Cert.{IsCertificateOf, Writes}
-use Rattle.razor_core.specs.Check.{AnswerAlike, Certifies}
-use Rattle.razor_core.specs.Equiv.{DecideAlike, Compares}
-use Rattle.razor_core.specs.Headlines.{Adds, AreAlike, AreEqualLists, IsAnswered, IsArrangedText, IsCertified, IsCompiledText, IsDriven, IsExpandedText, IsMigrated, IsMergedText, IsAudited, IsEdited, IsQueried}
+use Rattle.razor_core.specs.Check.{Certifies}
+use Rattle.razor_core.specs.Equiv.{Compares}
+use Rattle.razor_core.specs.Headlines.{Adds, AgreeByName, AreEqualLists, IsAnswered, IsArrangedText, IsCertified, IsCompiledText, IsDriven, IsExpandedText, IsMigrated, IsMergedText, IsAudited, IsEdited, IsQueried}
 use Rattle.razor_core.specs.Make.{IsMade, IsOrderOf}
 use Rattle.razor_core.specs.Inputs.{Input, Value, as_list, as_script, as_session, as_table, certificate_input, lines_value, is_too_long, list_input, list_value, script_input, script_value, session_input, session_value, table_input, table_value, trace_input, text_of_list, text_of_script, text_of_session, text_of_table}
 use Rattle.razor_core.specs.Gives.{Gives}
@@ -150,7 +151,7 @@ module _ (before after : Outside) (line : List ℕ) where
       let meets = h.2.2.3 in
       (h.2.0, h.2.1, record { list = h.0; table = table; spelled = h.1; reads_back = h.2.2.4.spells; slot = meets.slot; answers = meets.answers; entries = meets.entries; count = meets.composed })
 
-  alike_by : (left right : List (Rule (List ℕ))) (outcome : Outcome) → Compares left right outcome → outcome.yes ≡ true → DecideAlike left right
+  alike_by : (left right : List (Rule (List ℕ))) (outcome : Outcome) → Compares left right outcome → outcome.yes ≡ true → AreAlike (source_of left) (source_of right)
   alike_by left right outcome (inl h) agreed = h.0
   alike_by left right outcome (inr h) agreed = let same : false ≡ true = sym (ap (λ (o : Outcome). o.yes) h.2) ∙ agreed in absurd cc
 
@@ -166,12 +167,12 @@ module _ (before after : Outside) (line : List ℕ) where
       let gives = subst (λ (vs : List Value). Gives command vs done.outcome) values done.gives in
       record { left = read.0; right = also_read.0; left_spelled = read.1; right_spelled = also_read.1; alike = alike_by read.0.rules also_read.0.rules done.outcome gives done.answered }
 
-  shown_by : (rules : FilterList) (entries : Table) (text : List ℕ) (outcome : Outcome) → Certifies rules entries text outcome → outcome.yes ≡ true → AnswerAlike rules entries
+  shown_by : (rules : FilterList) (entries : Table) (text : List ℕ) (outcome : Outcome) → Certifies rules entries text outcome → outcome.yes ≡ true → AreAlike (source_of rules.rules) (answer entries.entries)
   shown_by rules entries text outcome (inl h) agreed = h.1.alike
   shown_by rules entries text outcome (inr h) agreed = let same : false ≡ true = sym (ap (λ (o : Outcome). o.yes) h.3) ∙ agreed in absurd cc
 
   pub shown : (list table certificate first second third : List ℕ) → KeepsPromise (Check list table certificate) before after line 0 →
-      before.remaining list ≡ Some first → before.remaining table ≡ Some second → before.remaining certificate ≡ Some third → AreAlike first second
+      before.remaining list ≡ Some first → before.remaining table ≡ Some second → before.remaining certificate ≡ Some third → AgreeByName first second
   shown list table certificate first second third is known also last =
       let command : Command = Check list table certificate in
       let tells : Tells before command = (told (before.remaining list) first known, (told (before.remaining table) second also, (told (before.remaining certificate) third last, tt))) in

@@ -1,5 +1,4 @@
 pub mod EquivEnding
-pub mod ScriptWords
 pub mod DifferText
 pub mod DriveEnding
 pub mod SessionEnding

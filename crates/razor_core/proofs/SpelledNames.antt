@@ -14,8 +14,8 @@ use Rattle.filter_reader.specs.FilterList.{own_name}
 use Rattle.filter_reader.specs.FirstSeen.{first_seen}
 use Rattle.filter_reader.specs.OwnNames.{HaveNames, IsNameOf}
 use Rattle.table_text.specs.Names.{is_name, is_rule_name}
-use Rattle.table_text.specs.Numbers.{plain_number}
-use Rattle.table_text.proofs.NumberTexts.{plain_number-decimal}
+use Rattle.text_lines.specs.Numbers.{plain_number}
+use Rattle.text_lines.proofs.Decimals.{plain_number-decimal}
 
 abbrev pub AreSpelled : List (List ℕ) → Type 0
 AreSpelled names = All (λ name. IsTrue (is_name name)) names

@@ -1,5 +1,5 @@
 -- Tables that are read one after another.
-use Rattle.std.proofs.Common.{◌≡◌, ◌≢◌, ℕ, ◌-◌, ◌≤◌, arith, drop, get_or, length, take, List, [], ◌∷◌, ◌++◌, Some, None, append-nil, append_assoc, inl, inr, refl, subst, sym, ap, ◌∙◌}
+use Rattle.std.proofs.Common.{◌≡◌, ◌≢◌, ℕ, ◌-◌, ◌≤◌, arith, drop, get_or, length, take, List, [], ◌∷◌, ◌++◌, Some, None, append_assoc, inl, inr, refl, subst, sym, ap, ◌∙◌}
 use Rattle.std.specs.Prelude.{Bool, true, false, IfErr, IsTrue, OnOk, Option, Ok, Err, Result, not, map, ◌&&◌, ◌||◌}
 use Rattle.std.specs.Borrow.{Bor}
 use Rattle.std.specs.List.{AllByRecursion, list_any}
@@ -17,7 +17,8 @@ use Rattle.razor_core.specs.Tables.{AreAdded, AreTaken, Bytes, FailsAmong, IsNon
 use Rattle.razor_core.specs.Taking.{EndsTurn, TakesTurn, table_value_of}
 use Rattle.razor_core.specs.Ending.{Ends}
 use Rattle.razor_core.proofs.Ended.{StandsStill, ends_later, turn_ends}
-use Rattle.razor_core.proofs.Turns.{AllRead, AllTold, Passed, PassesWith, keeps_trans, passed_taken, read_taken, taken_before, taken_later}
+use Rattle.razor_core.proofs.Turns.{AllRead, AllTold, Passed, PassesWith, passed_taken, read_taken, taken_before, taken_later}
+use Rattle.std.proofs.KnownBytes.{Keeps-trans}
 
 both_sides : (t : Bool) → t ≡ true → t ≡ false → ⊥
 both_sides t p q = cc
@@ -63,7 +64,7 @@ all_taken_later name (file ∷ files) before between after (table ∷ tables) no
 stay_later : (name : List ℕ) (files : List (List ℕ)) (before between after : Bytes) → IsNone name files → KeepsOthers before between name → StayAt files between after → StayAt files before after
 stay_later name [] before between after none keeps h = tt
 stay_later name (file ∷ files) before between after none keeps h =
-    (keeps_trans (before file) (between file) (after file) (keeps file (λ e. none.0 (sym e))) h.0, stay_later name files before between after none.1 keeps h.1)
+    (Keeps-trans (before file) (between file) (after file) (keeps file (λ e. none.0 (sym e))) h.0, stay_later name files before between after none.1 keeps h.1)
 
 -- those that are none of a name stay, where all but that name do
 pub all_stay : (name : List ℕ) (files : List (List ℕ)) (before after : Bytes) → IsNone name files → KeepsOthers before after name → StayAt files before after
@@ -90,10 +91,6 @@ pub first_fails : (file : List ℕ) (files : List (List ℕ)) (before after : By
     EndsTurn (table_input file) (before file) (after file) (first file) (last file) ending → FailsAmong (file ∷ files) before after first last ending
 first_fails file files before after first last ending differ keeps h = inl (h, all_stay file files before after (none_later file files differ) keeps)
 
--- no table was read
-pub none_added : (before : Bytes) (tables : List Table) → AreAdded [] before before tables tables
-none_added before tables = ([], tt, sym (append-nil tables))
-
 -- one table was read, and then the others
 pub one_more : (file : List ℕ) (files : List (List ℕ)) (before between after : Bytes) (old pushed new : List Table) (table : Table) → IsTrue (all_differ (file ∷ files)) → pushed ≡ old ++ table ∷ [] →
     TakesTurn (table_input file) (before file) (between file) (table_value_of table) → KeepsOthers before between file → ((other : List ℕ) → IsNone other files → Keeps (between other) (after other)) →
@@ -118,7 +115,7 @@ later_fails file files before between after middle first second last ending tabl
 -- what keeps to the others of the first keeps to those that are none of all
 pub others_keep : (file : List ℕ) (files : List (List ℕ)) (before between after : Bytes) → KeepsOthers before between file → ((other : List ℕ) → IsNone other files → Keeps (between other) (after other)) →
     (other : List ℕ) → IsNone other (file ∷ files) → Keeps (before other) (after other)
-others_keep file files before between after keeps others other none = keeps_trans (before other) (between other) (after other) (keeps other none.0) (others other none.1)
+others_keep file files before between after keeps others other none = Keeps-trans (before other) (between other) (after other) (keeps other none.0) (others other none.1)
 
 passed_more : (before : Outside) (front : List Input) (values : List Value) (input : Input) (value : Value) → Passed before front values → PassesWith input (before.remaining input.name) value →
     Passed before (front ++ input ∷ []) (values ++ value ∷ [])

@@ -1,14 +1,14 @@
 -- Turns of inputs that pass, and the first that doesn't.
-use Rattle.std.proofs.Common.{◌≡◌, ℕ, ◌≤◌, List, [], ◌∷◌, ◌++◌, Some, None, ap, arith, inl, inr, refl, subst, sym, ◌∙◌}
+use Rattle.std.proofs.Common.{◌≡◌, ℕ, ◌≤◌, List, [], ◌∷◌, ◌++◌, Some, None, ap, inl, inr, refl, subst, sym, ◌∙◌}
 use Rattle.std.specs.Prelude.{Option, IfSome, IsSome, Ok, Err, Result, unwrap_or}
 use Rattle.std.specs.List.{AllByRecursion}
 use Rattle.std.specs.Io.KnownBytes.{Consumes, Keeps}
-use Rattle.razor_base.specs.Faults.{Rose}
 use Rattle.razor_core.specs.Inputs.{Input, Kind, Value}
 use Rattle.razor_core.specs.Outside.{Outside, AreKept}
 use Rattle.razor_core.specs.Taking.{TakesTurn}
 use Rattle.razor_core.specs.Turns.{Stop, before_others, turn, turns_of}
 use Rattle.razor_core.specs.Deciding.{EndsInTurn, IsReadFault}
+use Rattle.razor_base.proofs.Writing.{rose-later}
 
 -- the desk tells the bytes of each of these inputs
 abbrev pub AllTold : Outside → List Input → Type 0
@@ -113,17 +113,6 @@ kept_told None after keeps some = absurd cc
 kept_told (Some bytes) None keeps some = absurd keeps
 kept_told (Some bytes) (Some other) keeps some = ap (λ (x : List ℕ). let o : Option (List ℕ) = Some x in o) keeps
 
-pub keeps_trans : (a b c : Option (List ℕ)) → Keeps a b → Keeps b c → Keeps a c
-keeps_trans None b c p q = tt
-keeps_trans (Some x) None c p q = absurd p
-keeps_trans (Some x) (Some y) None p q = absurd q
-keeps_trans (Some x) (Some y) (Some z) p q = q ∙ p
-
--- a count that rose later rose
-pub rose_later : (a b c : ℕ) → a ≤ b → Rose b c → Rose a c
-rose_later a b c le (inl less) = inl (omega arith)
-rose_later a b c le (inr last) = inr last
-
 -- bytes that are read later are those that stood before
 pub consumed_later : (before between after : Option (List ℕ)) (seen : List ℕ) → Keeps before between → Consumes between after seen → Consumes before after seen
 consumed_later None between after seen keeps read = tt
@@ -134,4 +123,4 @@ consumed_later (Some text) (Some other) (Some left) seen keeps read = sym keeps 
 -- and a read of them that failed is one of those
 pub fault_later : (kind : Kind) (before between after : Option (List ℕ)) (first second last : ℕ) → Keeps before between → first ≤ second → IsReadFault kind between after second last → IsReadFault kind before after first last
 fault_later kind before between after first second last keeps le h =
-    record { rose = rose_later first second last le h.rose; seen = h.seen; read = consumed_later before between after h.seen keeps h.read; within = h.within }
+    record { rose = rose-later first second last le h.rose; seen = h.seen; read = consumed_later before between after h.seen keeps h.read; within = h.within }

@@ -1,8 +1,7 @@
 -- What `cert` defines: the certificate of a list and a table, and the word that isn't a prefix and ends it.
-use Rattle.std.specs.Prelude.{◌≡◌, ◌≢◌, ℕ, ◌<◌, ◌+◌, List, Some, slice_get, ◌⊎◌, true, false, [], Option}
+use Rattle.std.specs.Prelude.{◌≡◌, ℕ, ◌<◌, ◌+◌, List, Some, slice_get, ◌⊎◌, true, [], Option}
 use Rattle.std.specs.Io.KnownBytes.{Appends, Keeps}
-use Rattle.field_boxes.specs.Classifier.{source}
-use Rattle.field_boxes.specs.Fields.{stated, IsHeader, ComesBefore}
+use Rattle.field_boxes.specs.Alike.{IsFirstDifference, source_of}
 use Rattle.filter_reader.specs.FilterList.{FilterList}
 use Rattle.ternary_words.specs.Prefixes.{IsPrefixInEach}
 use Rattle.ternary_words.specs.Table.{Entry, Table, answer}
@@ -11,14 +10,14 @@ use Rattle.partition_check.specs.Good.{certificate_text}
 use Rattle.box_partition.specs.Certificate.{IsCertificate}
 use Rattle.razor_base.specs.Faults.{Rose}
 use Rattle.razor_base.specs.Output.{AppendsFront}
+use Rattle.filter_reader.specs.Lists.{name_decided}
 use Rattle.filter_reader.specs.declared.list.RuleList.{RuleList}
 use Rattle.ternary_words.specs.declared.table.Table as code
-use Rattle.partition_check.specs.Agreement.{name_answered, name_decided}
+use Rattle.partition_check.specs.Agreement.{name_answered}
 use Rattle.partition_check.specs.PrefixWords.{ArePrefixes, IsFirstOther}
-use Rattle.box_partition.specs.Difference.{IsFirstDifference}
 use Rattle.box_partition.specs.Outcome.{IsCut, IsWritten}
 use Rattle.razor_core.specs.Outcome.{Outcome}
-use Rattle.razor_core.specs.Equiv.{differ_line}
+use Rattle.razor_core.specs.Equiv.{differ_line, IsDifference}
 use Rattle.razor_core.specs.Turns.{Stop, bad_line}
 use Rattle.razor_core.specs.Check.{Checks}
 use Rattle.razor_core.specs.Inputs.{BadLine}
@@ -34,19 +33,12 @@ pub record IsCertificateOf (rules : FilterList) (entries : Table) (text : List �
   pub certificate : IsCertificate checks.list checks.table rows
   pub spelled : text ≡ certificate_text rows
 
--- the least header on which list and table decide differently, by name
-pub record IsTableDifference (rules : FilterList) (entries : Table) (header : List ℕ) : Type 0 where
-  pub in_fields : IsHeader header
-  pub differ : source stated header rules.rules ≢ answer entries.entries header
-  pub least : (values : List ℕ) → IsHeader values → ComesBefore values header → source stated values rules.rules ≡ answer entries.entries values
-
 -- the rules and the table decide alike and this is their certificate, or else the least header on which they don't, with
 -- what each decides
 abbrev pub Writes : FilterList → Table → Outcome → Type 0
 Writes rules entries outcome =
     ((text : List ℕ) × IsCertificateOf rules entries text × (outcome ≡ record { yes = true; text = text; line = [] }))
-    ⊎ ((header : List ℕ) × IsTableDifference rules entries header
-    × (outcome ≡ record { yes = false; text = differ_line header (source stated header rules.rules) (answer entries.entries header); line = [] }))
+    ⊎ IsDifference (source_of rules.rules) (answer entries.entries) outcome
 
 -- the entry at the place is the first whose word isn't a prefix in each field
 pub record IsFirstOtherWord (entries : List Entry) (place : ℕ) : Type 0 where
@@ -66,7 +58,7 @@ HasOther name entries stop = ⊥
 
 -- the line on the least header on which list and table differ is written, so far as this says
 abbrev pub SaysDifference : RuleList → code.Table → (List ℕ → Type 0) → Type 0
-SaysDifference list table Has = (header : List ℕ) × IsFirstDifference list table header × Has (differ_line header (name_decided list header) (name_answered table header))
+SaysDifference list table Has = (header : List ℕ) × IsFirstDifference (name_decided list) (name_answered table) header × Has (differ_line header (name_decided list header) (name_answered table header))
 
 -- the table is named so; this was written before, and this is written after, with these counts of faults
 abbrev pub IsEndOfCert : RuleList → code.Table → List ℕ → Option (List ℕ) → Option (List ℕ) → ℕ → ℕ → Ending → Type 0

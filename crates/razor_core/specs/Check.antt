@@ -2,8 +2,7 @@
 use Rattle.std.specs.Prelude.{◌≡◌, ℕ, ◌≤◌, List, [], ◌∷◌, ◌++◌, length, codes, Option, ◌⊎◌, true, false, Ok, IfSome}
 use Rattle.std.specs.Fmt.{decimal}
 use Rattle.std.specs.Io.KnownBytes.{Appends, Keeps}
-use Rattle.field_boxes.specs.Classifier.{source}
-use Rattle.field_boxes.specs.Fields.{stated, IsHeader}
+use Rattle.field_boxes.specs.Alike.{AreAlike, source_of}
 use Rattle.field_boxes.specs.Names.{name_at, text_of}
 use Rattle.filter_reader.specs.FilterList.{FilterList}
 use Rattle.filter_reader.specs.Lists.{filter_list}
@@ -31,10 +30,6 @@ use Rattle.razor_core.specs.declared.ending.Summary.TheVariants.{Nothing}
 abbrev line_end : List ℕ
 line_end = 10 ∷ []
 
--- list and table decide every header alike, by name
-abbrev pub AnswerAlike : FilterList → Table → Type 0
-AnswerAlike list table = (header : List ℕ) → IsHeader header → source stated header list.rules ≡ answer table.entries header
-
 -- the checking of a certificate for a list and a table that have these rules and entries
 pub record Checks (rules : FilterList) (entries : Table) : Type 0 where
   pub list : RuleList
@@ -50,7 +45,7 @@ pub record Validates (rules : FilterList) (entries : Table) (text : List ℕ) (r
   pub checks : Checks rules entries
   pub valid : IsValid (checking_of checks) text rows
   pub within : length text ≤ most_bytes text_of_certificate
-  pub alike : AnswerAlike rules entries
+  pub alike : AreAlike (source_of rules.rules) (answer entries.entries)
 
 abbrev pub valid_line : ℕ → List ℕ
 valid_line rows = codes "valid rows=" ++ (decimal rows ++ line_end)

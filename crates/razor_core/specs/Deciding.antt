@@ -2,6 +2,7 @@
 use Rattle.std.specs.Prelude.{◌≡◌, ℕ, ◌≤◌, ◌<◌, ◌⊎◌, List, [], ◌∷◌, length, Option, Some, Ok}
 use Rattle.std.specs.Io.KnownBytes.{Consumes}
 use Rattle.razor_base.specs.Faults.{Rose}
+use Rattle.razor_base.specs.declared.limits.TheConstants.{MOST_ENTRIES}
 use Rattle.command_words.specs.Command.{Command, Make, Selfrun}
 use Rattle.razor_core.specs.Inputs.{Input, Kind, Value, inputs, most_bytes}
 use Rattle.razor_core.specs.Outside.{Outside, AreKept}
@@ -19,7 +20,7 @@ EndsInTurn before after Ended (input ∷ others) = (Ended input × AreKept befor
 -- so many entries are more than the limit of the command
 abbrev pub IsAbove : Command → ℕ → ℕ → Type 0
 IsAbove (Make method sizes list) needed limit = (limit ≡ sizes.limit) × (limit < needed)
-IsAbove (Selfrun seed rules) needed limit = (limit ≡ 262144) × (limit < needed)
+IsAbove (Selfrun seed rules) needed limit = (limit ≡ MOST_ENTRIES) × (limit < needed)
 IsAbove command needed limit = ⊥
 
 -- the stop names the input in whose turn the command ends, or gives a number of entries above the command's limit

@@ -7,18 +7,16 @@ use Rattle.bank_update.specs.Runs.{session}
 use Rattle.bank_update.specs.Script.{Event, script_of}
 use Rattle.command_words.specs.Command.{Arrange, Sizes}
 use Rattle.command_words.specs.Orders.{Wanted}
-use Rattle.field_boxes.specs.Classifier.{Interval, source}
-use Rattle.field_boxes.specs.Fields.{IsHeader, stated}
+use Rattle.field_boxes.specs.Alike.{AreAlike, IsTight, source_of}
+use Rattle.field_boxes.specs.Classifier.{Interval}
+use Rattle.field_boxes.specs.Fields.{stated}
 use Rattle.filter_reader.specs.FilterList.{FilterList, list_of}
-use Rattle.rule_compilation.specs.Compiled.{IsTight}
 use Rattle.rule_expansion.specs.Expansion.{expanded_count, expansion}
 use Rattle.table_compose.specs.LeastCost.{IsLeastCost}
 use Rattle.table_text.specs.Reading.{table_in_text}
 use Rattle.ternary_words.specs.Table.{Table, answer}
 use Rattle.ternary_words.specs.TableText.{table_text}
 use Rattle.ternary_words.specs.declared.table.Table as code
-use Rattle.razor_core.specs.Check.{AnswerAlike}
-use Rattle.razor_core.specs.Equiv.{DecideAlike}
 use Rattle.razor_core.specs.Inputs.{table_input}
 use Rattle.razor_core.specs.Drive.{value_of_table}
 use Rattle.razor_core.specs.Merge.{IsMergedTable}
@@ -43,10 +41,10 @@ pub record IsCompiledText (width : ℕ) (list_bytes written : List ℕ) : Type 0
   pub spelled : list_of list_bytes ≡ Ok list
   pub reads_back : table_in_text written ≡ Ok table
   pub slot : table.slot ≡ width
-  pub answers : (header : List ℕ) → IsHeader header → answer table.entries header ≡ source stated header list.rules
+  pub answers : AreAlike (answer table.entries) (source_of list.rules)
   pub least : IsLeastCost stated list.rules table.composed
   pub few : length table.entries ≤ table.composed
-  pub tight : IsTight table.entries
+  pub tight : IsTight answer table.entries
 
 -- the same with another order of the fields: the one that is asked for, or else the one in which the list costs least
 pub record IsArrangedText (wanted : Wanted) (width : ℕ) (list_bytes written : List ℕ) : Type 0 where
@@ -56,11 +54,11 @@ pub record IsArrangedText (wanted : Wanted) (width : ℕ) (list_bytes written : 
   pub spelled : list_of list_bytes ≡ Ok list
   pub reads_back : table_in_text written ≡ Ok table
   pub slot : table.slot ≡ width
-  pub answers : (header : List ℕ) → IsHeader header → answer table.entries header ≡ source stated header list.rules
+  pub answers : AreAlike (answer table.entries) (source_of list.rules)
   pub is_order : IsOrderOf (Arrange wanted) list.rules order
   pub least : IsLeastCost order list.rules table.composed
   pub few : length table.entries ≤ table.composed
-  pub tight : IsTight table.entries
+  pub tight : IsTight answer table.entries
 
 -- the output is the text of the direct expansion, whose first match gives every header the decision of the list's first
 -- match
@@ -70,7 +68,7 @@ pub record IsExpandedText (width : ℕ) (list_bytes written : List ℕ) : Type 0
   pub spelled : list_of list_bytes ≡ Ok list
   pub reads_back : table_in_text written ≡ Ok table
   pub slot : table.slot ≡ width
-  pub answers : (header : List ℕ) → IsHeader header → answer table.entries header ≡ source stated header list.rules
+  pub answers : AreAlike (answer table.entries) (source_of list.rules)
   pub entries : table.entries ≡ expansion list.rules
   pub count : table.composed ≡ expanded_count list.rules
 
@@ -80,15 +78,15 @@ pub record AreEqualLists (left_bytes right_bytes : List ℕ) : Type 0 where
   pub right : FilterList
   pub left_spelled : list_of left_bytes ≡ Ok left
   pub right_spelled : list_of right_bytes ≡ Ok right
-  pub alike : DecideAlike left.rules right.rules
+  pub alike : AreAlike (source_of left.rules) (source_of right.rules)
 
 -- list and table give every header one decision, by name
-pub record AreAlike (list_bytes table_bytes : List ℕ) : Type 0 where
+pub record AgreeByName (list_bytes table_bytes : List ℕ) : Type 0 where
   pub list : FilterList
   pub table : Table
   pub list_spelled : list_of list_bytes ≡ Ok list
   pub table_spelled : table_in_text table_bytes ≡ Ok table
-  pub alike : AnswerAlike list table
+  pub alike : AreAlike (source_of list.rules) (answer table.entries)
 
 -- the output is the one good and coarsest certificate of list and table
 pub record IsCertified (list_bytes table_bytes written : List ℕ) : Type 0 where
@@ -121,7 +119,7 @@ pub record IsMergedText (table_bytes written : List ℕ) : Type 0 where
   pub is_merged : IsMergedTable table merged
   pub answers : (header : List ℕ) → answer merged.entries header ≡ answer table.entries header
   pub few : length merged.entries ≤ length table.entries
-  pub tight : IsTight table.entries → IsTight merged.entries
+  pub tight : IsTight answer table.entries → IsTight answer merged.entries
 
 -- the output is what the commands of the script print in turn over the tables, in a memory of so many slots that never
 -- fails

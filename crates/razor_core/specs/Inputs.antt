@@ -1,5 +1,6 @@
 -- The inputs of a command, in the order in which they are read, and what their texts come to.
 use Rattle.std.specs.Prelude.{ℕ, Bool, false, nat_lt, List, [], ◌∷◌, length, map, Result, Ok, Err}
+use Rattle.razor_base.specs.declared.limits.TheConstants.{MOST_LIST_BYTES, MOST_TABLE_BYTES, MOST_SCRIPT_BYTES, MOST_TRACE_BYTES, MOST_CERTIFICATE_BYTES}
 use Rattle.filter_reader.specs.FilterList as lists
 use Rattle.table_text.specs.Reading as tables
 use Rattle.bank_update.specs.Script as scripts
@@ -75,12 +76,12 @@ read_by command answer = inputs command
 
 -- the greatest number of bytes of a text
 abbrev pub most_bytes : Kind → ℕ
-most_bytes text_of_list = 16777216
-most_bytes text_of_table = 134217728
-most_bytes (text_of_script tables) = 1048576
-most_bytes text_of_session = 1048576
-most_bytes text_of_trace = 67108864
-most_bytes text_of_certificate = 268435456
+most_bytes text_of_list = MOST_LIST_BYTES
+most_bytes text_of_table = MOST_TABLE_BYTES
+most_bytes (text_of_script tables) = MOST_SCRIPT_BYTES
+most_bytes text_of_session = MOST_SCRIPT_BYTES
+most_bytes text_of_trace = MOST_TRACE_BYTES
+most_bytes text_of_certificate = MOST_CERTIFICATE_BYTES
 
 -- whether a text of so many bytes is too long to be read whole
 abbrev pub is_too_long : Kind → ℕ → Bool

@@ -1,5 +1,6 @@
 -- What ends a command: the turn of an input, or something later.
 use Rattle.std.specs.Prelude.{◌≡◌, ◌⊎◌, List, ◌∷◌, Ok, Err}
+use Rattle.razor_base.specs.declared.limits.TheConstants.{MOST_ENTRIES}
 use Rattle.list_generator.specs.DrawnRules.{generated}
 use Rattle.command_words.specs.Command.{Command, Compile, Make, Cert, Check, Trace, Selfrun}
 use Rattle.razor_core.specs.Turns.{Stop, turns_of}
@@ -16,7 +17,7 @@ StopsLater (Make method sizes file) (list_value list ∷ values) stop = NeedsMor
 StopsLater (Cert list table) (list_value rules ∷ table_value entries ∷ values) stop = HasOther table entries stop
 StopsLater (Check list table certificate) (list_value rules ∷ table_value entries ∷ lines_value text ∷ values) stop = HasTooMuch certificate rules entries text stop
 StopsLater (Trace table trace) (table_value entries ∷ lines_value text ∷ values) stop = EndsTrace trace text stop
-StopsLater (Selfrun seed rules) values stop = NeedsMore Compile (generated seed rules).rules 262144 stop
+StopsLater (Selfrun seed rules) values stop = NeedsMore Compile (generated seed rules).rules MOST_ENTRIES stop
 StopsLater command values stop = ⊥
 
 -- nothing ends the command later

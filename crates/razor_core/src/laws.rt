@@ -4,7 +4,7 @@ ghost use Rattle.std.specs.Prelude.{◌≡◌, ℕ, List, Option, Some};
 ghost use Rattle.field_boxes.specs.Classifier.{Interval};
 ghost use Rattle.command_words.specs.Command.{Arrange, Audit, Cert, Check, Compile, Drive, Equiv, Expand, Gen, Make, Merge, Migrate, Query, Selfrun, Session, Sizes, Trace};
 ghost use Rattle.command_words.specs.Orders.{Wanted};
-ghost use Rattle.razor_core.specs.Headlines.{Adds, AreAlike, AreEqualLists, IsAnswered, IsArrangedText, IsAudited, IsCertified, IsCompiledText, IsDriven, IsEdited, IsExpandedText, IsMergedText, IsMigrated, IsQueried};
+ghost use Rattle.razor_core.specs.Headlines.{Adds, AgreeByName, AreEqualLists, IsAnswered, IsArrangedText, IsAudited, IsCertified, IsCompiledText, IsDriven, IsEdited, IsExpandedText, IsMergedText, IsMigrated, IsQueried};
 ghost use Rattle.razor_core.specs.Outside.{Outside, Tells};
 ghost use Rattle.razor_core.specs.Promise.{KeepsPromise};
 ghost use Rattle.razor_core.specs.Selfrun.{Summarises};
@@ -45,7 +45,7 @@ pub fn valid_certificates_show_agreement()
     ensures { (before after : Outside) (line : List ℕ) (list table certificate first second third : List ℕ) →
         KeepsPromise (Check list table certificate) before after line 0 →
         before.remaining list ≡ Some first → before.remaining table ≡ Some second → before.remaining certificate ≡ Some third →
-        AreAlike first second }
+        AgreeByName first second }
 {}
 
 /// What `cert` has written is the one good and coarsest certificate of the list and the table.

@@ -1,6 +1,7 @@
 //! Taking the turn of an input that is read whole.
 ghost use Rattle.std.specs.Prelude.{◌≡◌, ◌≢◌, ◌≤◌, ℕ, List, IfOk, MatchResult, Ok, length};
 ghost use Rattle.std.specs.Io.KnownBytes.{Keeps};
+ghost use Rattle.razor_base.specs.declared.limits.TheConstants.{MOST_CERTIFICATE_BYTES};
 ghost use Rattle.razor_core.specs.Inputs.{Kind, Value, input_of, most_bytes, spelled_by};
 ghost use Rattle.razor_core.specs.Taking.{EndsTurn, IsFaultOf, IsReadWhole, IsUnspelled, TakesTurn};
 
@@ -25,7 +26,7 @@ pub trait WholeText {
     /// The greatest number of bytes of such a text.
     fn most(&self) -> u64
         ensures most { result ≡ most_bytes (kind self.now) }
-        ensures within { result ≤ 268435456 };
+        ensures within { result ≤ MOST_CERTIFICATE_BYTES };
 
     /// What the bytes of the file spell, or how the command ends on their first bad line.
     fn read<'a>(

@@ -1,5 +1,6 @@
 //! The texts that are read whole: lists, tables, scripts and sessions.
 ghost use Rattle.std.specs.Prelude.{◌≤◌, ◌*◌, ℕ, List, All, IsTrue, count_by, refl};
+ghost use Rattle.razor_base.specs.declared.limits.TheConstants.{MOST_SCRIPT_BYTES};
 ghost use Rattle.bank_update.specs.Script.{IsWithin};
 ghost use Rattle.edit_session.specs.SessionText.{is_add};
 ghost use Rattle.table_text.specs.Names.{is_name};
@@ -12,18 +13,10 @@ use crate::taking::WholeText;
 use bank_update::{Script, ScriptError, read_script};
 use edit_session::{Session, SessionError, read_session};
 use filter_reader::{ListError, RuleList, read_list};
+use razor_base::limits::{MOST_LIST_BYTES, MOST_SCRIPT_BYTES, MOST_TABLE_BYTES};
 use std::alloc::Global;
 use table_text::{TableError, read_table};
 use ternary_words::Table;
-
-/// The greatest number of bytes of a list.
-const MOST_LIST_BYTES: u64 = 16_777_216;
-
-/// The greatest number of bytes of a table.
-const MOST_TABLE_BYTES: u64 = 134_217_728;
-
-/// The greatest number of bytes of a script, and of a session.
-const MOST_SCRIPT_BYTES: u64 = 1_048_576;
 
 /// Lists.
 #[derive(Clone, Copy)]
@@ -134,7 +127,7 @@ impl WholeText for SessionText {
 
     ghost value = { λ session. session_value session };
 
-    ghost holds = { λ text session. 40 * count_by is_add session ≤ 1048576 };
+    ghost holds = { λ text session. 40 * count_by is_add session ≤ MOST_SCRIPT_BYTES };
 
     fn most(&self) -> u64 {
         MOST_SCRIPT_BYTES

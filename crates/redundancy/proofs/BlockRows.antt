@@ -1,5 +1,6 @@
 -- The rows of blocks by number.
 use Rattle.std.proofs.Common.{◌≡◌, ◌∷◌, ◌++◌, ℕ, zero, suc, List, [], ◌<◌, length, refl, ap, arith, ◌∙◌, subst}
+use Rattle.std.proofs.lemmas.List.{append-nil}
 use Rattle.std.specs.Prelude.{Option, Some, None, All, slice_get, map}
 use Rattle.std.specs.Global.{Global}
 use Rattle.std.specs.Prelude.{Vec}
@@ -80,14 +81,10 @@ module _ (blocks more : List Block) where
   unfolding rows_of
   rows_stay number lead l = same (suc number) (suc number) number lead (omega arith) (omega arith) l
 
-nil_append : (blocks : List Block) → blocks ++ [] ≡ blocks
-nil_append [] = refl
-nil_append (b ∷ blocks) = ap (λ bs. b ∷ bs) (nil_append blocks)
-
 -- the rows of each kind of block
 enough : (blocks : List Block) (n number : ℕ) → AllLead blocks → number < n → number < length blocks → rows_within n blocks number ≡ rows_of blocks number
 unfolding rows_of
-enough blocks n number lead h l = subst (λ bs. rows_within n bs number ≡ rows_within (suc number) blocks number) (nil_append blocks) (same blocks [] n (suc number) number lead h (omega arith) l)
+enough blocks n number lead h l = subst (λ bs. rows_within n bs number ≡ rows_within (suc number) blocks number) (append-nil blocks) (same blocks [] n (suc number) number lead h (omega arith) l)
 
 by_place : (blocks : List Block) (number : ℕ) (block : Block) → slice_get blocks number ≡ Some block → rows_of blocks number ≡ rows_by (rows_within number blocks) (Some block)
 unfolding rows_of

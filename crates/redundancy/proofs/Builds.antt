@@ -6,7 +6,7 @@ use Rattle.std.specs.Global.{Global}
 use Rattle.std.specs.Prelude.{Vec}
 use Rattle.std.proofs.lemmas.Bool.{cases_lt}
 use Rattle.std.proofs.lemmas.Option.{slice_get_within}
-use Rattle.std.proofs.lemmas.List.{length-append}
+use Rattle.std.proofs.lemmas.List.{length-append, get_or_append_left}
 use Rattle.std.proofs.lemmas.List.Elements.{All-weaker}
 use Rattle.node_store.specs.declared.edge.NodeId.{NodeId}
 use Rattle.node_store.specs.Levels.{HasField, IsLevel}
@@ -26,7 +26,7 @@ use Rattle.redundancy.specs.declared.block.Run.{Run}
 use Rattle.redundancy.specs.declared.blocks.Blocks.{Blocks}
 use Rattle.redundancy.specs.Blocks.{AreBlocks, FitsAt, FitsRun, HasCover, IsBlocks, RiseApart, cover_at, no_cover, rows_by, rows_of, run_by}
 use Rattle.redundancy.specs.Built.{FitRuns, IsAdded, IsBuilt, StandsAt}
-use Rattle.redundancy.proofs.Places.{old_item, last_item}
+use Rattle.redundancy.proofs.Places.{last_item}
 use Rattle.redundancy.proofs.BlockRows.{AllLead, Lead, all_lead, rows_at, rows_stay, same_runs}
 
 pub cover_stays : (old new : List Node) (cover : Cover) (rows : List Row) → Grows old new → HasCover old cover rows → HasCover new cover rows
@@ -61,7 +61,7 @@ module _ (nodes : List Node) (blocks : List Block) (covers : List Cover) (block 
   ]
 
   cover_old : (k : ℕ) → k < length covers → cover_at (covers ++ cover ∷ []) k ≡ cover_at covers k
-  cover_old k less = old_item no_cover covers (cover ∷ []) k less
+  cover_old k less = get_or_append_left covers (cover ∷ []) no_cover k less
 
   level_old : (k : ℕ) → k < length covers → (cover_at (covers ++ cover ∷ []) k).level.now ≡ (cover_at covers k).level.now
   level_old k less = ap (λ (c : Cover). c.level.now) (cover_old k less)

@@ -5,7 +5,7 @@ use Rattle.std.proofs.lemmas.List.{get_or_default}
 use Rattle.ternary_words.specs.declared.entry.Entry.{Entry}
 use Rattle.redundancy_laws.specs.Built.{ArePrefixes}
 use Rattle.redundancy_laws.specs.Flags.{AreRightFlags, with_flags}
-use Rattle.redundancy_laws.specs.Orders.{IsOrder}
+use Rattle.field_boxes.specs.Orders.{IsOrder}
 use Rattle.redundancy_laws.specs.Pass.{Keeps}
 use Rattle.redundancy_laws.proofs.Chosen.{chosen}
 

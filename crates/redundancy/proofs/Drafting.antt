@@ -3,7 +3,7 @@ use Rattle.std.proofs.Common.{◌≡◌, ◌∷◌, ◌++◌, ◌⊎◌, ℕ, su
 use Rattle.std.specs.Prelude.{All, cond, map, Some, None, unwrap_or, slice_index_or}
 use Rattle.smallvec.specs.SmallVec.{SmallVec}
 use Rattle.std.specs.List.{list_any}
-use Rattle.std.proofs.lemmas.Bool.{cases_lt, le-leb, true≢false}
+use Rattle.std.proofs.lemmas.Bool.{cases_lt, le-leb, true≢false, lt-leb}
 use Rattle.std.proofs.lemmas.List.Elements.{All-append, All-map, All-push, All-weaker}
 use Rattle.field_boxes.specs.declared.span.Span.{Span}
 use Rattle.node_store.specs.Levels.{HasField, IsLevel, next as next_level, top_of}
@@ -30,7 +30,6 @@ use Rattle.redundancy.specs.declared.layer_draft.Draft.{Draft}
 use Rattle.redundancy.specs.Stretches.{stretch_at, FillSpan, stretches_at, AreListed}
 use Rattle.redundancy.specs.Drafts.{placed_by, placed_in, placed_for, leads_of, IsChange, IsTakenIn, RiseUpTo, IsDraft}
 use Rattle.redundancy.proofs.Numbers.{number_stays}
-use Rattle.redundancy.proofs.Listing.{not_le}
 
 -- spans that rise
 rises : (lo end : ℕ) (ps : List Placed) → RiseUpTo lo end ps → lo ≤ end
@@ -72,7 +71,7 @@ module _ (places : List ℕ) (after : List NodeId) where
     | inl over ↦
         ap (λ t. cond t (Some (node_at after (slice_index_or places s.place 0)).0) (placed_at (laid ss) v)) (not_past v (interval_of s.span) over)
         ∙ placed_here (suc s.span.hi) hi v ss f.1 (omega (arith, over)) under
-        ∙ ap (λ t. Some (node_at after (slice_index_or places (cond t s.place (stretch_at ss v)) 0)).0) (sym (not_le v s.span.hi over))
+        ∙ ap (λ t. Some (node_at after (slice_index_or places (cond t s.place (stretch_at ss v)) 0)).0) (sym (lt-leb v s.span.hi over))
     | inr within ↦
         let first = f.0 in
         ap (λ t. cond t (Some (node_at after (slice_index_or places s.place 0)).0) (placed_at (laid ss) v)) (holds_between v (interval_of s.span) (omega (arith, first, above)) within)

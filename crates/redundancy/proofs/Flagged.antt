@@ -1,5 +1,7 @@
 -- Flagged entries that are added row by row.
-use Rattle.std.proofs.Common.{◌≡◌, ◌∷◌, ◌++◌, ℕ, zero, suc, List, [], ◌+◌, ◌<◌, ◌≤◌, Bool, true, false, length, map, take, drop, ap, append_assoc, refl, sym, ◌∙◌, subst}
+use Rattle.std.proofs.Common.{◌≡◌, ◌∷◌, ◌++◌, ℕ, List, [], ◌+◌, ◌<◌, ◌≤◌, Bool, true, false, length, map, take, drop, ap, append_assoc, refl, sym, ◌∙◌, subst}
+use Rattle.std.proofs.lemmas.Slice.Zip.{AllZip-long}
+use Rattle.std.proofs.Math.Seq.{drop-nil}
 use Rattle.std.specs.Prelude.{OnOk, Result, slice_index_or, slice_set}
 use Rattle.std.specs.List.{AllZip, list_any}
 use Rattle.std.proofs.lemmas.List.{append-nil, take_all}
@@ -30,13 +32,9 @@ flags_append (x ∷ xs) ys [] = sym (no_flags ys)
 flags_append (x ∷ xs) ys (true ∷ flags) = ap (λ (es : List Entry). x ∷ es) (flags_append xs ys flags)
 flags_append (x ∷ xs) ys (false ∷ flags) = flags_append xs ys flags
 
-none_left : (n : ℕ) → drop {A = Bool} n [] ≡ []
-none_left zero = refl
-none_left (suc n) = refl
-
 drop_append : (xs ys : List Entry) (flags : List Bool) → drop (length ys) (drop (length xs) flags) ≡ drop (length (xs ++ ys)) flags
 drop_append [] ys flags = refl
-drop_append (x ∷ xs) ys [] = none_left (length ys)
+drop_append (x ∷ xs) ys [] = drop-nil (length ys)
 drop_append (x ∷ xs) ys (b ∷ flags) = drop_append xs ys flags
 
 -- only so many flags count as there are entries
@@ -53,12 +51,6 @@ none_flagged (x ∷ xs) [] none = refl
 none_flagged (x ∷ xs) (true ∷ flags) none = absurd cc
 none_flagged (x ∷ xs) (false ∷ flags) none = none_flagged xs flags none
 
-zip_length : (level : List ℕ) (base : List Prefix) (bs : List Box) (es : List Entry) → AllZip (IsPlaced level base) bs es → length es ≡ length bs
-zip_length level base [] [] z = refl
-zip_length level base [] (e ∷ es) z = absurd z
-zip_length level base (b ∷ bs) [] z = absurd z
-zip_length level base (b ∷ bs) (e ∷ es) z = ap suc (zip_length level base bs es z.1)
-
 -- the flagged entries of these boxes were added, and these flags are left
 abbrev pub AreFlagged : List ℕ → List Prefix → List Entry → List Entry → List Box → List Bool → List Bool → Type 0
 AreFlagged level base old new bs flags rest = (more : List Entry) × AllZip (IsPlaced level base) bs more × (new ≡ old ++ with_flags more flags) × (rest ≡ drop (length more) flags)
@@ -72,7 +64,7 @@ pub flagged_more : (level : List ℕ) (base : List Prefix) (old mid new : List E
 flagged_more [] base old mid new tables rows i d flags left own rest cost has less g many mine others h = absurd has
 flagged_more (f ∷ level) base old mid new tables rows i d flags left own rest cost has less g many mine others h =
     let r = slice_index_or rows i d in
-    let count : length h.0 ≡ cost = zip_length level (slice_set base f r.prefix) (tables r.to.0) h.0 h.1 ∙ many in
+    let count : length h.0 ≡ cost = AllZip-long (IsPlaced level (slice_set base f r.prefix)) (tables r.to.0) h.0 h.1 ∙ many in
     let seen : with_flags h.0 own ≡ with_flags h.0 left = ap (with_flags h.0) (mine ∙ ap (λ n. take n left) (sym count)) ∙ flags_taken h.0 left in (
       g.0 ++ h.0,
       subst (λ bs. AllZip (IsPlaced (f ∷ level) base) bs (g.0 ++ h.0)) (sym (turn_more tables rows i d less))

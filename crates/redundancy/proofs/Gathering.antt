@@ -1,9 +1,9 @@
 -- The runs of a table, one after another.
-use Rattle.std.proofs.Common.{◌≡◌, ◌∷◌, ◌++◌, ℕ, zero, suc, List, [], ◌+◌, ◌<◌, ◌≤◌, length, refl, ap, arith, sym, ◌∙◌, subst, inl, inr, get_or, map, take, append_assoc}
+use Rattle.std.proofs.Common.{◌≡◌, ◌∷◌, ◌++◌, ℕ, suc, List, [], ◌+◌, ◌<◌, ◌≤◌, length, refl, ap, arith, sym, ◌∙◌, subst, get_or, map, take, append_assoc}
+use Rattle.std.proofs.lemmas.List.Elements.{All-push}
 use Rattle.std.specs.Prelude.{All, Option, Some, None, slice_get}
-use Rattle.std.proofs.lemmas.Bool.{cases_lt}
-use Rattle.std.proofs.Math.Seq.{get_or-append_seam, take-suc}
-use Rattle.std.proofs.lemmas.List.{length-append}
+use Rattle.std.proofs.Math.Seq.{take-suc}
+use Rattle.std.proofs.lemmas.List.{append-nil, map-append}
 use Rattle.std.proofs.lemmas.List.Concat.{flat_map-append}
 use Rattle.std.specs.List.{flat_map}
 use Rattle.std.proofs.lemmas.Option.{slice_get_within}
@@ -20,7 +20,7 @@ use Rattle.redundancy.specs.declared.blocks.Blocks.{Blocks}
 use Rattle.redundancy.specs.declared.lists.Item.TheVariants.{Behind}
 use Rattle.redundancy.specs.declared.lists.Lists.{Lists}
 use Rattle.redundancy.specs.declared.lists.Piece.{Piece}
-use Rattle.redundancy.specs.Blocks.{FitsRun, IsBlocks, cover_at, rows_of, run_by}
+use Rattle.redundancy.specs.Blocks.{FitsRun, IsBlocks, rows_of, run_by}
 use Rattle.redundancy.specs.Built.{AreBuilt, BlocksGrow, FitRuns, IsBuilt, StandAt, StandsAt}
 use Rattle.redundancy.specs.Gathered.{AreGathered}
 use Rattle.redundancy.specs.Lists.{AreLists, IsBefore, IsListed, ListsGrow, interval_of_piece, item_rows, list_rows}
@@ -49,15 +49,8 @@ blocks_then s0 s1 s2 b0 b1 b2 f g = record {
   covers_stay = λ k less. g.covers_stay k (omega (arith, f.count, less)) ∙ f.covers_stay k less;
 }
 
-nodes-nil : (nodes : List Node) → nodes ≡ nodes ++ []
-nodes-nil [] = refl
-nodes-nil (n ∷ nodes) = ap (λ (ns : List Node). n ∷ ns) (nodes-nil nodes)
-
-grows_same : (nodes : List Node) → Grows nodes nodes
-grows_same nodes = record { gained = ([], nodes-nil nodes); answers = λ id values less. refl }
-
 pub blocks_same : (s : List Node) (b : Blocks) → IsBlocks s b → BlocksGrow s s b b
-blocks_same s b h = record { grows = grows_same s; blocks = h; count = omega arith; rows_stay = λ k less. refl; covers_stay = λ k less. refl }
+blocks_same s b h = record { grows = growth.stays s; blocks = h; count = omega arith; rows_stay = λ k less. refl; covers_stay = λ k less. refl }
 
 -- lists over more blocks
 pub lists_over : (s0 s1 : List Node) (b0 b1 : Blocks) (lists : Lists) → AreLists b0 lists → BlocksGrow s0 s1 b0 b1 → ListsGrow b0 b1 lists lists
@@ -80,17 +73,9 @@ lists_over s0 s1 b0 b1 lists h g = record {
     known_place : (place number : ℕ) → slice_get lists.known.items place ≡ Some (Some number) → place < length lists.links.keys
     known_place place number e = let w = slice_get_within lists.known.items place (Some number) e in omega (arith, w, h.count)
 
-map-append : {X Y : Type 0} (f : X → Y) (xs ys : List X) → map f (xs ++ ys) ≡ map f xs ++ map f ys
-map-append f [] ys = refl
-map-append f (x ∷ xs) ys = ap (λ zs. f x ∷ zs) (map-append f xs ys)
-
 pub runs-append : (runs more : List laws.Run) → rows_of_runs (runs ++ more) ≡ rows_of_runs runs ++ rows_of_runs more
 runs-append [] more = refl
 runs-append (r ∷ runs) more = ap (λ (rows : List Row). map (in_front r.span) r.rows ++ rows) (runs-append runs more) ∙ sym (append_assoc (map (in_front r.span) r.rows) (rows_of_runs runs) (rows_of_runs more))
-
-nil-right : (rows : List Row) → rows ++ [] ≡ rows
-nil-right [] = refl
-nil-right (r ∷ rows) = ap (λ (rs : List Row). r ∷ rs) (nil-right rows)
 
 -- the runs lead to blocks that keep their rows
 pub runs_agree : (rows others : ℕ → List Row) (runs : List Run) → All (λ r. others r.block ≡ rows r.block) runs → rows_of_runs (map (run_by others) runs) ≡ rows_of_runs (map (run_by rows) runs)
@@ -104,19 +89,6 @@ leads_stay s0 s1 b0 b1 level runs g h k d less =
     let l = h k d less in
     let older = l.older in
     record { older = omega (arith, older, g.count); level = ap (λ c. c.level.now) (g.covers_stay _ older) ∙ l.level; inside = l.inside }
-
-old_item : {X : Type 0} (d : X) (xs ys : List X) (c : ℕ) → c < length xs → get_or (xs ++ ys) c d ≡ get_or xs c d
-old_item d [] ys c h = absurd (omega (arith, h))
-old_item d (x ∷ xs) ys zero h = refl
-old_item d (x ∷ xs) ys (suc c) h = old_item d xs ys c (omega (arith, h))
-
-pub all_more : {X : Type 0} (P : X → Type 0) (xs : List X) (x : X) → All P xs → P x → All P (xs ++ x ∷ [])
-all_more P xs x h here k d less = elim (cases_lt k (length xs)) [
-  | inl before ↦ subst P (sym (old_item d xs (x ∷ []) k before)) (h k d before)
-  | inr past ↦
-      let is : k ≡ length xs = omega (arith, less, past, length-append xs (x ∷ [])) in
-      subst (λ n. P (get_or (xs ++ x ∷ []) n d)) (sym is) (subst P (sym (get_or-append_seam xs x [] d)) here)
-]
 
 pub gathered_none : (s : List Node) (b : Blocks) (lists : Lists) (level : List ℕ) → IsBlocks s b → AreLists b lists → AreGathered s s b b lists lists level [] None []
 gathered_none s b lists level blocks h =
@@ -140,30 +112,11 @@ gathered_more s0 s1 s2 b0 b1 b2 l0 l1 l2 l3 level next done rows list place runs
       within = listed.within;
       list_is = listed.rows_are ∙ ap (λ (rs : List Row). rs ++ item_rows rows2 (Behind piece)) (lists.stay list g.within ∙ g.list_is) ∙ ap (λ (rs : List Row). done ++ rs) items;
       runs_are = ap (λ rs. rows_of_runs (map (run_by rows2) rs)) to ∙ ap rows_of_runs (map-append (run_by rows2) runs (run ∷ [])) ∙ runs-append (map (run_by rows2) runs) (run_by rows2 run ∷ [])
-          ∙ ap (λ (rs : List Row). rs ++ (map (in_front (interval_of run.span)) (rows2 run.block) ++ [])) agree ∙ ap (λ (rs : List Row). done ++ rs) (nil-right (map (in_front (interval_of run.span)) (rows2 run.block)))
+          ∙ ap (λ (rs : List Row). rs ++ (map (in_front (interval_of run.span)) (rows2 run.block) ++ [])) agree ∙ ap (λ (rs : List Row). done ++ rs) (append-nil (map (in_front (interval_of run.span)) (rows2 run.block)))
           ∙ ap (λ (rs : List Row). done ++ map (in_front (interval_of run.span)) rs) built.rows_are;
       leads = subst (FitRuns b2 level) (sym to)
-          (all_more (FitsRun b2.covers.items (length b2.blocks.items) level) runs run (leads_stay s1 s2 b1 b2 level runs grown g.leads) (record { older = built.number_in; level = built.level_is ∙ one; inside = inside }));
+          (All-push (FitsRun b2.covers.items (length b2.blocks.items) level) runs run (leads_stay s1 s2 b1 b2 level runs grown g.leads) (record { older = built.number_in; level = built.level_is ∙ one; inside = inside }));
     }
-
--- rows that are those of a list are those of some runs
-pub some_runs : (rows : ℕ → List Row) (runs : List Run) (done : List Row) → rows_of_runs (map (run_by rows) runs) ≡ done → 0 < length done → 0 < length runs
-some_runs rows [] done e some = absurd (omega (arith, some, ap length e))
-some_runs rows (r ∷ runs) done e some = omega arith
-
--- the list has its block
-pub list_known : (s0 s1 : List Node) (b0 b1 : Blocks) (l0 l1 : Lists) (level : List ℕ) (done : List Row) (list : Option ℕ) (runs : List Run) (number : ℕ) → AreGathered s0 s1 b0 b1 l0 l1 level done list runs →
-    number < length b1.blocks.items → (cover_at b1.covers.items number).level.now ≡ level → rows_of b1.blocks.items number ≡ list_rows (rows_of b1.blocks.items) l1.links.keys list → IsBuilt s0 s1 b0 b1 level done number
-list_known s0 s1 b0 b1 l0 l1 level done list runs number g within at rows =
-    let b = g.blocks in
-    record { grows = b.grows; blocks = b.blocks; count = b.count; rows_stay = b.rows_stay; covers_stay = b.covers_stay; number_in = within; level_is = at; rows_are = rows ∙ g.list_is }
-
--- the block of the runs was made
-pub list_made : (s0 s1 s2 : List Node) (b0 b1 b2 : Blocks) (l0 l1 : Lists) (level : List ℕ) (done : List Row) (list : Option ℕ) (runs : List Run) (number : ℕ) → AreGathered s0 s1 b0 b1 l0 l1 level done list runs →
-    IsBuilt s1 s2 b1 b2 level (rows_of_runs (map (run_by (rows_of b1.blocks.items)) runs)) number → IsBuilt s0 s2 b0 b2 level done number
-list_made s0 s1 s2 b0 b1 b2 l0 l1 level done list runs number g built =
-    let b = blocks_then s0 s1 s2 b0 b1 b2 g.blocks (built_grows s1 s2 b1 b2 level number _ built) in
-    record { grows = b.grows; blocks = b.blocks; count = b.count; rows_stay = b.rows_stay; covers_stay = b.covers_stay; number_in = built.number_in; level_is = built.level_is; rows_are = built.rows_are ∙ g.runs_are }
 
 -- the same of the lists, where the block is kept of the list
 pub list_kept : (s0 s1 s2 : List Node) (b0 b1 b2 : Blocks) (l0 l1 l2 : Lists) (level : List ℕ) (done rows : List Row) (list : Option ℕ) (number : ℕ) → ListsGrow b0 b1 l0 l1 → IsBefore (length l1.links.keys) list →
@@ -193,21 +146,21 @@ map_next f xs i x y less is e =
 
 -- no entry yet
 pub none_built : (s : List Node) (b : Blocks) (level : List ℕ) → IsBlocks s b → AreBuilt s s b b level [] []
-none_built s b level h = record { grows = grows_same s; blocks = h; count = omega arith; rows_stay = λ k less. refl; covers_stay = λ k less. refl; numbers_in = λ k d less. absurd (omega (arith, less)); rows_are = refl }
+none_built s b level h = record { grows = growth.stays s; blocks = h; count = omega arith; rows_stay = λ k less. refl; covers_stay = λ k less. refl; numbers_in = λ k d less. absurd (omega (arith, less)); rows_are = refl }
 
 -- the block of one more entry
 pub lasts_step : (s : List Node) (b0 b1 b2 : Blocks) (rows : List Row) (row : Row) (numbers more : List ℕ) (number : ℕ) → AreBuilt s s b0 b1 [] rows numbers → IsBuilt s s b1 b2 [] (row ∷ []) number → more ≡ numbers ++ number ∷ [] →
     AreBuilt s s b0 b2 [] (rows ++ row ∷ []) more
 lasts_step s b0 b1 b2 rows row numbers more number h g em = record {
-  grows = grows_same s;
+  grows = growth.stays s;
   blocks = g.blocks;
   count = omega (arith, h.count, g.count);
   rows_stay = λ k less. g.rows_stay k (omega (arith, h.count, less)) ∙ h.rows_stay k less;
   covers_stay = λ k less. g.covers_stay k (omega (arith, h.count, less)) ∙ h.covers_stay k less;
-  numbers_in = subst (StandAt b2 []) (sym em) (all_more (StandsAt b2 []) numbers number (stand b1 b2 g.count g.covers_stay [] numbers h.numbers_in) (g.number_in, g.level_is));
+  numbers_in = subst (StandAt b2 []) (sym em) (All-push (StandsAt b2 []) numbers number (stand b1 b2 g.count g.covers_stay [] numbers h.numbers_in) (g.number_in, g.level_is));
   rows_are = ap (flat_map (rows_of b2.blocks.items)) em ∙ flat_map-append (rows_of b2.blocks.items) numbers (number ∷ [])
       ∙ ap (λ (rs : List Row). rs ++ (rows_of b2.blocks.items number ++ [])) (flat_stays b1 b2 g.rows_stay [] numbers h.numbers_in ∙ h.rows_are)
-      ∙ ap (λ (rs : List Row). rows ++ rs) (nil-right (rows_of b2.blocks.items number) ∙ g.rows_are);
+      ∙ ap (λ (rs : List Row). rows ++ rs) (append-nil (rows_of b2.blocks.items number) ∙ g.rows_are);
 }
 
 -- the block of them all

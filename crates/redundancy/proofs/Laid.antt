@@ -17,7 +17,8 @@ use Rattle.field_sets.specs.Placed.{PlacedAt, RiseFrom, led, placed_at}
 use Rattle.redundancy_laws.specs.Rows.{Row, in_front, matches}
 use Rattle.redundancy_laws.specs.Layers.{AreApart, rows_of_runs}
 use Rattle.redundancy_laws.specs.Sifted.{is_in, IsCover}
-use Rattle.redundancy_laws.proofs.Apart.{behind-none, ends, none-below}
+use Rattle.redundancy_laws.proofs.Apart.{behind-none, none-below}
+use Rattle.field_boxes.proofs.Unions.{between}
 use Rattle.redundancy_laws.proofs.OneRun.{cover-behind}
 use Rattle.redundancy.specs.declared.block.Cover.{Cover}
 use Rattle.redundancy.specs.declared.block.Run.{Run}
@@ -88,7 +89,7 @@ module _ (nodes : List Node) (b : Blocks) (level : List ℕ) (edges : List Edge)
       is_in nodes (led (map (placed_by b.covers.items) runs) edges v) values ≡ covered runs →
       is_in nodes (led (map (placed_by b.covers.items) (r ∷ runs)) edges v) values ≡ covered (r ∷ runs)
   by_test r runs true is a here later =
-      let e = ends v (interval_of r.span) is in
+      let e = between v (interval_of r.span) is in
       ap (λ t. is_in nodes (unwrap_or (cond t (Some (cover_at b.covers.items r.block).set.0) (placed_at (map (placed_by b.covers.items) runs) v)) (child_of edges v)) values) is
       ∙ here
       ∙ sym (parted r runs

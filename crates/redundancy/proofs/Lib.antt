@@ -6,7 +6,6 @@ pub mod Chosen
 pub mod Costs
 pub mod Drafting
 pub mod Ends
-pub mod Fields
 pub mod Flagged
 pub mod Gathering
 pub mod Laid

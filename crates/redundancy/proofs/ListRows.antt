@@ -1,10 +1,11 @@
 -- The rows of lists.
 use Rattle.std.proofs.Common.{◌≡◌, ◌∷◌, ◌++◌, ◌⊎◌, ℕ, zero, suc, List, [], ◌+◌, ◌<◌, ◌≤◌, length, refl, ap, arith, sym, ◌∙◌, subst, inl, inr}
+use Rattle.node_store.proofs.Growth.{kept_place, last_place}
 use Rattle.std.specs.Prelude.{Option, Some, None, slice_get, map}
 use Rattle.std.proofs.lemmas.Bool.{cases_lt}
 use Rattle.std.proofs.Math.ListN.{set}
-use Rattle.std.proofs.lemmas.List.{length-append, length-set}
-use Rattle.std.proofs.lemmas.Option.{slice_get_within}
+use Rattle.std.proofs.lemmas.List.{length-append, length-set, append-nil}
+use Rattle.std.proofs.lemmas.Option.{slice_get_within, same_Some}
 use Rattle.redundancy_laws.specs.Rows.{Row, in_front}
 use Rattle.redundancy.specs.declared.blocks.Blocks.{Blocks}
 use Rattle.redundancy.specs.declared.lists.Item.{Item}
@@ -13,15 +14,6 @@ use Rattle.redundancy.specs.declared.lists.Link.{Link}
 use Rattle.redundancy.specs.declared.lists.Lists.{Lists}
 use Rattle.redundancy.specs.Blocks.{rows_of}
 use Rattle.redundancy.specs.Lists.{AreLinks, AreKnown, AreLists, FitsItem, IsBefore, IsListed, ListsGrow, enough, interval_of_piece, item_rows, link_rows_by, list_rows, list_within}
-
-pub kept_place : {X : Type 0} (xs more : List X) (k : ℕ) → k < length xs → slice_get (xs ++ more) k ≡ slice_get xs k
-kept_place [] more k less = absurd (omega (arith, less))
-kept_place (x ∷ xs) more zero less = refl
-kept_place (x ∷ xs) more (suc k) less = kept_place xs more k (omega (arith, less))
-
-last_place : {X : Type 0} (xs : List X) (y : X) → slice_get (xs ++ y ∷ []) (length xs) ≡ Some y
-last_place [] y = refl
-last_place (x ∷ xs) y = last_place xs y
 
 before_enough : (most : ℕ) (list : Option ℕ) → IsBefore most list → enough list ≤ most
 before_enough most None h = omega arith
@@ -74,10 +66,6 @@ module _ (most : ℕ) (rows others : ℕ → List Row) (links more : List Link) 
   unfolding list_rows
   rows_stay list l = same (enough list) (enough list) list (omega arith) (omega arith) l
 
-nil_append : (links : List Link) → links ++ [] ≡ links
-nil_append [] = refl
-nil_append (b ∷ links) = ap (λ bs. b ∷ bs) (nil_append links)
-
 agree_self : (most : ℕ) (rows : ℕ → List Row) → AgreeTo most rows rows
 agree_self most rows k less = refl
 
@@ -85,7 +73,7 @@ agree_self most rows k less = refl
 often : (most : ℕ) (rows : ℕ → List Row) (links : List Link) → AreLinks most links → (n : ℕ) (list : Option ℕ) → enough list ≤ n → IsBefore (length links) list → list_within rows n links list ≡ list_rows rows links list
 unfolding list_rows
 often most rows links leads n list le l =
-    subst (λ ks. list_within rows n ks list ≡ list_within rows (enough list) links list) (nil_append links) (same most rows rows links [] leads (agree_self most rows) n (enough list) list le (omega arith) l)
+    subst (λ ks. list_within rows n ks list ≡ list_within rows (enough list) links list) (append-nil links) (same most rows rows links [] leads (agree_self most rows) n (enough list) list le (omega arith) l)
 
 by_place : (rows : ℕ → List Row) (links : List Link) (place : ℕ) (link : Link) → slice_get links place ≡ Some link → list_rows rows links (Some place) ≡ link_rows_by rows (list_within rows place links) (Some link)
 unfolding list_rows
@@ -100,9 +88,6 @@ last_link most rows links leads place link e =
     by_place rows links place link e
     ∙ ap (λ (rs : List Row). rs ++ item_rows rows link.item)
     (often most rows links leads place link.before (before_enough place link.before f.0) (before_more place (length links) link.before (omega (arith, w)) f.0))
-
-some_link : (a b : Link) → Some a ≡ Some b → a ≡ b
-some_link a b h = cc
 
 pub some_known : (a b : ℕ) → Some (Some a) ≡ Some (Some b) → a ≡ b
 some_known a b h = cc
@@ -120,7 +105,7 @@ place_cases xs y k x e = elim (cases_lt k (length xs)) [
 links_more : (most : ℕ) (links : List Link) (link : Link) → AreLinks most links → IsBefore (length links) link.before → FitsItem most link.item → AreLinks most (links ++ link ∷ [])
 links_more most links link leads before item place l e = elim (place_cases links link place l e) [
   | inl old ↦ leads place l old.1
-  | inr new ↦ subst (λ (k : Link). IsBefore place k.before × FitsItem most k.item) (sym (some_link l link new.1)) (before_more (length links) place link.before (omega (arith, new.0)) before, item)
+  | inr new ↦ subst (λ (k : Link). IsBefore place k.before × FitsItem most k.item) (sym (same_Some l link new.1)) (before_more (length links) place link.before (omega (arith, new.0)) before, item)
 ]
 
 none_some : (number : ℕ) (X : Type 0) → Some (Some number) ≡ Some None → X
@@ -215,4 +200,4 @@ kept blocks old new place number h within rows e k = record {
 -- other blocks change no rows
 pub rows_agree : (most : ℕ) (rows others : ℕ → List Row) (links : List Link) → AreLinks most links → AgreeTo most rows others → (list : Option ℕ) → IsBefore (length links) list →
     list_rows others links list ≡ list_rows rows links list
-rows_agree most rows others links leads agree list l = subst (λ ks. list_rows others ks list ≡ list_rows rows links list) (nil_append links) (rows_stay most rows others links [] leads agree list l)
+rows_agree most rows others links leads agree list l = subst (λ ks. list_rows others ks list ≡ list_rows rows links list) (append-nil links) (rows_stay most rows others links [] leads agree list l)

@@ -3,8 +3,8 @@ use Rattle.std.proofs.Common.{◌≡◌, ◌∷◌, ◌++◌, ℕ, zero, suc, Li
 use Rattle.std.proofs.Math.Seq.{take-suc}
 use Rattle.std.specs.Prelude.{All, cond, map, nat_le}
 use Rattle.smallvec.specs.SmallVec.{SmallVec}
-use Rattle.std.proofs.lemmas.Bool.{cases_lt, le-leb, leb-true}
-use Rattle.std.proofs.lemmas.List.{length-append, length-map, map-append}
+use Rattle.std.proofs.lemmas.Bool.{cases_lt, le-leb, lt-leb}
+use Rattle.std.proofs.lemmas.List.{length-append, length-map, map-append, get_or_append_left}
 use Rattle.std.proofs.lemmas.List.Elements.{All-nil, All-cons, All-weaker}
 use Rattle.field_boxes.specs.Classifier.{Interval, interval_holds}
 use Rattle.field_boxes.proofs.Unions.{holds_between, between}
@@ -19,7 +19,7 @@ use Rattle.redundancy_laws.specs.declared.context.Context.{Context}
 use Rattle.redundancy_laws.specs.Sifted.{no_context, context_at, context_below}
 use Rattle.redundancy.specs.declared.run_contexts.Stretch.{Stretch}
 use Rattle.redundancy.specs.Stretches.{context_of, AreStretches, stretch_at, FillSpan, stretches_at, IsListed, AreListed}
-use Rattle.redundancy.proofs.Places.{old_item, pushed_to}
+use Rattle.redundancy.proofs.Places.{pushed_to}
 
 -- the first value behind the parts
 abbrev pub low_after : ℕ → List Part → ℕ
@@ -76,13 +76,6 @@ there : (p : Part) (ps : List Part) (v : ℕ) → nat_le v p.hi ≡ false → be
 there p ps v e =
     ap (λ (u : Bool). pair_to (cond u p.left.0 (child_of (map to_left ps) v)) (cond u p.right.0 (child_of (map to_right ps) v))) (sym e)
 
-not_le_by : (t : Bool) (v h : ℕ) → nat_le v h ≡ t → h < v → t ≡ false
-not_le_by true v h e less = absurd (omega (arith, leb-true v h e, less))
-not_le_by false v h e less = refl
-
-pub not_le : (v h : ℕ) → h < v → nat_le v h ≡ false
-not_le v h less = not_le_by (nat_le v h) v h refl less
-
 -- where a value stands
 at_of : (lo hi place v : ℕ) (ps : List Part) (ss : List Stretch) → Fill lo hi (map to_left ps) → AreStretches lo place ps ss → lo ≤ v → v ≤ hi →
     (j : ℕ) × (j < length ps) × (stretch_at ss v ≡ place + j) × (context_at (map context_of ps) j ≡ below_at ps v)
@@ -92,7 +85,7 @@ at_of lo hi place v (p ∷ ps) [] f a above under = absurd a
 at_of lo hi place v (p ∷ ps) (s ∷ ss) f a above under = elim (cases_lt p.hi v) [
   | inl over ↦
       let r = at_of (suc p.hi) hi (suc place) v ps ss f.1 a.3 (omega (arith, over)) under in
-      let past = not_le v p.hi over in
+      let past = lt-leb v p.hi over in
       (suc r.0, omega (arith, r.1), ap (λ h. cond (nat_le v h) s.place (stretch_at ss v)) a.1 ∙ ap (λ t. cond t s.place (stretch_at ss v)) past ∙ r.2 ∙ omega arith, r.3 ∙ there p ps v past)
   | inr within ↦
       let is = le-leb v p.hi within in
@@ -108,7 +101,7 @@ reach_of lo hi (p ∷ ps) zero f less =
 reach_of lo hi (p ∷ ps) (suc j) f less =
     let r = reach_of (suc p.hi) hi ps j f.1 (omega (arith, less)) in
     let first = f.0 in
-    (r.0, omega (arith, first, r.1), r.2, r.3 ∙ there p ps r.0 (not_le r.0 p.hi (omega (arith, r.1))))
+    (r.0, omega (arith, first, r.1), r.2, r.3 ∙ there p ps r.0 (lt-leb r.0 p.hi (omega (arith, r.1))))
 
 -- a pair behind others
 new_item : (xs ys : List Context) (j n : ℕ) → n ≡ length xs + j → context_at (xs ++ ys) n ≡ context_at ys j
@@ -131,7 +124,7 @@ module _ (nodes : List Node) (span : Interval) (pairs : List Context) (n : ℕ) 
 
   -- old pairs stay
   old_pair : more ≡ lower ++ map context_of ps → (k : ℕ) → k < length lower → context_at more k ≡ context_at lower k
-  old_pair e k less = ap (λ xs. context_at xs k) e ∙ old_item no_context lower (map context_of ps) k less
+  old_pair e k less = ap (λ xs. context_at xs k) e ∙ get_or_append_left lower (map context_of ps) no_context k less
 
   new_pair : more ≡ lower ++ map context_of ps → (j : ℕ) → j < length ps → context_at more (length lower + j) ≡ context_at (map context_of ps) j
   new_pair e j less = ap (λ xs. context_at xs (length lower + j)) e ∙ new_item lower (map context_of ps) j (length lower + j) refl

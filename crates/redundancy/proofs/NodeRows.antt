@@ -24,12 +24,11 @@ use Rattle.table_compose.proofs.Later.{child_older}
 use Rattle.table_compose.proofs.Placing.{box_at}
 use Rattle.table_compose.proofs.Tables.{prefix_words}
 use Rattle.redundancy_laws.specs.Built.{ArePrefixes, row_at}
-use Rattle.redundancy_laws.specs.Orders.{IsOrder, picked}
+use Rattle.field_boxes.specs.Orders.{IsOrder, picked}
 use Rattle.redundancy_laws.specs.Rows.{Row, each_holds, in_front, matches}
-use Rattle.redundancy_laws.proofs.Orders.{picked_values, some_header}
+use Rattle.node_store.proofs.Orders.{order_level, picked_values, some_header}
 use Rattle.redundancy_laws.proofs.Prefixed.{row-matches}
 use Rattle.redundancy.specs.NodeRows.{in_turn, node_rows}
-use Rattle.redundancy.proofs.Fields.{distinct}
 use Rattle.redundancy.proofs.WholeFlags.{AreAlikeRows}
 
 -- the values that prefixes of these fields hold
@@ -112,8 +111,8 @@ box_alike order b e values o fits count is prefix (header, ok, same) =
     ap (λ vs. matches vs (row_at order e)) (sym same)
     ∙ row-matches order header e o prefix ok
     ∙ is.0.holds header ok
-    ∙ box_at order b.prefixes header o.level (distinct order o.apart) ok count
-    ∙ sym (spans_hold order b.prefixes (picked order header) fits (picked_values order header o.level ok))
+    ∙ box_at order b.prefixes header (order_level order o) o.distinct ok count
+    ∙ sym (spans_hold order b.prefixes (picked order header) fits (picked_values order header (order_level order o) ok))
     ∙ ap (λ vs. matches vs (box_row order b)) same
 
 rows_alike : (order : List ℕ) (bs : List Box) (es : List Entry) → IsOrder order → Fit order bs → All (λ (b : Box). length b.prefixes ≡ length order) bs → ArePrefixes es → AllZip (IsPlaced order open_all) bs es →
@@ -138,4 +137,4 @@ pub table_alike : (nodes : List Node) (lists : ℕ → List PrefixRow) (order : 
     AllZip (IsPlaced order open_all) (boxes nodes lists order id) es → AreAlikeRows order (map (row_at order) es) (node_rows nodes lists order id)
 table_alike nodes lists order id es s o at have z =
     subst (λ (rs : List Row). AreAlikeRows order (map (row_at order) es) rs) (rows_of_boxes nodes lists order id)
-    (rows_alike order (boxes nodes lists order id) es o (boxes_fit nodes lists s order id o.level at have) (prefix_count nodes lists order id) (are_prefix_words order (boxes nodes lists order id) es z) z)
+    (rows_alike order (boxes nodes lists order id) es o (boxes_fit nodes lists s order id (order_level order o) at have) (prefix_count nodes lists order id) (are_prefix_words order (boxes nodes lists order id) es z) z)

@@ -1,5 +1,6 @@
 -- The runs of a node's rows.
 use Rattle.std.proofs.Common.{◌≡◌, ◌∷◌, ◌++◌, ℕ, suc, List, [], ◌+◌, ◌-◌, ◌^◌, ◌<◌, ◌≤◌, length, refl, ap, arith, sym, ◌∙◌, subst, map, take, get_or}
+use Rattle.std.proofs.lemmas.List.Elements.{All-push}
 use Rattle.std.specs.Prelude.{slice_index_or}
 use Rattle.std.proofs.Math.Seq.{take-suc}
 use Rattle.std.proofs.lemmas.List.{length-append, length-map, map-append, append-nil, take_all}
@@ -31,7 +32,7 @@ use Rattle.redundancy.specs.Blocks.{FitsRun, IsBlocks, rows_of, run_by}
 use Rattle.redundancy.specs.Built.{BlocksGrow, FitRuns, IsBuilt}
 use Rattle.redundancy.specs.Known.{AreKnown, HasPlans}
 use Rattle.redundancy.specs.NodeRows.{in_turn, node_rows}
-use Rattle.redundancy.proofs.Gathering.{all_more, blocks_same, blocks_then, built_grows, leads_stay, runs_agree, runs-append}
+use Rattle.redundancy.proofs.Gathering.{blocks_same, blocks_then, built_grows, leads_stay, runs_agree, runs-append}
 use Rattle.redundancy.proofs.NodePlans.{plans_below}
 
 -- so many runs have these rows, and lead on to blocks that are there
@@ -97,7 +98,7 @@ turned_more nodes plans s0 s1 s2 b0 b1 b2 k1 k2 level below i tables rows r runs
           ∙ ap (λ s. done ++ map (in_front s) (tables r.to.0)) (span ∙ ap (λ w. prefix_interval w r.prefix) (field_width level has))
           ∙ sym (turn_more (field_of level) tables rows i r less is);
       leads = subst (FitRuns b2 level) (sym to)
-          (all_more (FitsRun b2.covers.items (length b2.blocks.items) level) runs run (leads_stay s1 s2 b1 b2 level runs grown g.leads)
+          (All-push (FitsRun b2.covers.items (length b2.blocks.items) level) runs run (leads_stay s1 s2 b1 b2 level runs grown g.leads)
           (record { older = built.number_in; level = built.level_is ∙ one; inside = inside level (plan_rows.row_of r) run.span.hi has fits (ap (λ s. s.hi) span) }));
     }
 

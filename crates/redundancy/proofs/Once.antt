@@ -2,11 +2,11 @@
 use Rattle.std.proofs.Common.{◌≡◌, ◌∷◌, ◌++◌, ◌⊎◌, ℕ, List, [], ◌<◌, ◌+◌, length, refl, arith, sym, ◌∙◌, subst, inl, inr}
 use Rattle.std.specs.Prelude.{Some, slice_get, slice_index_or}
 use Rattle.std.proofs.lemmas.Bool.{cases_lt}
-use Rattle.std.proofs.lemmas.List.{length-append}
+use Rattle.std.proofs.lemmas.List.{length-append, get_or_append_left}
 use Rattle.std.proofs.lemmas.Option.{get_or_from_slice_get, slice_get_within}
 use Rattle.redundancy_laws.specs.declared.context.Context.{Context}
 use Rattle.redundancy_laws.specs.Sifted.{no_context, context_at, AreDistinct}
-use Rattle.redundancy.proofs.Places.{old_item, last_item, pushed_to}
+use Rattle.redundancy.proofs.Places.{last_item, pushed_to}
 
 -- the places so far
 pub record AreFound (list keys : List Context) (places : List ℕ) (n : ℕ) : Type 0 where
@@ -25,7 +25,7 @@ module _ (list keys : List Context) (pair : Context) (n : ℕ) where
   stay k less = (less, refl)
 
   grow : Keeps (keys ++ pair ∷ [])
-  grow k less = (omega (arith, less, length-append keys (pair ∷ [])), old_item no_context keys (pair ∷ []) k less)
+  grow k less = (omega (arith, less, length-append keys (pair ∷ [])), get_or_append_left keys (pair ∷ []) no_context k less)
 
   keeps : (new : List Context) → (new ≡ keys) ⊎ (new ≡ keys ++ pair ∷ []) → Keeps new
   keeps new (inl e) = subst Keeps (sym e) stay
@@ -36,7 +36,7 @@ module _ (list keys : List Context) (pair : Context) (n : ℕ) where
 
   reach_new : pair ≡ context_at list n → ((d : ℕ) → d < length keys → (c : ℕ) × (c < n) × (context_at list c ≡ context_at keys d)) → Reaches (keys ++ pair ∷ [])
   reach_new is all d less = elim (cases_lt d (length keys)) [
-    | inl old ↦ let h = all d old in (h.0, omega (arith, h.1), h.2 ∙ sym (old_item no_context keys (pair ∷ []) d old))
+    | inl old ↦ let h = all d old in (h.0, omega (arith, h.1), h.2 ∙ sym (get_or_append_left keys (pair ∷ []) no_context d old))
     | inr past ↦
         let e : length keys ≡ d = omega (arith, less, length-append keys (pair ∷ []), past) in
         (n, omega arith, sym is ∙ sym (last_item no_context keys pair d e))

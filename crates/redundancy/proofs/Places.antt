@@ -1,14 +1,9 @@
 -- Lists by their places.
-use Rattle.std.proofs.Common.{◌≡◌, ◌∷◌, ◌++◌, ℕ, zero, suc, List, [], ◌+◌, ◌<◌, length, refl, ap, arith, sym, ◌∙◌, subst, get_or, inl, inr}
+use Rattle.std.proofs.Common.{◌≡◌, ◌∷◌, ◌++◌, ℕ, List, [], ◌+◌, ◌<◌, length, ap, arith, sym, ◌∙◌, subst, get_or, inl, inr}
 use Rattle.std.specs.Prelude.{◌⊎◌}
 use Rattle.std.proofs.lemmas.Bool.{cases_lt}
 use Rattle.std.proofs.Math.Seq.{get_or-append_seam}
-use Rattle.std.proofs.lemmas.List.{length-append}
-
-pub old_item : {X : Type 0} (d : X) (xs ys : List X) (c : ℕ) → c < length xs → get_or (xs ++ ys) c d ≡ get_or xs c d
-old_item d [] ys c h = absurd (omega (arith, h))
-old_item d (x ∷ xs) ys zero h = refl
-old_item d (x ∷ xs) ys (suc c) h = old_item d xs ys c (omega (arith, h))
+use Rattle.std.proofs.lemmas.List.{length-append, get_or_append_left}
 
 pub last_item : {X : Type 0} (d : X) (xs : List X) (x : X) (n : ℕ) → length xs ≡ n → get_or (xs ++ x ∷ []) n d ≡ x
 last_item d xs x n e = ap (λ k. get_or (xs ++ x ∷ []) k d) (sym e) ∙ get_or-append_seam xs x [] d
@@ -20,7 +15,7 @@ split_last c n h = elim (cases_lt c n) [ inl less ↦ inl less | inr le ↦ inr 
 pub pushed : {X : Type 0} (P : ℕ → X → Type 0) (d : X) (xs : List X) (x : X) (n : ℕ) → length xs ≡ n → ((c : ℕ) → c < n → P c (get_or xs c d)) → P n x →
     (c : ℕ) → c < n + 1 → P c (get_or (xs ++ x ∷ []) c d)
 pushed P d xs x n e all here c h = elim (split_last c n h) [
-  | inl less ↦ subst (P c) (sym (old_item d xs (x ∷ []) c (omega (arith, less, e)))) (all c less)
+  | inl less ↦ subst (P c) (sym (get_or_append_left xs (x ∷ []) d c (omega (arith, less, e)))) (all c less)
   | inr is ↦ subst (λ k. P k (get_or (xs ++ x ∷ []) k d)) (sym is) (subst (P n) (sym (last_item d xs x n e)) here)
 ]
 

@@ -1,5 +1,6 @@
 -- What was worked out of blocks, as it is kept and found again.
 use Rattle.std.proofs.Common.{◌≡◌, ℕ, ◌≤◌, List, length, ap, arith, refl, sym, ◌∙◌, subst}
+use Rattle.std.proofs.lemmas.Option.{same_Some}
 use Rattle.std.specs.Prelude.{nat_eq, Bool, true, false, cond, Option, None, Some, IfSome}
 use Rattle.std.specs.Borrow.{Bor}
 use Rattle.std.specs.HashMap.{get}
@@ -41,9 +42,6 @@ same_is p q h =
 answered_as : (nodes : List Node) (blocks : Blocks) (number other : ℕ) (pairs others : List Context) (s : Sifted) → number ≡ other → pairs ≡ others → IsAnswered nodes blocks number pairs s → IsAnswered nodes blocks other others s
 answered_as nodes blocks number other pairs others s n p h = subst (λ m. IsAnswered nodes blocks m others s) n (subst (λ ps. IsAnswered nodes blocks number ps s) p h)
 
-some_is : (a b : Sifted) → Some a ≡ Some b → a ≡ b
-some_is a b h = cc
-
 module _ (nodes : List Node) (blocks : Blocks) (old new : Asked → Option Sifted) (asked : Asked) (own : Sifted) where
   abbrev All : (Asked → Option Sifted) → Type 0
   All done = (q : Asked) (s : Sifted) → done q ≡ Some s → IsAnswered nodes blocks q.number q.contexts.items s
@@ -52,7 +50,7 @@ module _ (nodes : List Node) (blocks : Blocks) (old new : Asked → Option Sifte
       IsAnswered nodes blocks q.number q.contexts.items s
   kept_by q s true same at all here h =
       let e = same_is asked q same in
-      subst (λ r. IsAnswered nodes blocks q.number q.contexts.items r) (some_is own s (sym at ∙ h))
+      subst (λ r. IsAnswered nodes blocks q.number q.contexts.items r) (same_Some own s (sym at ∙ h))
       (answered_as nodes blocks asked.number q.number asked.contexts.items q.contexts.items own e.0 e.1 here)
   kept_by q s false same at all here h = all q s (sym at ∙ h)
 

@@ -5,7 +5,7 @@ use Rattle.std.specs.Prelude.{All}
 use Rattle.std.specs.Global.{Vec}
 use Rattle.smallvec.specs.SmallVec.{SmallVec}
 use Rattle.std.proofs.lemmas.List.{get_or-map}
-use Rattle.std.proofs.lemmas.List.Elements.{All-from_get_or, All-weaker}
+use Rattle.std.proofs.lemmas.List.Elements.{All-from_get_or}
 use Rattle.field_boxes.specs.Classifier.{Interval}
 use Rattle.node_store.specs.Diagram.{Node}
 use Rattle.field_sets.specs.declared.placed.Placed.{Placed}
@@ -28,10 +28,6 @@ pub places_room : (nodes : List Node) (level : List ℕ) (rows : List Row) (lowe
 places_room nodes level rows lower keys places inner distinct sifted =
     All-from_get_or (λ (p : ℕ). p < length inner.after.items) places 0
     (λ k less. let n = distinct.count in let e = (distinct.each k (omega (arith, less, n))).0 in let m = sifted.count in omega (arith, e, m))
-
-pub change_room : (count place : ℕ) (changes : List Change) → place < count → All (λ (change : Change). length change.placed.items ≡ count) changes → All (λ (change : Change). place < length change.placed.items) changes
-change_room count place changes less room =
-    All-weaker (λ (change : Change). length change.placed.items ≡ count) (λ (change : Change). place < length change.placed.items) (λ change e. omega (arith, e, less)) changes room
 
 -- what one change more says of a context
 pub gathered_next : (changes : List Change) (k place : ℕ) (e : Change) (d : Vec Placed) (placed longer piece : List Placed) → k < length changes → place < length (get_or changes k e).placed.items →

@@ -17,13 +17,13 @@ use Rattle.table_compose.proofs.Tables.{answers, counted}
 use Rattle.redundancy_laws.specs.Built.{ArePrefixes}
 use Rattle.redundancy_laws.specs.Entries.{IsPart, answer}
 use Rattle.redundancy_laws.specs.Flags.{with_flags}
-use Rattle.redundancy_laws.specs.Orders.{IsOrder, picked}
+use Rattle.node_store.proofs.Orders.{order_level}
+use Rattle.field_boxes.specs.Orders.{IsOrder, picked}
 use Rattle.redundancy_laws.specs.Pass.{Keeps}
 use Rattle.redundancy_laws.specs.Rows.{Row}
 use Rattle.redundancy_laws.proofs.Chosen.{chosen}
 use Rattle.redundancy.specs.Kept.{AreKeptOf, AreWholeFlags, GainsFlagged}
 use Rattle.redundancy.specs.NodeRows.{node_rows}
-use Rattle.redundancy.proofs.Fields.{distinct}
 use Rattle.redundancy.proofs.NodeRows.{are_prefix_words, table_alike}
 use Rattle.redundancy.proofs.WholeFlags.{flags_alike}
 
@@ -71,13 +71,13 @@ part_few xs (y ∷ ys) (inr part) = omega (arith, part_few xs ys part)
 pub table_answers : (nodes : List Node) (order : List ℕ) (root : ℕ) (entries : List Entry) → IsStore nodes → IsOrder order → level_of nodes root ≡ order → AreComposed nodes order root entries →
     (header : List ℕ) → IsHeader header → answer entries header ≡ diagram_answer nodes root (picked order header)
 table_answers nodes order root entries s o at c header is =
-    answered entries header (diagram_answer nodes root (picked order header)) (answers nodes order root c.lists entries s o.level (distinct order o.apart) at c.have c.entries_are header is)
+    answered entries header (diagram_answer nodes root (picked order header)) (answers nodes order root c.lists entries s (order_level order o) o.distinct at c.have c.entries_are header is)
 
 -- each of its entries decides what the diagram answers for some values
 pub table_decides : (nodes : List Node) (order : List ℕ) (root : ℕ) (entries : List Entry) → IsStore nodes → IsOrder order → level_of nodes root ≡ order → AreComposed nodes order root entries →
     All (λ (e : Entry). IsAnswer nodes order root e.decision) entries
 table_decides nodes order root entries s o at c =
-    entries_occur order (IsAnswer nodes order root) (boxes nodes c.lists order root) entries c.entries_are (occur_by nodes c.lists s order root o.level at c.have)
+    entries_occur order (IsAnswer nodes order root) (boxes nodes c.lists order root) entries c.entries_are (occur_by nodes c.lists s order root (order_level order o) at c.have)
 
 -- and its words are prefixes in each field
 pub table_prefixes : (nodes : List Node) (order : List ℕ) (root : ℕ) (entries : List Entry) → AreComposed nodes order root entries → ArePrefixes entries

@@ -1,12 +1,13 @@
 //! Tables of diagrams without redundant entries.
 ghost use Rattle.std.specs.Prelude.{◌≡◌, ◌≤◌, ℕ, List, All, length, IfErr, IfOk};
+ghost use Rattle.field_boxes.specs.Alike.{IsTight};
 ghost use Rattle.field_boxes.specs.Fields.{IsHeader};
 ghost use Rattle.node_store.specs.Diagram.{answer as diagram_answer, level_of};
 ghost use Rattle.table_compose.specs.Diagrams.{IsCostOf};
 ghost use Rattle.table_compose.specs.Composed.{IsAnswer, IsRefusal};
 ghost use Rattle.redundancy_laws.specs.Built.{ArePrefixes};
-ghost use Rattle.redundancy_laws.specs.Entries.{IsTight, answer};
-ghost use Rattle.redundancy_laws.specs.Orders.{IsOrder, picked};
+ghost use Rattle.redundancy_laws.specs.Entries.{answer};
+ghost use Rattle.field_boxes.specs.Orders.{IsOrder, picked};
 ghost use Rattle.redundancy.specs.Kept.{AreKeptOf};
 
 use crate::removal::Removal;
@@ -39,7 +40,7 @@ pub fn compose_tight(
     // What stays is what a pass keeps of it.
     ensures pass { IfOk result (λ table. AreKeptOf store.now order.now root.0 table.composed table.entries.items) }
     ensures few { IfOk result (λ table. length table.entries.items ≤ table.composed) }
-    ensures tight { IfOk result (λ table. IsTight table.entries.items) }
+    ensures tight { IfOk result (λ table. IsTight answer table.entries.items) }
     // Every header has the diagram's answer.
     ensures answers { IfOk result (λ table. (header : List ℕ) → IsHeader header →
         answer table.entries.items header ≡ diagram_answer store.now root.0 (picked order.now header)) }

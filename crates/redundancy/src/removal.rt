@@ -41,9 +41,10 @@ impl<'a> Removal<'a> {
     ghost use Rattle.table_compose.specs.Rows.{rows_at};
     ghost use Rattle.table_compose.specs.Composed.{HaveCosts, HaveLists, IsAnswer, IsPlaced, IsRefusal, boxes, open_all};
     ghost use Rattle.redundancy_laws.specs.Built.{ArePrefixes};
-    ghost use Rattle.redundancy_laws.specs.Entries.{IsTight, answer};
+    ghost use Rattle.field_boxes.specs.Alike.{IsTight};
+    ghost use Rattle.redundancy_laws.specs.Entries.{answer};
     ghost use Rattle.redundancy_laws.specs.Flags.{with_flags};
-    ghost use Rattle.redundancy_laws.specs.Orders.{IsOrder, picked};
+    ghost use Rattle.field_boxes.specs.Orders.{IsOrder, picked};
     ghost use Rattle.redundancy_laws.specs.Pass.{Keeps};
     ghost use Rattle.redundancy.specs.Blocks.{rows_of};
     ghost use Rattle.redundancy.specs.Built.{StandsAt};
@@ -98,7 +99,7 @@ impl<'a> Removal<'a> {
         // What stays is what a pass keeps of it.
         ensures pass { IfOk result (λ table. AreKeptOf store.now order.now root.0 table.composed table.entries.items) }
         ensures few { IfOk result (λ table. length table.entries.items ≤ table.composed) }
-        ensures tight { IfOk result (λ table. IsTight table.entries.items) }
+        ensures tight { IfOk result (λ table. IsTight answer table.entries.items) }
         // Every header has the diagram's answer.
         ensures answers { IfOk result (λ table. (header : List ℕ) → IsHeader header →
             answer table.entries.items header ≡ diagram_answer store.now root.0 (picked order.now header)) }

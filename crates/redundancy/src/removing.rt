@@ -1,10 +1,11 @@
 //! Redundant entries removed.
 ghost use Rattle.std.specs.Prelude.{◌≡◌, ◌<◌, [], length, IfOk};
+ghost use Rattle.field_boxes.specs.Alike.{AreAlike, IsTight};
 ghost use Rattle.redundancy_laws.specs.Built.{ArePrefixes};
-ghost use Rattle.redundancy_laws.specs.Entries.{AnswerAlike, IsPart, IsTight};
+ghost use Rattle.redundancy_laws.specs.Entries.{IsPart, answer};
 ghost use Rattle.redundancy_laws.specs.Pass.{Keeps};
 ghost use Rattle.redundancy_laws.specs.Flags.{AreRightFlags, with_flags};
-ghost use Rattle.redundancy_laws.specs.Orders.{IsOrder};
+ghost use Rattle.field_boxes.specs.Orders.{IsOrder};
 
 use crate::blocks::Blocks;
 use crate::lists::Lists;
@@ -25,8 +26,8 @@ pub fn remove(alloc: Global, entries: Vec<Entry>) -> Result<Vec<Entry>, Memory>
     requires prefixes { ArePrefixes entries.items }
     ensures pass { IfOk result (λ kept. Keeps [] entries.items kept.items) }
     ensures part { IfOk result (λ kept. IsPart kept.items entries.items) }
-    ensures alike { IfOk result (λ kept. AnswerAlike kept.items entries.items) }
-    ensures tight { IfOk result (λ kept. IsTight kept.items) }
+    ensures alike { IfOk result (λ kept. AreAlike (answer kept.items) (answer entries.items)) }
+    ensures tight { IfOk result (λ kept. IsTight answer kept.items) }
 {
     orders();
     remove_in(alloc, &stated_order(), entries)
@@ -38,8 +39,8 @@ pub fn remove_in(alloc: Global, order: &[u8], entries: Vec<Entry>) -> Result<Vec
     requires prefixes { ArePrefixes entries.items }
     ensures pass { IfOk result (λ kept. Keeps [] entries.items kept.items) }
     ensures part { IfOk result (λ kept. IsPart kept.items entries.items) }
-    ensures alike { IfOk result (λ kept. AnswerAlike kept.items entries.items) }
-    ensures tight { IfOk result (λ kept. IsTight kept.items) }
+    ensures alike { IfOk result (λ kept. AreAlike (answer kept.items) (answer entries.items)) }
+    ensures tight { IfOk result (λ kept. IsTight answer kept.items) }
 {
     if entries.is_empty() {
         return Ok(entries);

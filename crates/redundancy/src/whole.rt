@@ -1,7 +1,7 @@
 //! Which entries of a whole table stay.
 ghost use Rattle.std.specs.Prelude.{◌≡◌, ◌<◌, length, IfOk, OnOk};
 ghost use Rattle.node_store.specs.Store.{Grows};
-ghost use Rattle.redundancy_laws.specs.Orders.{IsOrder};
+ghost use Rattle.field_boxes.specs.Orders.{IsOrder};
 ghost use Rattle.redundancy.specs.Blocks.{IsBlocks, cover_at, rows_of};
 ghost use Rattle.redundancy.specs.Kept.{AreWholeFlags};
 ghost use Rattle.redundancy.specs.Remembered.{IsMemo};

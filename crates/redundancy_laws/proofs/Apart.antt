@@ -1,31 +1,14 @@
 -- Intervals that rise and are apart, and the values that they hold.
-use Rattle.std.proofs.Common.{◌≡◌, ◌∷◌, ◌++◌, ℕ, zero, suc, List, [], ◌<◌, ◌≤◌, ◌+◌, Bool, true, false, refl, ap, arith, sym, ◌∙◌, take, append_assoc}
-use Rattle.std.specs.Prelude.{◌&&◌, ◌||◌, Some, slice_get, nat_le, map}
+use Rattle.std.proofs.Common.{◌≡◌, ◌∷◌, ◌++◌, ℕ, zero, suc, List, [], ◌<◌, ◌≤◌, ◌+◌, false, refl, ap, arith, sym, ◌∙◌, take, append_assoc}
+use Rattle.std.specs.Prelude.{◌&&◌, ◌||◌, Some, slice_get, map}
 use Rattle.std.specs.List.{list_any}
-use Rattle.std.proofs.lemmas.Bool.{leb-true, and_parts}
 use Rattle.std.proofs.lemmas.List.{append-nil}
 use Rattle.std.proofs.lemmas.List.Folds.{list_any-append}
 use Rattle.field_boxes.specs.Classifier.{Interval, interval_holds}
 use Rattle.redundancy_laws.specs.Rows.{Row, matches, in_front}
 use Rattle.redundancy_laws.specs.Layers.{Run, rows_of_runs, AreApart, AreApartFrom, end_of}
 use Rattle.redundancy_laws.proofs.OneRun.{cover-behind}
-
-pub ends : (v : ℕ) (span : Interval) → interval_holds v span ≡ true → (span.lo ≤ v) × (v ≤ span.hi)
-ends v span is = let p = and_parts (nat_le span.lo v) (nat_le v span.hi) is in (leb-true span.lo v p.0, leb-true v span.hi p.1)
-
-past_by : (v : ℕ) (span : Interval) (t : Bool) → interval_holds v span ≡ t → span.hi < v → t ≡ false
-past_by v span true is h = let e = ends v span is in absurd (omega (arith, e.1, h))
-past_by v span false is h = refl
-
-pub past : (v : ℕ) (span : Interval) → span.hi < v → interval_holds v span ≡ false
-past v span h = past_by v span (interval_holds v span) refl h
-
-below_by : (v : ℕ) (span : Interval) (t : Bool) → interval_holds v span ≡ t → v < span.lo → t ≡ false
-below_by v span true is h = let e = ends v span is in absurd (omega (arith, e.0, h))
-below_by v span false is h = refl
-
-pub below : (v : ℕ) (span : Interval) → v < span.lo → interval_holds v span ≡ false
-below v span h = below_by v span (interval_holds v span) refl h
+use Rattle.field_boxes.proofs.Unions.{not_past, not_below, between}
 
 -- rows behind an interval don't match other values
 pub behind-none : (v : ℕ) (values : List ℕ) (span : Interval) (rows : List Row) → interval_holds v span ≡ false → list_any (matches (v ∷ values)) (map (in_front span) rows) ≡ false
@@ -40,7 +23,7 @@ none-below least [] v values apart h = refl
 none-below least (r ∷ runs) v values apart h =
     let lo = apart.0 in
     let hi = apart.1 in
-    append-none (v ∷ values) (map (in_front r.span) r.rows) (rows_of_runs runs) (behind-none v values r.span r.rows (below v r.span (omega (arith, lo, h))))
+    append-none (v ∷ values) (map (in_front r.span) r.rows) (rows_of_runs runs) (behind-none v values r.span r.rows (not_below v r.span (omega (arith, lo, h))))
     (none-below (r.span.hi + 1) runs v values apart.2 (omega (arith, lo, hi, h)))
 
 -- a run lies above the least value
@@ -62,9 +45,9 @@ pub apart-from : (least : ℕ) (runs : List Run) (k : ℕ) (r : Run) → AreApar
 apart-from least runs zero r apart at v values is = ap (list_any (matches (v ∷ values))) (take_none runs)
 apart-from least [] (suc k) r apart at v values is = cc
 apart-from least (q ∷ runs) (suc k) r apart at v values is =
-    let e = ends v r.span is in
+    let e = between v r.span is in
     let lo = low_at (q.span.hi + 1) runs k r apart.2 at in
-    append-none (v ∷ values) (map (in_front q.span) q.rows) (rows_of_runs (take k runs)) (behind-none v values q.span q.rows (past v q.span (omega (arith, e.0, lo))))
+    append-none (v ∷ values) (map (in_front q.span) q.rows) (rows_of_runs (take k runs)) (behind-none v values q.span q.rows (not_past v q.span (omega (arith, e.0, lo))))
     (apart-from (q.span.hi + 1) runs k r apart.2 at v values is)
 
 -- the rows with those of one more run

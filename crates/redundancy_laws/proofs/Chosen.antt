@@ -20,8 +20,8 @@ use Rattle.redundancy_laws.specs.Built.{field_of, row_at, span_at, ArePrefixes, 
 use Rattle.redundancy_laws.specs.Flags.{with_flags, AreRightFlags}
 use Rattle.redundancy_laws.specs.Sifted.{contexts_of, is_in, context_at}
 use Rattle.redundancy_laws.proofs.Merged.{same-contexts}
-use Rattle.redundancy_laws.specs.Orders.{IsOrder, picked}
-use Rattle.redundancy_laws.proofs.Orders.{picked_values, some_header}
+use Rattle.field_boxes.specs.Orders.{IsOrder, picked}
+use Rattle.node_store.proofs.Orders.{order_level, picked_values, some_header}
 use Rattle.redundancy_laws.proofs.Prefixed.{row-matches}
 
 -- by cases on the list
@@ -78,7 +78,7 @@ redundant : (order : List ℕ) (before later : List Entry) (e : Entry) → IsOrd
 redundant order before later e o pb pl pe right = λ header meet.
     sym (same_answer order header later o pl meet.0)
     ∙ right 0 (picked order header)
-    (omega arith, picked_values order header o.level meet.0, refl, (any_matches order header before o pb meet.0 ∙ meet.1, row-matches order header e o pe meet.0 ∙ meet.2))
+    (omega arith, picked_values order header (order_level order o) meet.0, refl, (any_matches order header before o pb meet.0 ∙ meet.1, row-matches order header e o pe meet.0 ∙ meet.2))
 
 keep_step : (order : List ℕ) (before entries : List Entry) (e : Entry) (flag : Bool) (flags : List Bool) → IsOrder order → Prefixes before → Prefixes (with_flags entries flags) → IsPrefixInEach (word_of e.word) →
     IsRightMark order whole (map (row_at order) before) flag (row_at order e) (map (row_at order) (with_flags entries flags)) →

@@ -14,7 +14,8 @@ use Rattle.redundancy_laws.specs.Rows.{Row, matches, in_front, last_row}
 use Rattle.redundancy_laws.specs.Layers.{Run, rows_of_runs, AreApart, end_of}
 use Rattle.redundancy_laws.specs.Sifted.{is_in, IsCover, IsCoverBehind, IsEmpty, IsUnion}
 use Rattle.redundancy_laws.proofs.OneRun.{cover-behind}
-use Rattle.redundancy_laws.proofs.Apart.{past, behind-none, append-none, apart-from, rows-more}
+use Rattle.redundancy_laws.proofs.Apart.{behind-none, append-none, apart-from, rows-more}
+use Rattle.field_boxes.proofs.Unions.{not_past}
 
 last_at : (nodes : List Node) (set decision : ℕ) (values : List ℕ) → is_in nodes set [] ≡ true → AreValues [] values → is_in nodes set values ≡ list_any (matches values) (last_row decision ∷ [])
 last_at nodes set decision [] h ok = h
@@ -70,7 +71,7 @@ none_past : (least : ℕ) (runs : List Run) (v : ℕ) (values : List ℕ) → Ar
 none_past least [] v values apart h = refl
 none_past least (r ∷ runs) v values apart h =
     let more = end_above (r.span.hi + 1) runs apart.2 in
-    append-none (v ∷ values) (map (in_front r.span) r.rows) (rows_of_runs runs) (behind-none v values r.span r.rows (past v r.span (omega (arith, more, h)))) (none_past (r.span.hi + 1) runs v values apart.2 h)
+    append-none (v ∷ values) (map (in_front r.span) r.rows) (rows_of_runs runs) (behind-none v values r.span r.rows (not_past v r.span (omega (arith, more, h)))) (none_past (r.span.hi + 1) runs v values apart.2 h)
 
 -- above all runs: nothing
 pub cover-past : (nodes : List Node) (level : List ℕ) (least : ℕ) (runs : List Run) (v set : ℕ) → AreApart least runs → end_of least runs ≤ v → IsEmpty nodes (next level) set → IsCoverBehind nodes level v set (rows_of_runs runs)

@@ -13,7 +13,8 @@ use Rattle.redundancy_laws.specs.Contexts.{Contexts, IsRight}
 use Rattle.redundancy_laws.specs.Layers.{rows_of_runs, AreApart, SiftedRun, AreSiftedRuns, runs_of, flags_of, answer_in, AreLayerAnswers}
 use Rattle.redundancy_laws.proofs.Merged.{merged}
 use Rattle.redundancy_laws.proofs.Sequence.{nothing}
-use Rattle.redundancy_laws.proofs.Apart.{ends, past, below, behind-none, append-none}
+use Rattle.redundancy_laws.proofs.Apart.{behind-none, append-none}
+use Rattle.field_boxes.proofs.Unions.{not_past, not_below, between}
 use Rattle.redundancy_laws.proofs.NextRun.{next_run}
 
 -- runs above a value answer nothing there
@@ -22,7 +23,7 @@ answer_above least [] c v values other apart h = refl
 answer_above least (s ∷ runs) c v values other apart h =
     let lo = apart.0 in
     let hi = apart.1 in
-    ap (λ t. cond t (s.inner (s.to c v) values) (answer_in runs c v values other)) (below v s.run.span (omega (arith, lo, h)))
+    ap (λ t. cond t (s.inner (s.to c v) values) (answer_in runs c v values other)) (not_below v s.run.span (omega (arith, lo, h)))
     ∙ answer_above (s.run.span.hi + 1) runs c v values other apart.2 (omega (arith, lo, hi, h))
 
 -- the rows match no value from the least on
@@ -32,7 +33,7 @@ AreBelow least rows = (v : ℕ) (values : List ℕ) → least ≤ v → list_any
 below_more : (least : ℕ) (s : SiftedRun) (rows : List Row) → least ≤ s.run.span.lo → s.run.span.lo ≤ s.run.span.hi → AreBelow least rows →
     AreBelow (s.run.span.hi + 1) (rows ++ map (in_front s.run.span) s.run.rows)
 below_more least s rows lo hi below v values h =
-    append-none (v ∷ values) rows (map (in_front s.run.span) s.run.rows) (below v values (omega (arith, lo, hi, h))) (behind-none v values s.run.span s.run.rows (past v s.run.span (omega (arith, h))))
+    append-none (v ∷ values) rows (map (in_front s.run.span) s.run.rows) (below v values (omega (arith, lo, hi, h))) (behind-none v values s.run.span s.run.rows (not_past v s.run.span (omega (arith, h))))
 
 module _ (level : List ℕ) (cs : Contexts) (five : HasField level) where
   -- what is answered where the runs go on before it
@@ -51,7 +52,7 @@ module _ (level : List ℕ) (cs : Contexts) (five : HasField level) where
   go_at : (s : SiftedRun) (runs : List SiftedRun) (before : ℕ → List ℕ → ℕ) (c v : ℕ) (values : List ℕ) (t : Bool) → interval_holds v s.run.span ≡ t → AreApart (s.run.span.hi + 1) (runs_of runs) →
       answer_in (s ∷ runs) c v values (before c (v ∷ values)) ≡ answer_in runs c v values (with_run s before c (v ∷ values))
   go_at s runs before c v values true is apart =
-      let e = ends v s.run.span is in
+      let e = between v s.run.span is in
       ap (λ t. cond t (s.inner (s.to c v) values) (answer_in runs c v values (before c (v ∷ values)))) is
       ∙ sym (ap (answer_in runs c v values) (with_at s before c v values true is) ∙ answer_above (s.run.span.hi + 1) runs c v values (s.inner (s.to c v) values) apart (omega (arith, e.1)))
   go_at s runs before c v values false is apart =
@@ -76,7 +77,7 @@ module _ (level : List ℕ) (cs : Contexts) (five : HasField level) where
       (layer_from (s.run.span.hi + 1) runs (rows ++ map (in_front s.run.span) s.run.rows) (flags ++ s.flags) (with_run s before) out count
       (below_more least s rows apart.0 apart.1 below) apart.2 sifted.1
       (next_run level s.run.span cs s.contexts s.to rows s.run.rows flags s.flags s.inner before (with_run s before) five e
-      (λ v values is. let n = ends v s.run.span is in let lo = apart.0 in below v values (omega (arith, n.0, lo)))
+      (λ v values is. let n = between v s.run.span is in let lo = apart.0 in below v values (omega (arith, n.0, lo)))
       right sifted.0.split sifted.0.right
       (record {
         inside = λ c v values less small ok is. with_at s before c v values true is;

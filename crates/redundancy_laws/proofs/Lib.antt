@@ -10,7 +10,6 @@ pub mod LayerRuns
 pub mod Covers
 pub mod Below
 pub mod Passes
-pub mod Orders
 pub mod Prefixed
 pub mod Chosen
 pub mod Kept

@@ -3,9 +3,10 @@ use Rattle.std.proofs.Common.{◌≡◌, ◌∷◌, ◌⊎◌, ℕ, zero, suc, L
 use Rattle.std.specs.Prelude.{◌≢◌, ◌||◌, cond}
 use Rattle.std.specs.List.{list_any, remove}
 use Rattle.std.proofs.lemmas.Bool.{or_parts}
+use Rattle.field_boxes.specs.Alike.{AreAlike, IsTight}
 use Rattle.field_boxes.specs.Fields.{IsHeader}
 use Rattle.ternary_words.specs.declared.entry.Entry.{Entry}
-use Rattle.redundancy_laws.specs.Entries.{answer, entry_matches, AnswerAlike, IsPart, IsTight}
+use Rattle.redundancy_laws.specs.Entries.{answer, entry_matches, IsPart}
 use Rattle.redundancy_laws.specs.Pass.{IsNeeded, IsRedundant, Keeps}
 
 part_step : (e : Entry) (entries kept later : List Entry) (N R : Type 0) → (N × (kept ≡ e ∷ later)) ⊎ (R × (kept ≡ later)) → IsPart later entries → IsPart kept (e ∷ entries)
@@ -31,7 +32,7 @@ alike_after header before [] kept h one none = ap (λ ks. answer ks header) h
 alike_after header before (e ∷ entries) kept h one none =
     alike_at header before h.0 kept entries e (entry_matches header e) refl one none h.2 (alike_after header (e ∷ before) entries h.0 h.1 one)
 
-pub alike : (entries kept : List Entry) → Keeps [] entries kept → AnswerAlike kept entries
+pub alike : (entries kept : List Entry) → Keeps [] entries kept → AreAlike (answer kept) (answer entries)
 alike entries kept h header one = alike_after header [] entries kept h one refl
 
 -- a header that no entry before matches, and that changes its answer without the kept entry at the place
@@ -63,7 +64,7 @@ changes : (before entries kept : List Entry) → Keeps before entries kept → (
 changes before [] kept h place less = absurd (omega (arith, less, ap length h))
 changes before (e ∷ entries) kept h place less = change_step before h.0 kept e h.2 (changes (e ∷ before) entries h.0 h.1) place less
 
-pub tight : (entries kept : List Entry) → Keeps [] entries kept → IsTight kept
+pub tight : (entries kept : List Entry) → Keeps [] entries kept → IsTight answer kept
 tight entries kept h place less = let c = changes [] entries kept h place less in (c.0, c.1, c.3)
 
 one_step : (before : List Entry) (e : Entry) (xs ys later others : List Entry) → later ≡ others → (IsNeeded before e later × (xs ≡ e ∷ later)) ⊎ (IsRedundant before e later × (xs ≡ later)) →

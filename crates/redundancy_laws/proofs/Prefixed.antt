@@ -1,9 +1,7 @@
 -- A row whose entry's word is a prefix in each field matches what the word does.
-use Rattle.std.proofs.Common.{◌≡◌, ◌∷◌, ℕ, List, [], ◌+◌, ◌-◌, ◌*◌, ◌/◌, ◌%◌, ◌^◌, ◌≤◌, Bool, true, refl, ap, arith, sym, ◌∙◌}
+use Rattle.std.proofs.Common.{◌≡◌, ◌∷◌, ℕ, List, [], ◌+◌, ◌-◌, ◌/◌, ◌%◌, ◌^◌, ◌≤◌, Bool, refl, ap, arith, sym, ◌∙◌}
 use Rattle.std.specs.Prelude.{◌&&◌, bit_and, slice_index}
 use Rattle.std.proofs.lemmas.Nat.{pow_pos, mod_below}
-use Rattle.std.proofs.lemmas.Nat.Bits.{and_high}
-use Rattle.std.proofs.Math.Nat.{mul-mod_left}
 use Rattle.std.proofs.Math.Pow.{pow_mono}
 use Rattle.field_boxes.specs.Fields.{AreValues, IsHeader, stated}
 use Rattle.field_boxes.specs.Classifier.{Interval, interval_holds}
@@ -14,19 +12,15 @@ use Rattle.ternary_words.specs.declared.entry.Entry.{Entry}
 use Rattle.ternary_words.specs.Word.{Trit, agrees, header_bits}
 use Rattle.ternary_words.specs.Views.{word_of}
 use Rattle.ternary_words.specs.Prefixes.{HasMask, IsPart, IsPrefixInEach, IsWordOf, all_hold, mask_of}
-use Rattle.ternary_words.proofs.OnesInFront.{between}
+use Rattle.ternary_words.proofs.OnesInFront.{between, low_zero}
 use Rattle.ternary_words.proofs.Parted.{has_masks, part_within, word_of_parts}
 use Rattle.ternary_words.proofs.PrefixHolds.{agrees-fields}
 use Rattle.redundancy_laws.specs.Rows.{matches, each_holds}
 use Rattle.redundancy_laws.specs.Built.{row_at, span_at}
 use Rattle.redundancy_laws.specs.Entries.{entry_matches}
-use Rattle.redundancy_laws.specs.Orders.{IsOrder, picked}
-use Rattle.redundancy_laws.proofs.Orders.{any_order, of_all, picked_stated}
-
-low_zero : (l k v m : ℕ) → bit_and v m ≡ v → m ≡ (2 ^ l - 1) * 2 ^ k → v % 2 ^ k ≡ 0
-low_zero l k v m e is =
-    let whole : v ≡ v / 2 ^ k % 2 ^ l * 2 ^ k = sym e ∙ ap (bit_and v) (is ∙ between l k) ∙ and_high v l k in
-    ap (λ n. n % 2 ^ k) whole ∙ mul-mod_left (v / 2 ^ k % 2 ^ l) (2 ^ k)
+use Rattle.field_boxes.specs.Orders.{IsOrder, picked}
+use Rattle.field_boxes.proofs.Orders.{any_order, of_all, picked_stated}
+use Rattle.ternary_words.proofs.Spanned.{five_tests}
 
 -- the part of a value, with the length of a prefix that has the part of its mask
 abbrev prefix_for : (w v m : ℕ) → HasMask w m → Prefix
@@ -61,9 +55,6 @@ span_holds w v m x p is =
     ap (λ n. interval_holds x (record { lo = v; hi = v + n })) (free_bits w m p is.fits is.masked)
     ∙ ap (λ n. interval_holds x (record { lo = n; hi = n + (2 ^ (w - p.len) - 1) })) (sym is.valued)
     ∙ interval-prefix (w - p.len) p.value x is.fits.low
-
-five_tests : (a b c d e a' b' c' d' e' : Bool) → a ≡ a' → b ≡ b' → c ≡ c' → d ≡ d' → e ≡ e' → (a && (b && (c && (d && (e && true))))) ≡ (a' && (b' && (c' && (d' && (e' && true)))))
-five_tests a b c d e a' b' c' d' e' h0 h1 h2 h3 h4 = cc
 
 five_hold : (s0 s1 s2 s3 s4 : Interval) (p0 p1 p2 p3 p4 : Prefix) →
     ((x : ℕ) → interval_holds x s0 ≡ prefix_holds 32 p0 x) → ((x : ℕ) → interval_holds x s1 ≡ prefix_holds 32 p1 x) → ((x : ℕ) → interval_holds x s2 ≡ prefix_holds 16 p2 x) →

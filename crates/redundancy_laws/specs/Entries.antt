@@ -1,7 +1,5 @@
--- What tables answer by number, and tables of which no entry can go.
-use Rattle.std.specs.Prelude.{◌≡◌, ◌≢◌, ◌⊎◌, ℕ, ◌<◌, Bool, cond, List, [], ◌∷◌, length}
-use Rattle.std.specs.List.{remove}
-use Rattle.field_boxes.specs.Fields.{IsHeader}
+-- What tables answer by number, and their parts.
+use Rattle.std.specs.Prelude.{◌≡◌, ◌⊎◌, ℕ, Bool, cond, List, [], ◌∷◌}
 use Rattle.ternary_words.specs.declared.entry.Entry.{Entry}
 use Rattle.ternary_words.specs.Word.{agrees, header_bits}
 use Rattle.ternary_words.specs.Views.{word_of}
@@ -15,16 +13,7 @@ abbrev pub answer : List Entry → List ℕ → ℕ
 answer [] header = 0
 answer (e ∷ entries) header = cond (entry_matches header e) e.decision (answer entries header)
 
--- the two tables answer every header alike
-abbrev pub AnswerAlike : List Entry → List Entry → Type 0
-AnswerAlike xs ys = (header : List ℕ) → IsHeader header → answer xs header ≡ answer ys header
-
 -- the first list is the second without some of its entries
 abbrev pub IsPart : List Entry → List Entry → Type 0
 IsPart xs [] = xs ≡ []
 IsPart xs (y ∷ ys) = ((rest : List Entry) × (xs ≡ y ∷ rest) × IsPart rest ys) ⊎ IsPart xs ys
-
--- each entry alone, left out, changes the answer of some header
-abbrev pub IsTight : List Entry → Type 0
-IsTight entries = (place : ℕ) → place < length entries →
-    (header : List ℕ) × IsHeader header × (answer (remove entries place) header ≢ answer entries header)

@@ -5,7 +5,6 @@ pub mod Layers
 pub mod Sifted
 pub mod Entries
 pub mod Pass
-pub mod Orders
 pub mod Built
 pub mod Flags
 pub mod Drafts

@@ -2,6 +2,7 @@
 ghost use Rattle.node_store.specs.Levels.{HasField, IsLevel, next, top_of};
 ghost use Rattle.std.specs.Prelude.{◌≡◌, ◌<◌, ◌≤◌, ◌+◌, ◌∷◌, ◌++◌, ℕ, suc, List, [], Bool, true, false, Some, cond, length, map, slice_get, slice_index_or, take};
 ghost use Rattle.std.specs.List.{list_any};
+ghost use Rattle.field_boxes.specs.Alike.{AreAlike, IsTight};
 ghost use Rattle.field_boxes.specs.Fields.{stated, AreValues, IsHeader};
 ghost use Rattle.field_boxes.specs.Classifier.{Interval, interval_holds};
 ghost use Rattle.node_store.specs.declared.edge.Edge.{Edge};
@@ -17,8 +18,8 @@ ghost use Rattle.node_store.specs.declared.edge.NodeId.{NodeId};
 ghost use Rattle.redundancy_laws.specs.declared.context.Context.{Context};
 ghost use Rattle.redundancy_laws.specs.declared.sifted.Sifted.{Sifted};
 ghost use Rattle.redundancy_laws.specs.Drafts.{Fill};
-ghost use Rattle.redundancy_laws.specs.Entries.{AnswerAlike, IsPart, IsTight, entry_matches};
-ghost use Rattle.redundancy_laws.specs.Orders.{IsOrder, picked};
+ghost use Rattle.redundancy_laws.specs.Entries.{IsPart, answer as table_answer, entry_matches};
+ghost use Rattle.field_boxes.specs.Orders.{IsOrder, picked};
 ghost use Rattle.redundancy_laws.specs.Pass.{Keeps};
 ghost use Rattle.redundancy_laws.specs.Built.{field_of, row_at, span_at, ArePrefixes, HaveSpan};
 ghost use Rattle.redundancy_laws.specs.Flags.{AreRightFlags, with_flags};
@@ -134,8 +135,8 @@ pub fn whole_table()
 /// tight; and no other entries are kept by one.
 pub fn one_pass()
     ensures part { (entries kept : List Entry) → Keeps [] entries kept → IsPart kept entries }
-    ensures alike { (entries kept : List Entry) → Keeps [] entries kept → AnswerAlike kept entries }
-    ensures tight { (entries kept : List Entry) → Keeps [] entries kept → IsTight kept }
+    ensures alike { (entries kept : List Entry) → Keeps [] entries kept → AreAlike (table_answer kept) (table_answer entries) }
+    ensures tight { (entries kept : List Entry) → Keeps [] entries kept → IsTight table_answer kept }
     ensures one { (entries xs ys : List Entry) → Keeps [] entries xs → Keeps [] entries ys → xs ≡ ys }
 {}
 

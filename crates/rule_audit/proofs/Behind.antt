@@ -1,7 +1,5 @@
 -- What the label of a header shows of an open rule is what comes behind the rule.
-use Rattle.std.proofs.Common.{◌≡◌, ◌∷◌, ℕ, ◌<◌, ◌+◌, zero, suc, List, [], Bool, true, false, cond, ap, sym, refl, ◌∙◌, arith}
-use Rattle.std.specs.Prelude.{Option, Some, None}
-use Rattle.std.proofs.lemmas.Bool.{eq-eqb, ne_eqb}
+use Rattle.std.proofs.Common.{◌≡◌, ◌∷◌, ℕ, ◌<◌, ◌+◌, zero, suc, List, [], Bool, true, false, cond, ap, sym, refl, ◌∙◌, arith, Option, Some, None, eq-eqb, ne_eqb}
 use Rattle.field_boxes.specs.declared.rule.Rule as code
 use Rattle.field_boxes.specs.Fields.{stated}
 use Rattle.fdd_build.specs.Rules.{decided}

@@ -1,8 +1,5 @@
 -- What the diagrams of the parts around a rule say of its state.
-use Rattle.std.proofs.Common.{◌≡◌, ◌∷◌, ◌++◌, ◌+◌, ◌<◌, ◌∙◌, ℕ, zero, suc, List, [], Bool, true, false, cond, length, get_or, append_assoc, ap, refl, sym, subst, arith}
-use Rattle.std.specs.Prelude.{nat_eq, Option, Some, None, IfSome}
-use Rattle.std.proofs.lemmas.Bool.{ne_eqb}
-use Rattle.std.proofs.lemmas.List.{append-nil, length-append}
+use Rattle.std.proofs.Common.{◌≡◌, ◌∷◌, ◌++◌, ◌+◌, ◌<◌, ◌∙◌, ℕ, zero, suc, List, [], Bool, true, false, cond, length, get_or, append_assoc, ap, refl, sym, subst, arith, nat_eq, Option, Some, None, IfSome, ne_eqb, append-nil, length-append}
 use Rattle.std.proofs.lemmas.List.Elements.{All-cons, All-nil, All-push}
 use Rattle.field_boxes.specs.declared.rule.Rule as code
 use Rattle.field_boxes.specs.Classifier.{matches}
@@ -71,12 +68,9 @@ module _ (nodes : List Node) (all : List code.Rule) (decide : AllDecide all) whe
       let back = at.back in
       let every = subst AllDecide at.is decide in
       let some = (decide_back front (rule ∷ back) every).0 in
-      let before = at.decided_before h ok in
-      let here = at.here.answers h ok in
-      let behind = at.decided_behind h ok in
-      ap (λ n. shown_of_numbers n (answer nodes around.here.0 h) (first_answer nodes around.behind.items h)) before
-      ∙ ap (λ n. shown_of_numbers (decided stated front h) n (first_answer nodes around.behind.items h)) here
-      ∙ ap (λ n. shown_of_numbers (decided stated front h) (decided stated (rule ∷ []) h) n) behind
+      ap (λ n. shown_of_numbers n (answer nodes around.here.0 h) (first_answer nodes around.behind.items h)) (at.decided_before h ok)
+      ∙ ap (λ n. shown_of_numbers (decided stated front h) n (first_answer nodes around.behind.items h)) (at.here.answers h ok)
+      ∙ ap (λ n. shown_of_numbers (decided stated front h) (decided stated (rule ∷ []) h) n) (at.decided_behind h ok)
       ∙ here_by h back rule (nat_eq (decided stated front h) 0) (matches stated h (rule_of rule)) refl some
       ∙ sym (next_at h front back rule (decide_front front (rule ∷ back) every))
       ∙ ap (λ (rs : List code.Rule). next_behind rs (length front) h) (sym at.is)
@@ -90,9 +84,8 @@ module _ (nodes : List Node) (all : List code.Rule) (decide : AllDecide all) whe
   -- so the state that they tell is the rule's
   pub told : (rules : List code.Rule) (place : ℕ) (around : Around) → length rules ≡ 1 → StandBetween nodes all rules place around → (state : Option RuleState) →
       IfSome state (λ (s : RuleState). IsStateSoFar IsHeader (shown_around nodes around) s) → IsTold all place state
-  told [] place around one at state h = absurd (omega (arith, one))
   told (rule ∷ []) place around one at state h = told_by (shown_around nodes around) (next_behind all place) (shows_next rule place around at) state h
-  told (rule ∷ other ∷ rules) place around one at state h = absurd (omega (arith, one))
+  told rules place around one at state h = absurd (omega arith)
 
   -- the first half of the rules
   pub first_half : (rules upper lower : List code.Rule) (place : ℕ) (around inner : Around) (first second : NodeId) → rules ≡ upper ++ lower → StandBetween nodes all rules place around →
@@ -127,7 +120,6 @@ module _ (nodes : List Node) (all : List code.Rule) (decide : AllDecide all) whe
       ∙ ap (λ (rs : List code.Rule). at.front ++ (rs ++ at.back)) is
       ∙ ap (λ (rs : List code.Rule). at.front ++ rs) (append_assoc upper lower at.back)
       ∙ sym (append_assoc at.front upper (lower ++ at.back)) in
-      let every = decide_front at.front (rules ++ at.back) (subst AllDecide at.is decide) in
       record {
         front = at.front ++ upper;
         back = at.back;
@@ -141,7 +133,7 @@ module _ (nodes : List Node) (all : List code.Rule) (decide : AllDecide all) whe
             ∙ first_push nodes around.before.items first h
             ∙ ap (λ n. over n (answer nodes first.0 h)) (at.decided_before h ok)
             ∙ ap (λ n. over (decided stated at.front h) n) (up.answers h ok)
-            ∙ sym (number_parts h at.front upper every);
+            ∙ sym (number_parts h at.front upper (decide_front at.front (rules ++ at.back) (subst AllDecide at.is decide)));
         decided_behind = λ h ok. ap (λ (ids : List NodeId). first_answer nodes ids h) behind ∙ at.decided_behind h ok;
       }
 

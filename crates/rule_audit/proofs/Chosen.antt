@@ -1,23 +1,7 @@
 -- States that are known, and those that were found where none is.
-use Rattle.std.proofs.Common.{◌≡◌, ◌∷◌, ◌++◌, ◌<◌, ◌+◌, ℕ, List, [], Bool, true, false, ap, sym, subst, ◌∙◌, length, get_or, arith, inl, inr}
-use Rattle.std.specs.Prelude.{Option, Some, None, IfSome, is_none, map, not, unwrap_or}
-use Rattle.std.proofs.lemmas.Bool.{cases_lt}
-use Rattle.std.proofs.lemmas.List.{get_or_append_left, get_or_default, get_or-map, get_or_push}
+use Rattle.std.proofs.Common.{◌≡◌, ◌<◌, ℕ, List, Bool, true, false, ap, sym, subst, ◌∙◌, length, get_or, arith, Option, Some, None, IfSome, is_none, map, unwrap_or}
+use Rattle.std.proofs.lemmas.List.{get_or_default, get_or-map}
 use Rattle.rule_audit.specs.Labels.{is_open}
-
--- what a list has at each place, once it has one item more
-pub one_more : {X : Type 0} (f : ℕ → X) (d : X) (xs ys : List X) (n : ℕ) → length xs ≡ n → ys ≡ xs ++ f n ∷ [] → ((k : ℕ) → k < n → get_or xs k d ≡ f k) → (k : ℕ) → k < n + 1 → get_or ys k d ≡ f k
-one_more f d xs ys n long is each k less =
-    ap (λ zs. get_or zs k d) is
-    ∙ elim (cases_lt k n) [
-      | inl below ↦ get_or_append_left xs (f n ∷ []) d k (omega (arith, below, long)) ∙ each k below
-      | inr past ↦ let same : n ≡ k = omega (arith, past, less) in subst (λ i. get_or (xs ++ f n ∷ []) i d ≡ f i) same (get_or_push xs (f n) d n long)
-    ]
-
--- that there is none, where there is some just if not
-pub turned : (some none : Bool) → some ≡ not none → none ≡ not some
-turned some true e = sym (ap not e)
-turned some false e = sym (ap not e)
 
 chosen : {X : Type 0} (P : X → Type 0) (known : Option X) (found : X) (opens : Bool) → opens ≡ is_none known → IfSome known P → (opens ≡ true → P found) → P (unwrap_or known found)
 chosen P (Some state) found opens e told labelled = told

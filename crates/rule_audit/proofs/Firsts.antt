@@ -1,8 +1,6 @@
 -- The first element that passes, by its place.
-use Rattle.std.proofs.Common.{◌≡◌, ◌∷◌, ℕ, List, [], Bool, true, false, ◌+◌, ◌<◌, arith, ap, ◌∙◌}
-use Rattle.std.proofs.lemmas.Bool.{lt-ltb}
+use Rattle.std.proofs.Common.{◌≡◌, ◌∷◌, ℕ, List, [], Bool, true, false, ◌+◌, ◌<◌, arith, ap, ◌∙◌, lt-ltb, suc, zero, cond, not, length, position, nat_lt, Some, None, slice_index_or}
 use Rattle.std.proofs.lemmas.List.Quantifiers.{position-Some}
-use Rattle.std.specs.Prelude.{suc, zero, cond, not, length, position, nat_lt, Some, None, slice_index_or}
 use Rattle.std.specs.List.{position_or_len}
 
 -- the element at k passes, and none before it

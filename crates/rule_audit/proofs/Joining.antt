@@ -1,8 +1,5 @@
 -- The numbers of a list, by those of its two parts.
-use Rattle.std.proofs.Common.{◌≡◌, ◌∷◌, ◌++◌, ℕ, ◌≤◌, ◌<◌, ◌+◌, suc, List, [], Bool, true, false, cond, ap, refl, sym, ◌∙◌, subst, length, append_assoc, arith}
-use Rattle.std.specs.Prelude.{nat_eq, option_map, Option, Some, unwrap_or, slice_get}
-use Rattle.std.proofs.lemmas.Bool.{ne_eqb, eqb-true}
-use Rattle.std.proofs.lemmas.List.{length-append}
+use Rattle.std.proofs.Common.{◌≡◌, ◌∷◌, ◌++◌, ℕ, ◌≤◌, ◌<◌, ◌+◌, suc, List, [], Bool, true, false, cond, ap, refl, sym, ◌∙◌, subst, length, append_assoc, arith, nat_eq, option_map, Option, Some, unwrap_or, slice_get, ne_eqb, eqb-true, length-append}
 use Rattle.field_boxes.specs.declared.rule.Rule as code
 use Rattle.field_boxes.specs.Fields.{stated}
 use Rattle.fdd_build.specs.Rules.{decided}

@@ -1,7 +1,8 @@
 -- The least values of a level that are wanted, by those of the next level.
 use Rattle.std.proofs.Common.{◌≡◌, ◌∷◌, ◌++◌, ◌<◌, ◌∙◌, ℕ, zero, suc, List, [], true, false, length, drop, take, set, ap, refl, sym, subst, inl, inr, arith}
 use Rattle.std.proofs.lemmas.Bool.{cases_lt, true≢false}
-use Rattle.std.proofs.lemmas.List.{drop_all, length-append}
+use Rattle.std.proofs.lemmas.List.{drop_all, length-append, length-take-le}
+use Rattle.std.proofs.Math.Seq.{take-suc-set}
 use Rattle.field_boxes.specs.declared.header.Header.{Header}
 use Rattle.field_boxes.specs.Fields.{stated, greatest_of, AreValues, ComesBefore}
 use Rattle.node_store.specs.Diagram.{Node}
@@ -13,21 +14,20 @@ use Rattle.rule_audit.specs.declared.seeking.Found.TheVariants.{At, Nowhere, Gav
 use Rattle.rule_audit.specs.Around.{IsWanted}
 use Rattle.rule_audit.specs.Found.{IsFound, IsLeastWanted, NoneIsWanted, is_nowhere}
 use Rattle.rule_audit.specs.Steps.{IsStep}
-use Rattle.rule_audit.proofs.Fronts.{long, one_more}
 use Rattle.rule_audit.proofs.Order.{none_before}
-use Rattle.rule_audit.proofs.Stated.{has_field, next_is, no_values, top_is}
+use Rattle.rule_audit.proofs.Stated.{no_values}
+use Rattle.node_store.proofs.Stated.{has_field, next_is, top_is}
 
 -- values that begin so, with one more behind them
 parted : (values front : List ℕ) (depth v : ℕ) → length front ≡ depth → take (suc depth) values ≡ front ++ v ∷ [] → (take depth values ≡ front) × (drop depth values ≡ v ∷ drop (suc depth) values)
 parted [] front depth v long is = absurd (let n = ap (λ (xs : List ℕ). length xs) is in let m = length-append front (v ∷ []) in omega (arith, n, m))
 parted (x ∷ values) [] zero v long is = let e : x ≡ v = cc in (refl, ap (λ y. y ∷ values) e)
-parted (x ∷ values) [] (suc depth) v long is = absurd (omega (arith, long))
-parted (x ∷ values) (y ∷ front) zero v long is = absurd (omega (arith, long))
 parted (x ∷ values) (y ∷ front) (suc depth) v long is =
     let e : x ≡ y = cc in
     let rest : take (suc depth) values ≡ front ++ v ∷ [] = cc in
     let r = parted values front depth v (omega (arith, long)) rest in
     (ap (λ xs. x ∷ xs) r.0 ∙ ap (λ z. z ∷ front) e, r.1)
+parted values front depth v long is = absurd (omega arith)
 
 module _ (nodes : List Node) (depth : ℕ) (around : Around) where
   -- nothing is wanted that begins with a value below this one
@@ -41,8 +41,7 @@ module _ (nodes : List Node) (depth : ℕ) (around : Around) where
   all_gone lo five past gone = λ values ok wanted.
       each (λ (xs : List ℕ). IsWanted nodes around xs → ⊥) (drop depth stated) (has_field depth five)
       (λ v rest low here.
-      let top = top_is depth five in
-      gone v rest (omega (arith, low, top, past)) (subst (λ l. AreValues l rest) (next_is depth five) here))
+      gone v rest (omega (arith, low, top_is depth five, past)) (subst (λ l. AreValues l rest) (next_is depth five) here))
       values ok wanted
 
   module _ (lo : ℕ) (step : Step) (is : IsStep nodes depth around lo step) (gone : AreGone lo) where
@@ -61,8 +60,7 @@ module _ (nodes : List Node) (depth : ℕ) (around : Around) where
     least_by rest (v ∷ others) five found ok wanted (inr same) =
         let here = subst (λ l. AreValues l others) (next_is depth five) (first (drop depth stated) v others (has_field depth five) ok).1 in
         let e = same.0 in
-        let low = is.low in
-        found.least others here (is.onward v others (omega (arith, e)) (omega (arith, e, low)) here wanted) same.1
+        found.least others here (is.onward v others (omega (arith, e)) (omega (arith, e, is.low)) here wanted) same.1
 
     least_here : (rest : List ℕ) → depth < 5 → IsLeastWanted nodes (drop (suc depth) stated) step.around rest → IsLeastWanted nodes (drop depth stated) around (lo ∷ rest)
     least_here rest five found =
@@ -80,15 +78,14 @@ module _ (nodes : List Node) (depth : ℕ) (around : Around) where
     found_here values begun Nowhere five count is_begun h e = absurd (true≢false e)
     found_here values begun GaveUp five count is_begun h e = tt
     found_here values begun (At header) five count is_begun h e =
-        let begins = h.0 ∙ ap (take (suc depth)) is_begun ∙ one_more values depth lo (omega (arith, five, count)) in
-        let p = parted header.values (take depth values) depth lo (long values depth (omega (arith, five, count))) begins in
+        let begins = h.0 ∙ ap (take (suc depth)) is_begun ∙ take-suc-set values depth lo (omega (arith, five, count)) in
+        let p = parted header.values (take depth values) depth lo (length-take-le depth values (omega (arith, five, count))) begins in
         (p.0, subst (IsLeastWanted nodes (drop depth stated) around) (sym p.1) (least_here (drop (suc depth) header.values) five h.1))
 
 -- where the search went through all values in vain, none is wanted
 pub nowhere : (nodes : List Node) (depth : ℕ) (around : Around) (values : List ℕ) (found : Found) → IsFound nodes depth around values found → is_nowhere found ≡ true → NoneIsWanted nodes (drop depth stated) around
-nowhere nodes depth around values (At header) h e = absurd (true≢false (sym e))
 nowhere nodes depth around values Nowhere h e = h
-nowhere nodes depth around values GaveUp h e = absurd (true≢false (sym e))
+nowhere nodes depth around values found h e = absurd (true≢false (sym e))
 
 -- at the leaves no values are left
 pub wanted_there : (nodes : List Node) (around : Around) (header : Header) → length header.values ≡ 5 → IsWanted nodes around [] → IsFound nodes 5 around header.values (At header)

@@ -12,13 +12,11 @@ mod Chosen
 mod Sights
 mod Parts
 mod Stated
-mod Fronts
 mod EdgesLeft
 mod Meetings
 mod Zeros
 mod Overlaid
 mod FirstAnswers
-mod Searched
 mod Throughout
 mod Rows
 mod Least

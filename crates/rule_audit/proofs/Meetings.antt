@@ -1,17 +1,14 @@
 -- What was met, as the walk goes on.
-use Rattle.std.proofs.Common.{◌≡◌, ◌<◌, ◌≤◌, ◌∷◌, ◌++◌, ◌∙◌, ℕ, zero, suc, List, [], drop, take, length, set, ap, append_assoc, arith, refl, sym, subst, inl, inr}
-use Rattle.std.specs.Prelude.{◌⊎◌, Bool, true, slice_index_or}
-use Rattle.std.proofs.lemmas.List.{append-nil}
+use Rattle.std.proofs.Common.{◌≡◌, ◌<◌, ◌≤◌, ◌∷◌, ◌++◌, ◌∙◌, ℕ, zero, suc, List, [], drop, take, length, set, ap, append_assoc, arith, refl, sym, subst, inl, inr, ◌⊎◌, Bool, true, slice_index_or, append-nil}
 use Rattle.field_boxes.specs.declared.header.Header.{Header}
 use Rattle.field_boxes.specs.Fields.{stated, greatest_of, AreValues, IsHeader, ComesBefore}
 use Rattle.node_store.specs.declared.edge.Edge.{Edge}
 use Rattle.node_store.specs.Edges.{child_of}
 use Rattle.node_store.specs.Diagram.{Node, answer, edges_of, level_of}
 use Rattle.rule_audit.specs.declared.state.RuleState.{RuleState}
-use Rattle.rule_audit.specs.declared.state.RuleState.TheVariants.{Never}
 use Rattle.rule_audit.specs.Labels.{label_at}
 use Rattle.rule_audit.specs.Meeting.{AreMet, Before, IsMarked, IsStateSoFar, LeadsTo, UpTo, next_shown, shown_by, state_after}
-use Rattle.rule_audit.proofs.Order.{Within, before_more, before_raised, before_zero, by_value, cut, none_before, rest_values}
+use Rattle.rule_audit.proofs.Order.{Within, before_more, before_raised, before_zero, by_value, cut, rest_values}
 use Rattle.rule_audit.proofs.SoFar.{IsKnown, one_more, widened}
 use Rattle.rule_audit.proofs.Stated.{IsFirstValue, first_value, no_values, values_joined, values_lower}
 
@@ -187,11 +184,3 @@ module _ (first : ℕ) (nodes : List Node) (root : ℕ) where
             (slice_index_or old k d) (m.each k d inside));
         again = λ other rest marked good. let r = m.again other rest marked good in (r.0, (r.1.0, inl r.1.1), r.2);
       }
-
--- at first nothing is met
-pub met_none : (first : ℕ) (nodes : List Node) (root : ℕ) (seen : List Bool) (states : List RuleState) → ((id : ℕ) → IsMarked seen id → ⊥) →
-    ((k : ℕ) (d : RuleState) → k < length states → slice_index_or states k d ≡ Never) → AreMet first nodes root (Before []) seen states
-met_none first nodes root seen states unseen never = record {
-  each = λ k d less. subst (IsStateSoFar (Before []) (shown_by first nodes root k)) (sym (never k d less)) (λ h met. absurd (none_before h met.1));
-  again = λ id values marked ok. absurd (unseen id marked);
-}

@@ -1,8 +1,6 @@
 -- The states of rules with names, by what labels tell.
-use Rattle.std.proofs.Common.{◌≡◌, ◌∷◌, ℕ, ◌<◌, zero, suc, List, [], Bool, true, false, ap, refl, sym, ◌∙◌, subst, length, arith, inl, inr}
-use Rattle.std.specs.Prelude.{◌⊎◌, cond, nat_eq, Option, Some, None, All, slice_index_or}
+use Rattle.std.proofs.Common.{◌≡◌, ◌∷◌, ℕ, ◌<◌, zero, suc, List, [], Bool, true, false, ap, refl, sym, ◌∙◌, subst, length, arith, inl, inr, ◌⊎◌, cond, nat_eq, Option, Some, None, All, slice_index_or, eq-eqb, ne_eqb}
 use Rattle.std.specs.List.{remove, AllByRecursion}
-use Rattle.std.proofs.lemmas.Bool.{eq-eqb, ne_eqb}
 use Rattle.std.proofs.lemmas.List.Elements.{recursion_from_All}
 use Rattle.std.proofs.lemmas.List.{length-map}
 use Rattle.field_boxes.specs.declared.rule.Rule as code
@@ -21,7 +19,7 @@ use Rattle.rule_audit.specs.Joined.{AllBelow, AllDecide}
 use Rattle.rule_audit.specs.Labels.{next_of}
 use Rattle.rule_audit.specs.Meeting.{IsNeeded, IsStateSoFar, next_behind}
 use Rattle.rule_audit.specs.State.{AreStates, IsChanged, IsFirst, IsState}
-use Rattle.rule_audit.proofs.Alone.{matches_by_sets}
+use Rattle.field_boxes.proofs.SameSets.{matches_by_sets}
 use Rattle.rule_audit.proofs.Firsts.{PassesFirst, passes-position, position-passes}
 use Rattle.rule_audit.proofs.Told.{Tells, meets, tells}
 
@@ -77,9 +75,8 @@ needed_differs : (d e : ℕ) → 0 < d → IsNeeded (Some (next_of d e)) → e �
 needed_differs d e h needed same = subst (λ n. IsNeeded (Some n)) (ap (next_of d) same ∙ alike_next d h) needed
 
 differ_needed_by : (s t : Bool) → t ≡ false → IsNeeded (Some (cond s Nothing (cond t Alike Otherwise)))
-differ_needed_by true t e = tt
 differ_needed_by false true e = absurd (let f : true ≡ false = e in cc)
-differ_needed_by false false e = tt
+differ_needed_by s t e = tt
 
 differ_needed : (d e : ℕ) → (e ≡ d → ⊥) → IsNeeded (Some (next_of d e))
 differ_needed d e h = differ_needed_by (nat_eq e 0) (nat_eq d e) (ne_eqb d e (λ same. h (sym same)))
@@ -121,9 +118,8 @@ module _ (names : List (List ℕ)) (rules : List code.Rule) (numbered : AllByRec
 
   alike_by : (o : Option Next) → Tells stated header rules k o → IsFirst (named_rules names rules) k header → (o ≡ Some Alike) ⊎ IsNeeded o
   alike_by None t first = absurd (none_by None t refl first)
-  alike_by (Some Nothing) t first = inr tt
   alike_by (Some Alike) t first = inl refl
-  alike_by (Some Otherwise) t first = inr tt
+  alike_by o t first = inr tt
 
 module _ (names : List (List ℕ)) (rules : List code.Rule) (numbered : AllByRecursion (IsNumberedBy names) rules) (distinct : AreDistinct names) (k : ℕ) where
   abbrev shown : List ℕ → Option Next

@@ -1,7 +1,5 @@
 -- Labels and their numbers.
-use Rattle.std.proofs.Common.{◌≡◌, ℕ, ◌≤◌, ◌<◌, ◌+◌, ◌-◌, ◌*◌, ◌/◌, ◌%◌, arith, refl, ap, ◌∙◌}
-use Rattle.std.specs.Prelude.{cond, Some, None}
-use Rattle.std.proofs.lemmas.Bool.{le-ltb, lt-ltb}
+use Rattle.std.proofs.Common.{◌≡◌, ℕ, ◌≤◌, ◌<◌, ◌+◌, ◌-◌, ◌*◌, ◌/◌, ◌%◌, arith, refl, ap, ◌∙◌, cond, Some, None, le-ltb, lt-ltb}
 use Rattle.rule_audit.specs.declared.label.Label.{Label}
 use Rattle.rule_audit.specs.declared.label.Next.{Next}
 use Rattle.rule_audit.specs.declared.label.Next.TheVariants.{Nothing, Alike, Otherwise}

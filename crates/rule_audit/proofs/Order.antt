@@ -1,6 +1,5 @@
 -- The order of headers, and the values with which they begin.
-use Rattle.std.proofs.Common.{◌≡◌, ◌∷◌, ◌++◌, ℕ, List, [], ◌≤◌, ◌<◌, length, drop, refl, ap, arith, ◌∙◌, inl, inr}
-use Rattle.std.specs.Prelude.{◌⊎◌, suc}
+use Rattle.std.proofs.Common.{◌≡◌, ◌∷◌, ◌++◌, ℕ, List, [], ◌≤◌, ◌<◌, length, drop, refl, ap, arith, ◌∙◌, inl, inr, ◌⊎◌, suc}
 use Rattle.field_boxes.specs.Fields.{AreValues, ComesBefore}
 
 pub none_before : (h : List ℕ) → ComesBefore h [] → ⊥
@@ -13,13 +12,12 @@ before_itself (v ∷ h) (inl less) = omega (arith, less)
 before_itself (v ∷ h) (inr b) = before_itself h b.1
 
 pub in_turn : (a b c : List ℕ) → ComesBefore a b → ComesBefore b c → ComesBefore a c
-in_turn [] b c p q = absurd p
-in_turn (x ∷ a) [] c p q = absurd p
 in_turn (x ∷ a) (y ∷ b) [] p q = absurd q
 in_turn (x ∷ a) (y ∷ b) (z ∷ c) (inl p) (inl q) = inl (omega (arith, p, q))
 in_turn (x ∷ a) (y ∷ b) (z ∷ c) (inl p) (inr q) = inl (omega (arith, p, q.0))
 in_turn (x ∷ a) (y ∷ b) (z ∷ c) (inr p) (inl q) = inl (omega (arith, p.0, q))
 in_turn (x ∷ a) (y ∷ b) (z ∷ c) (inr p) (inr q) = inr (p.0 ∙ q.0, in_turn a b c p.1 q.1)
+in_turn a b c p q = absurd p
 
 -- before some values is before all that begin with them
 pub before_more : (h front rest : List ℕ) → ComesBefore h front → ComesBefore h (front ++ rest)
@@ -33,21 +31,19 @@ by_value [] u v xs ys h = inl h
 by_value (x ∷ front) u v xs ys h = inr (refl, by_value front u v xs ys h)
 
 pub before_raised : (front h : List ℕ) (u v : ℕ) → u ≤ v → ComesBefore h (front ++ u ∷ []) → ComesBefore h (front ++ v ∷ [])
-before_raised [] [] u v l b = b
 before_raised [] (x ∷ h) u v l (inl less) = inl (omega (arith, less, l))
 before_raised [] (x ∷ h) u v l (inr b) = absurd (none_before h b.1)
-before_raised (x ∷ front) [] u v l b = b
 before_raised (x ∷ front) (y ∷ h) u v l (inl less) = inl less
 before_raised (x ∷ front) (y ∷ h) u v l (inr b) = inr (b.0, before_raised front h u v l b.1)
+before_raised front h u v l b = b
 
 -- none that begins so is before the value 0
 pub before_zero : (front h : List ℕ) → ComesBefore h (front ++ 0 ∷ []) → ComesBefore h front
-before_zero [] [] b = b
 before_zero [] (x ∷ h) (inl less) = absurd (omega (arith, less))
 before_zero [] (x ∷ h) (inr b) = absurd (none_before h b.1)
-before_zero (x ∷ front) [] b = b
 before_zero (x ∷ front) (y ∷ h) (inl less) = inl less
 before_zero (x ∷ front) (y ∷ h) (inr b) = inr (b.0, before_zero front h b.1)
+before_zero front h b = b
 
 two : (v lo hi : ℕ) → v < suc hi → (v < lo) ⊎ ((lo ≤ v) × (v ≤ hi))
 two v lo hi h = grind (arith, h)

@@ -1,7 +1,5 @@
 -- One answer laid over another.
-use Rattle.std.proofs.Common.{◌≡◌, ◌∙◌, ℕ, Bool, true, false, cond, ap, refl, sym}
-use Rattle.std.specs.Prelude.{nat_eq}
-use Rattle.std.proofs.lemmas.Bool.{eq-eqb, eqb-true, ne_eqb, true≢false}
+use Rattle.std.proofs.Common.{◌≡◌, ◌∙◌, ℕ, Bool, true, false, cond, ap, refl, sym, nat_eq, eq-eqb, eqb-true, ne_eqb, true≢false}
 use Rattle.rule_audit.specs.Parts.{over}
 
 assoc_by : (t : Bool) (a b c : ℕ) → nat_eq a 0 ≡ t → cond (nat_eq (cond t b a) 0) c (cond t b a) ≡ cond t (cond (nat_eq b 0) c b) a

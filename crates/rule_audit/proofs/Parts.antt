@@ -10,7 +10,7 @@ use Rattle.node_store.proofs.Canonical.{in_use}
 use Rattle.rule_audit.specs.declared.part.Part.{Part}
 use Rattle.rule_audit.specs.declared.part.Part.TheVariants.{Alone, Halves'}
 use Rattle.rule_audit.specs.Parts.{IsPart, Shows}
-use Rattle.rule_audit.proofs.Stated.{is_level}
+use Rattle.node_store.proofs.Stated.{is_level}
 
 pub shows_stay : (old new : List Node) (rules : List code.Rule) (shown : NodeId) → Grows old new → Shows old rules shown → Shows new rules shown
 shows_stay old new rules shown g s =

@@ -1,6 +1,5 @@
 -- Parts are made of their halves.
-use Rattle.std.proofs.Common.{◌≡◌, ◌/◌, ◌∙◌, ℕ, List, ap, sym, length, take, drop}
-use Rattle.std.proofs.lemmas.List.{take-append-drop}
+use Rattle.std.proofs.Common.{◌≡◌, ◌/◌, ◌∙◌, ℕ, List, ap, sym, length, take, drop, take-append-drop}
 use Rattle.field_boxes.specs.declared.rule.Rule as code
 use Rattle.field_boxes.specs.Fields.{stated, IsHeader}
 use Rattle.node_store.specs.declared.edge.NodeId.{NodeId}

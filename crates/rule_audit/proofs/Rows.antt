@@ -1,6 +1,5 @@
 -- Where the values of a field lead from many nodes at once.
-use Rattle.std.proofs.Common.{◌≡◌, ◌∷◌, ◌++◌, ◌≤◌, ◌<◌, ◌∙◌, ℕ, suc, List, [], true, length, drop, min, ap, sym, subst, arith}
-use Rattle.std.proofs.lemmas.Bool.{eqb-true}
+use Rattle.std.proofs.Common.{◌≡◌, ◌∷◌, ◌++◌, ◌≤◌, ◌<◌, ◌∙◌, ℕ, suc, List, [], true, length, drop, min, ap, sym, subst, arith, eqb-true}
 use Rattle.std.proofs.lemmas.List.Elements.{All-nil, All-push}
 use Rattle.field_boxes.specs.Fields.{stated, greatest_of, AreValues}
 use Rattle.node_store.specs.declared.edge.Edge.{Edge}
@@ -18,7 +17,11 @@ use Rattle.rule_audit.specs.Parts.{over}
 use Rattle.rule_audit.specs.Steps.{GainsChild, IsRow, IsStep}
 use Rattle.rule_audit.proofs.FirstAnswers.{first_push}
 use Rattle.rule_audit.proofs.Overlaid.{over_nothing}
-use Rattle.rule_audit.proofs.Stated.{has_field, is_level, next_is, top_is}
+use Rattle.node_store.proofs.Stated.{has_field, is_level, next_is, top_is}
+
+-- read where no node stands
+abbrev pub no_id : NodeId
+no_id = record { 0 = 0 }
 
 -- a node of a level is in use
 pub used : (nodes : List Node) (id depth : ℕ) → level_of nodes id ≡ drop depth stated → id < length nodes
@@ -43,6 +46,20 @@ child_at nodes id depth v to s less at low leads =
 -- the values from lo to the edge's end lead from the node where the edge does
 abbrev pub LeadAlike : List Node → ℕ → ℕ → Edge → Type 0
 LeadAlike nodes id lo e = (v : ℕ) → lo ≤ v → v ≤ e.hi → child_of (edges_of nodes id) v ≡ e.to.0
+
+-- the edge at which a value leads on from a node, as a search in its edges tells it
+pub record LeadsOn (nodes : List Node) (id depth value : ℕ) (e : Edge) : Type 0 where
+  pub low : value ≤ e.hi
+  pub leads : LeadAlike nodes id value e
+  pub level : level_of nodes e.to.0 ≡ drop (suc depth) stated
+  pub used : e.to.0 < length nodes
+
+pub leads_from : (nodes : List Node) (id depth value : ℕ) (edges : List Edge) (e : Edge) → IsStore nodes → depth < 5 → level_of nodes id ≡ drop depth stated → value ≤ greatest_of depth →
+    edges ≡ edges_of nodes id → value ≤ e.hi → ((v : ℕ) → value ≤ v → v ≤ e.hi → child_of edges v ≡ e.to.0) → LeadsOn nodes id depth value e
+leads_from nodes id depth value edges e s less at inside is low leads =
+    let alike : LeadAlike nodes id value e = λ v from to. ap (λ es. child_of es v) (sym is) ∙ leads v from to in
+    let level = child_at nodes id depth value e.to.0 s less at inside (alike value (omega arith) low) in
+    record { low = low; leads = alike; level = level; used = used nodes e.to.0 (suc depth) level }
 
 module _ (nodes : List Node) where
   -- a child that answers nothing isn't counted

@@ -1,7 +1,5 @@
 -- The state of a rule, by the values that are wanted.
-use Rattle.std.proofs.Common.{◌≡◌, ◌∙◌, ℕ, List, [], Bool, true, false, cond, ap, refl, sym, subst, inl, inr}
-use Rattle.std.specs.Prelude.{◌⊎◌, nat_eq, Option, Some, None}
-use Rattle.std.proofs.lemmas.Bool.{eq-eqb, eqb-true, ne_eqb, true≢false}
+use Rattle.std.proofs.Common.{◌≡◌, ◌∷◌, ◌∙◌, ℕ, List, [], Bool, true, false, cond, ap, refl, sym, subst, inl, inr, ◌⊎◌, nat_eq, Option, Some, None, eq-eqb, eqb-true, ne_eqb, true≢false}
 use Rattle.std.proofs.lemmas.List.Elements.{All-nil}
 use Rattle.field_boxes.specs.declared.header.Header.{Header}
 use Rattle.field_boxes.specs.Fields.{stated, IsHeader}
@@ -15,6 +13,10 @@ use Rattle.rule_audit.specs.Around.{AreAround, IsWanted, StandAtLevel, first_ans
 use Rattle.rule_audit.specs.Found.{IsLeastWanted, NoneIsWanted}
 use Rattle.rule_audit.specs.Meeting.{IsNeeded, IsStateSoFar}
 
+-- the values from which a search sets out
+abbrev pub zeros : List ℕ
+zeros = 0 ∷ 0 ∷ 0 ∷ 0 ∷ 0 ∷ []
+
 -- what is shown, by four tests: none before, none here, none behind, alike
 abbrev shown_by : Bool → Bool → Bool → Bool → Option Next
 shown_by t u s w = cond t (cond u None (Some (cond s Nothing (cond w Alike Otherwise)))) None
@@ -22,33 +24,27 @@ shown_by t u s w = cond t (cond u None (Some (cond s Nothing (cond w Alike Other
 needed_by : (t u s w : Bool) → t ≡ true → u ≡ false → w ≡ false → IsNeeded (shown_by t u s w)
 needed_by false u s w e f g = absurd (true≢false (sym e))
 needed_by true true s w e f g = absurd (true≢false f)
-needed_by true false true w e f g = tt
 needed_by true false false true e f g = absurd (true≢false g)
-needed_by true false false false e f g = tt
+needed_by t u s w e f g = tt
 
 tests_by : (t u s w : Bool) → IsNeeded (shown_by t u s w) → (t ≡ true) × (u ≡ false) × ((s ≡ true) ⊎ (w ≡ false))
-tests_by false u s w h = absurd h
-tests_by true true s w h = absurd h
 tests_by true false true w h = (refl, refl, inl refl)
-tests_by true false false true h = absurd h
 tests_by true false false false h = (refl, refl, inr refl)
+tests_by t u s w h = absurd h
 
 alike_by : (t u s w : Bool) → t ≡ true → u ≡ false → (IsNeeded (shown_by t u s w) → ⊥) → shown_by t u s w ≡ Some Alike
 alike_by false u s w e f otherwise = absurd (true≢false (sym e))
 alike_by true true s w e f otherwise = absurd (true≢false f)
-alike_by true false true w e f otherwise = absurd (otherwise tt)
 alike_by true false false true e f otherwise = refl
-alike_by true false false false e f otherwise = absurd (otherwise tt)
+alike_by t u s w e f otherwise = absurd (otherwise tt)
 
 some_by : (t u s w : Bool) → shown_by t u s w ≡ Some Alike → (t ≡ true) × (u ≡ false)
-some_by false u s w h = let f : None ≡ Some Alike = h in cc
-some_by true true s w h = let f : None ≡ Some Alike = h in cc
 some_by true false s w h = (refl, refl)
+some_by t u s w h = let f : None ≡ Some Alike = h in cc
 
 none_by : (t u s w : Bool) → (t ≡ true → u ≡ false → ⊥) → shown_by t u s w ≡ None
-none_by false u s w otherwise = refl
-none_by true true s w otherwise = refl
 none_by true false s w otherwise = absurd (otherwise refl refl)
+none_by t u s w otherwise = refl
 
 module _ (nodes : List Node) (around : Around) (values : List ℕ) where
   abbrev before : ℕ

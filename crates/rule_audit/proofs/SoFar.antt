@@ -1,6 +1,5 @@
 -- The state of a rule once more headers are met.
-use Rattle.std.proofs.Common.{◌≡◌, ℕ, List, ◌∙◌, ap, sym, subst, inl, inr}
-use Rattle.std.specs.Prelude.{◌⊎◌, Option, Some, None}
+use Rattle.std.proofs.Common.{◌≡◌, ℕ, List, ◌∙◌, ap, sym, subst, inl, inr, ◌⊎◌, Option, Some, None}
 use Rattle.field_boxes.specs.declared.header.Header.{Header}
 use Rattle.field_boxes.specs.Fields.{ComesBefore}
 use Rattle.rule_audit.specs.declared.label.Next.{Next}
@@ -74,15 +73,14 @@ module _ (shown : List ℕ → Option Next) (Old New : List ℕ → Type 0) (gro
     one_more None e (Droppable earlier) s = keeps_droppable earlier (λ needed. subst IsNeeded e needed) s
     one_more None e Never s = λ h new. elim (known h new) [ inl old ↦ s h old | inr same ↦ ap shown same ∙ e ]
     one_more (Some Nothing) e (Live earlier) s = keeps_live earlier s
-    one_more (Some Nothing) e (Droppable earlier) s = live_now (subst IsNeeded (sym e) tt) s.0
     one_more (Some Nothing) e Never s = live_now (subst IsNeeded (sym e) tt) (not_needed s)
     one_more (Some Otherwise) e (Live earlier) s = keeps_live earlier s
-    one_more (Some Otherwise) e (Droppable earlier) s = live_now (subst IsNeeded (sym e) tt) s.0
     one_more (Some Otherwise) e Never s = live_now (subst IsNeeded (sym e) tt) (not_needed s)
     one_more (Some Alike) e (Live earlier) s = keeps_live earlier s
     one_more (Some Alike) e (Droppable earlier) s = keeps_droppable earlier (λ needed. subst IsNeeded e needed) s
     one_more (Some Alike) e Never s =
         (still IsNeeded (λ needed. subst IsNeeded e needed) (not_needed s), last, e, new_least (λ o. o ≡ Some Alike) (not_alike s))
+    one_more o e x s = live_now (subst IsNeeded (sym e) tt) s.0
 
 -- what is shown matters for the headers that were met alone
 pub shown_alike : (Met : List ℕ → Type 0) (shown other : List ℕ → Option Next) → ((h : List ℕ) → Met h → shown h ≡ other h) →

@@ -1,64 +1,13 @@
--- The levels of the stated order, by how many of its fields are read, and headers as values.
-use Rattle.std.proofs.Common.{◌≡◌, ◌<◌, ◌≤◌, ◌^◌, ◌∷◌, ◌++◌, ℕ, zero, suc, List, [], drop, take, length, get_or, refl, arith, rules, subst}
+-- Headers as values, by how many of their fields are read.
+use Rattle.std.proofs.Common.{◌≡◌, ◌<◌, ◌≤◌, ◌^◌, ◌∷◌, ◌++◌, ℕ, zero, suc, List, [], drop, take, length, get_or, refl, arith, subst}
 use Rattle.field_boxes.specs.Fields.{stated, width, greatest_of, AreValues, IsHeader}
-use Rattle.node_store.specs.Levels.{HasField, IsLevel, next, top_of}
-
-pub all_fields : HasField stated
-all_fields = search rules
-
-pub has_field : (depth : ℕ) → depth < 5 → HasField (drop depth stated)
-has_field zero h = all_fields
-has_field (suc zero) h = all_fields.1
-has_field (suc (suc zero)) h = all_fields.1.1
-has_field (suc (suc (suc zero))) h = all_fields.1.1.1
-has_field (suc (suc (suc (suc zero)))) h = all_fields.1.1.1.1
-has_field (suc (suc (suc (suc (suc n))))) h = absurd (omega (arith, h))
-
-none_left : (n : ℕ) → IsLevel (drop n [])
-none_left zero = tt
-none_left (suc n) = tt
-
-pub is_level : (depth : ℕ) → IsLevel (drop depth stated)
-is_level zero = all_fields
-is_level (suc zero) = all_fields.1
-is_level (suc (suc zero)) = all_fields.1.1
-is_level (suc (suc (suc zero))) = all_fields.1.1.1
-is_level (suc (suc (suc (suc zero)))) = all_fields.1.1.1.1
-is_level (suc (suc (suc (suc (suc n))))) = none_left n
-
-pub next_is : (depth : ℕ) → depth < 5 → next (drop depth stated) ≡ drop (suc depth) stated
-next_is zero h = refl
-next_is (suc zero) h = refl
-next_is (suc (suc zero)) h = refl
-next_is (suc (suc (suc zero))) h = refl
-next_is (suc (suc (suc (suc zero)))) h = refl
-next_is (suc (suc (suc (suc (suc n))))) h = absurd (omega (arith, h))
-
-pub top_is : (depth : ℕ) → depth < 5 → top_of (drop depth stated) ≡ greatest_of depth
-top_is zero h = refl
-top_is (suc zero) h = refl
-top_is (suc (suc zero)) h = refl
-top_is (suc (suc (suc zero))) h = refl
-top_is (suc (suc (suc (suc zero)))) h = refl
-top_is (suc (suc (suc (suc (suc n))))) h = absurd (omega (arith, h))
-
-pub field_few : (depth : ℕ) → depth < 5 → greatest_of depth < 2 ^ 32
-field_few zero h = omega arith
-field_few (suc zero) h = omega arith
-field_few (suc (suc zero)) h = omega arith
-field_few (suc (suc (suc zero))) h = omega arith
-field_few (suc (suc (suc (suc zero)))) h = omega arith
-field_few (suc (suc (suc (suc (suc n))))) h = absurd (omega (arith, h))
+use Rattle.node_store.specs.Levels.{HasField, top_of}
+use Rattle.node_store.proofs.Stated.{has_field, top_is}
 
 -- five values, each below the power of its field's width
 pub header_is : (values : List ℕ) → length values ≡ 5 → ((k : ℕ) → k < 5 → get_or values k 0 < 2 ^ width k) → IsHeader values
-header_is [] e h = absurd (omega (arith, e))
-header_is (a ∷ []) e h = absurd (omega (arith, e))
-header_is (a ∷ b ∷ []) e h = absurd (omega (arith, e))
-header_is (a ∷ b ∷ c ∷ []) e h = absurd (omega (arith, e))
-header_is (a ∷ b ∷ c ∷ d ∷ []) e h = absurd (omega (arith, e))
 header_is (a ∷ b ∷ c ∷ d ∷ v ∷ []) e h = (h 0 (omega arith), (h 1 (omega arith), (h 2 (omega arith), (h 3 (omega arith), (h 4 (omega arith), tt)))))
-header_is (a ∷ b ∷ c ∷ d ∷ v ∷ w ∷ values) e h = absurd (omega (arith, e))
+header_is values e h = absurd (omega arith)
 
 -- the first values of a header, and values of the fields after them
 pub values_joined : (fields values rest : List ℕ) (depth : ℕ) → AreValues fields values → AreValues (drop depth fields) rest → AreValues fields (take depth values ++ rest)

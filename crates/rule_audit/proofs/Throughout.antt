@@ -1,14 +1,12 @@
 -- Nodes that answer 0 everywhere, or something everywhere, by their children.
-use Rattle.std.proofs.Common.{◌≡◌, ◌∷◌, ◌++◌, ◌∙◌, ℕ, zero, suc, List, [], Bool, true, false, length, get_or, ap, refl, sym, subst, inl, inr, arith}
-use Rattle.std.specs.Prelude.{◌⊎◌, Option, Some, None, All, nat_eq, not, slice_get, unwrap_or}
+use Rattle.std.proofs.Common.{◌≡◌, ◌∷◌, ◌++◌, ◌∙◌, ℕ, zero, suc, List, [], Bool, true, false, length, get_or, ap, refl, sym, subst, inl, inr, arith, ◌⊎◌, Option, Some, None, All, nat_eq, slice_get, unwrap_or, eq-eqb, eqb-true, true≢false}
 use Rattle.std.specs.Bool.{OnTrue}
-use Rattle.std.proofs.lemmas.Bool.{eq-eqb, eqb-true, true≢false}
 use Rattle.std.proofs.lemmas.List.Elements.{All-contains}
 use Rattle.field_boxes.specs.Fields.{AreValues}
 use Rattle.node_store.specs.declared.edge.Edge.{Edge}
 use Rattle.node_store.specs.declared.edge.NodeId.{NodeId}
 use Rattle.node_store.specs.Diagram.{Node, node_decision, node_level, answer, decision_of, edges_of, level_of}
-use Rattle.node_store.specs.Diagram.Node.{Leaf, Inner}
+use Rattle.node_store.specs.Diagram.Node.{Leaf}
 use Rattle.node_store.specs.Edges.{AreFull, child_of}
 use Rattle.node_store.specs.Levels.{HasField, top_of}
 use Rattle.node_store.specs.Store.{IsStore}
@@ -22,9 +20,8 @@ use Rattle.rule_audit.specs.Marks.{AnswersThroughout, AreRight, HasMarked}
 use Rattle.rule_audit.proofs.FirstAnswers.{all_zero}
 
 leaf_level : (m : Option Node) (d : ℕ) → node_decision m ≡ Some d → node_level m ≡ []
-leaf_level None d e = let f : None ≡ Some d = e in cc
 leaf_level (Some (Leaf decision)) d e = refl
-leaf_level (Some (Inner level edges)) d e = let f : None ≡ Some d = e in cc
+leaf_level m d e = let f : None ≡ Some d = e in cc
 
 leaf_at : (nodes : List Node) (id d : ℕ) (nothing : Bool) → decision_of nodes id ≡ Some d → nat_eq d 0 ≡ nothing → (values : List ℕ) → AreValues [] values → nat_eq (answer nodes id values) 0 ≡ nothing
 leaf_at nodes id d nothing e h [] ok = ap (λ o. nat_eq (unwrap_or o 0) 0) e ∙ h
@@ -47,9 +44,8 @@ inner nodes marks id nothing edges s field full is right all =
 
 pushed_by : (marks : List Bool) (mark : Bool) (id : ℕ) → get_or (marks ++ mark ∷ []) id false ≡ true → (get_or marks id false ≡ true) ⊎ ((id ≡ length marks) × (mark ≡ true))
 pushed_by [] mark zero h = inr (refl, h)
-pushed_by [] mark (suc id) h = inl h
-pushed_by (m ∷ marks) mark zero h = inl h
 pushed_by (m ∷ marks) mark (suc id) h = elim (pushed_by marks mark id h) [ inl old ↦ inl old | inr new ↦ inr (omega (arith, new.0), new.1) ]
+pushed_by marks mark id h = inl h
 
 -- one mark more
 pub pushed : (nodes : List Node) (nothing : Bool) (marks : List Bool) (mark : Bool) → AreRight nodes nothing marks → OnTrue mark (AnswersThroughout nodes nothing (length marks)) →
@@ -62,19 +58,6 @@ pushed nodes nothing marks mark right here = λ id h. elim (pushed_by marks mark
 
 pub none_marked : (nodes : List Node) (nothing : Bool) → AreRight nodes nothing []
 none_marked nodes nothing = λ id h. let f : false ≡ true = h in cc
-
--- what the tests of a decision tell
-pub so_nothing : (t nothing : Bool) → nothing ≡ true → OnTrue t (t ≡ nothing)
-so_nothing true nothing e = sym e
-so_nothing false nothing e = tt
-
-pub so_something : (t nothing : Bool) → nothing ≡ false → OnTrue (not t) (t ≡ nothing)
-so_something true nothing e = tt
-so_something false nothing e = sym e
-
-pub on_true : (t : Bool) (P Q : Type 0) → (P → Q) → OnTrue t P → OnTrue t Q
-on_true true P Q f h = f h
-on_true false P Q f h = tt
 
 -- where the rule doesn't match, or an earlier one does, nothing is wanted
 module _ (nodes : List Node) (place : List ℕ) (around : Around) (at : AreAround nodes place around) where

@@ -1,7 +1,5 @@
 -- What comes behind a rule tells whether it is the first that matches, and how the rules decide without it.
-use Rattle.std.proofs.Common.{◌≡◌, ◌∷◌, ℕ, zero, suc, List, [], Bool, true, false, cond, ap, refl, sym, ◌∙◌}
-use Rattle.std.specs.Prelude.{Option, Some, None}
-use Rattle.std.specs.List.{remove}
+use Rattle.std.proofs.Common.{◌≡◌, ◌∷◌, ℕ, zero, suc, List, Bool, true, false, cond, ap, refl, sym, ◌∙◌, Option, Some, None, remove}
 use Rattle.field_boxes.specs.declared.rule.Rule as code
 use Rattle.field_boxes.specs.Classifier.{matches}
 use Rattle.field_boxes.specs.Fields.{stated}
@@ -51,7 +49,6 @@ module _ (header : List ℕ) where
   later rule rules k false e t = later_at rule rules k (next_behind rules k header) e t
 
   pub tells : (k : ℕ) (rules : List code.Rule) → Tells stated header rules k (next_behind rules k header)
-  tells zero [] = ((λ p. p), refl)
-  tells (suc k) [] = ((λ p. p), refl)
   tells zero (rule ∷ rules) = zeroth rule rules (meets stated header rule) refl
   tells (suc k) (rule ∷ rules) = later rule rules k (meets stated header rule) refl (tells k rules)
+  tells k rules = ((λ p. p), refl)

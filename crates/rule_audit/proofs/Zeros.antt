@@ -1,6 +1,5 @@
 -- Nodes that answer 0, and more of them.
-use Rattle.std.proofs.Common.{◌≡◌, ℕ, List, [], ◌∷◌, arith, sym, subst}
-use Rattle.std.specs.List.{insert}
+use Rattle.std.proofs.Common.{◌≡◌, ℕ, List, [], ◌∷◌, arith, sym, subst, insert}
 use Rattle.std.proofs.lemmas.List.Elements.{All-cons, All-nil}
 use Rattle.field_boxes.specs.Fields.{AreValues}
 use Rattle.node_store.specs.declared.edge.NodeId.{NodeId}

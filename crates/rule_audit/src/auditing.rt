@@ -1,5 +1,6 @@
 //! The states of the rules of a list.
 ghost use Rattle.std.specs.Prelude.{◌≡◌, ◌≤◌, ◌<◌, ◌+◌, ◌*◌, ℕ, true, None, IfOk, length, vec_len, slice_index_or, map, is_none, unwrap_or};
+ghost use Rattle.razor_base.specs.declared.limits.TheConstants.{MOST_RULES};
 ghost use Rattle.field_boxes.specs.Fields.{stated, IsHeader};
 ghost use Rattle.node_store.specs.Diagram.{level_of};
 ghost use Rattle.field_boxes.specs.NamedRules.{named_rules};
@@ -40,7 +41,7 @@ pub fn audit(alloc: Global, list: &RuleList) -> Result<Vec<RuleState>, Memory>
 
 /// The states of rules that decide numbers below the first label's.
 fn told(alloc: Global, rules: &[Rule], first: u32) -> Result<Vec<RuleState>, Memory>
-    requires few { length rules.now ≤ 65536 }
+    requires few { length rules.now ≤ MOST_RULES }
     requires room { first ≤ 262145 }
     requires some { 0 < first }
     requires decide { AllDecide rules.now }

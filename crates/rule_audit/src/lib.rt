@@ -26,7 +26,6 @@
 
 mod around;
 mod auditing;
-mod edges;
 mod halving;
 mod headers;
 mod label;

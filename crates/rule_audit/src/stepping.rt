@@ -1,10 +1,9 @@
 //! Where the values of a field lead from all diagrams around a rule.
 
 use crate::around::{Around, Nodes, Step};
-use crate::edges::edge_at;
 use crate::seeking::Seeking;
 use field_boxes::greatest;
-use node_store::{NodeId, Store};
+use node_store::{NodeId, Store, edge_at};
 use razor_base::Memory;
 use smallvec::SmallVec;
 

@@ -2,6 +2,7 @@
 use Rattle.std.proofs.Common.{◌≡◌, ℕ, ◌≤◌, List, length, ap, sym, subst, ◌∙◌}
 use Rattle.std.specs.Prelude.{IfErr, IfOk, MatchResult, Result, Ok, Err}
 use Rattle.std.specs.List.{All, AllByRecursion}
+use Rattle.field_boxes.specs.Alike.{IsTight}
 use Rattle.field_boxes.specs.declared.rule.Rule as code
 use Rattle.field_boxes.specs.Fields.{AreValues, IsHeader, stated}
 use Rattle.field_boxes.specs.Classifier.{source}
@@ -19,9 +20,9 @@ use Rattle.table_compose.specs.Composed.{IsAnswer, IsRefusal}
 use Rattle.table_compose.specs.declared.composition.ComposeError.{ComposeError}
 use Rattle.table_compose.specs.declared.composition.ComposeError.TheVariants.{TooMany, Memory}
 use Rattle.redundancy_laws.specs.Built.{ArePrefixes}
-use Rattle.redundancy_laws.specs.Entries.{IsTight, answer as number_answer}
-use Rattle.redundancy_laws.specs.Orders.{IsOrder, picked}
-use Rattle.redundancy_laws.proofs.Orders.{picked_values}
+use Rattle.redundancy_laws.specs.Entries.{answer as number_answer}
+use Rattle.field_boxes.specs.Orders.{IsOrder, picked}
+use Rattle.node_store.proofs.Orders.{order_level, picked_values}
 use Rattle.rule_compilation.specs.Compiled.{IsRefusedIn}
 use Rattle.redundancy.specs.declared.diagrams.TightTable.{TightTable}
 use Rattle.redundancy.specs.Kept.{AreKeptOf}
@@ -49,7 +50,7 @@ by_name order names rules nodes root d values ok = named order names rules value
 pub by_header : (order : List ℕ) (names : List (List ℕ)) (rules : List code.Rule) (nodes : List Node) (root : ℕ) → IsBuiltOf order names rules nodes root → (header : List ℕ) → IsHeader header →
     name_at names (answer nodes root (picked order header)) ≡ source stated header (named_rules names rules)
 by_header order names rules nodes root d header is =
-    sym (by_name order names rules nodes root d (picked order header) (picked_values order header d.ordered.level is)) ∙ source_in order header (named_rules names rules) d.ordered is
+    sym (by_name order names rules nodes root d (picked order header) (picked_values order header (order_level order d.ordered) is)) ∙ source_in order header (named_rules names rules) d.ordered is
 
 pub diagram_of : (order : List ℕ) (names : List (List ℕ)) (rules : List code.Rule) (nodes : List Node) (root : ℕ) → IsBuiltOf order names rules nodes root → IsDiagramOf order names (named_rules names rules) nodes root
 diagram_of order names rules nodes root d = record { store = d.store; level = d.level; distinct = d.distinct; answers = by_header order names rules nodes root d }
@@ -74,7 +75,7 @@ refused order names rules nodes root limit (TooMany needed most) d h = (cost_of_
 
 -- what composing the diagram without redundant entries comes to, said of the rules
 pub compiled : (order : List ℕ) (names : List (List ℕ)) (rules : List code.Rule) (nodes : List Node) (root limit : ℕ) (result : Result TightTable ComposeError) → IsBuiltOf order names rules nodes root →
-    IfOk result (λ t. IsCostOf nodes order root t.composed) → IfOk result (λ t. AreKeptOf nodes order root t.composed t.entries.items) → IfOk result (λ t. length t.entries.items ≤ t.composed) → IfOk result (λ t. IsTight t.entries.items) →
+    IfOk result (λ t. IsCostOf nodes order root t.composed) → IfOk result (λ t. AreKeptOf nodes order root t.composed t.entries.items) → IfOk result (λ t. length t.entries.items ≤ t.composed) → IfOk result (λ t. IsTight number_answer t.entries.items) →
     IfOk result (λ t. (header : List ℕ) → IsHeader header → number_answer t.entries.items header ≡ answer nodes root (picked order header)) →
     IfOk result (λ t. All (λ e. IsAnswer nodes order root e.decision) t.entries.items) → IfOk result (λ t. ArePrefixes t.entries.items) → IfErr result (λ e. IsRefusal nodes order root limit e) →
     MatchResult result (λ t. AreTightOf order names (named_rules names rules) t.composed t.entries.items) (λ e. IsRefusedIn order (named_rules names rules) limit e)

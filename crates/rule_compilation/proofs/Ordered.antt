@@ -3,8 +3,8 @@ use Rattle.std.proofs.Common.{◌≡◌, ◌∷◌, ℕ, List, [], Bool, cond, a
 use Rattle.std.specs.Prelude.{◌&&◌, find, option_map, slice_index}
 use Rattle.field_boxes.specs.Classifier.{Rule, matches, set_holds, source}
 use Rattle.field_boxes.specs.Fields.{IsHeader, stated}
-use Rattle.redundancy_laws.specs.Orders.{IsOrder, picked}
-use Rattle.redundancy_laws.proofs.Orders.{any_order, of_all, picked_stated}
+use Rattle.field_boxes.specs.Orders.{IsOrder, picked}
+use Rattle.field_boxes.proofs.Orders.{any_order, of_all, picked_stated}
 
 -- whether the rule's set of a field holds the header's value
 abbrev holds_in : {A : Type 0} → List ℕ → Rule A → ℕ → Bool

@@ -4,6 +4,7 @@ use Rattle.std.specs.Prelude.{find, Option, option_and_then}
 use Rattle.std.specs.List.{All, remove}
 use Rattle.std.proofs.lemmas.List.{length-map}
 use Rattle.std.proofs.lemmas.List.Elements.{All-nil, All-cons, All-head, All-tail}
+use Rattle.field_boxes.specs.Alike.{IsTight}
 use Rattle.field_boxes.specs.Names.{AreDistinct, name_at}
 use Rattle.ternary_words.specs.declared.entry.Entry as code
 use Rattle.ternary_words.specs.Limits.{AreNumbered}
@@ -11,7 +12,6 @@ use Rattle.ternary_words.specs.Table.{Entry, answer, entry_matches}
 use Rattle.ternary_words.specs.Views.{entry_of, word_of}
 use Rattle.ternary_words.specs.Word.{agrees, header_bits}
 use Rattle.redundancy_laws.specs.Entries as numbers
-use Rattle.rule_compilation.specs.Compiled.{IsTight}
 
 answer_step : (names : List (List ℕ)) (t : Bool) (e : code.Entry) (o : Option Entry) (n : ℕ) → option_and_then (λ x. x.decision) o ≡ name_at names n →
     option_and_then (λ x. x.decision) (cond t (Some (entry_of names e)) o) ≡ name_at names (cond t e.decision n)
@@ -48,7 +48,7 @@ remove-map f (x ∷ xs) zero = refl
 remove-map f (x ∷ xs) (suc place) = ap (λ es. f x ∷ es) (remove-map f xs place)
 
 -- a table that is tight by number is tight by name
-pub tight_named : (names : List (List ℕ)) (es : List code.Entry) → AreDistinct names → AreNumbered (length names) es → numbers.IsTight es → IsTight (map (entry_of names) es)
+pub tight_named : (names : List (List ℕ)) (es : List code.Entry) → AreDistinct names → AreNumbered (length names) es → IsTight numbers.answer es → IsTight answer (map (entry_of names) es)
 tight_named names es distinct numbered tight place less =
     let found = tight place (omega (arith, less, length-map es (entry_of names))) in
     let header = found.0 in (

@@ -15,7 +15,7 @@ use Rattle.table_compose.specs.Diagrams.{IsCostOf}
 use Rattle.table_compose.specs.Composed.{AreComposed, IsPrefixWord, IsRefusal, decided}
 use Rattle.table_compose.specs.declared.composition.ComposeError.{ComposeError}
 use Rattle.redundancy_laws.specs.Built.{ArePrefixes}
-use Rattle.redundancy_laws.specs.Orders.{picked}
+use Rattle.field_boxes.specs.Orders.{picked}
 use Rattle.rule_compilation.specs.Compiled.{IsRefusedIn}
 use Rattle.rule_compilation.specs.Entries.{AreEntriesOf}
 use Rattle.rule_compilation.proofs.Composed.{IsBuiltOf, by_header, cost_of_rules, diagram_of, refused}

@@ -1,18 +1,14 @@
 -- The compiled table of a rule list, and why there is none.
-use Rattle.std.specs.Prelude.{◌≡◌, ◌≢◌, ℕ, ◌<◌, ◌≤◌, List, All, length}
-use Rattle.field_boxes.specs.Classifier.{Rule, source}
-use Rattle.field_boxes.specs.Fields.{IsHeader, stated}
-use Rattle.std.specs.List.{remove}
+use Rattle.std.specs.Prelude.{◌≡◌, ℕ, ◌<◌, ◌≤◌, List, All, length}
+use Rattle.field_boxes.specs.Alike.{AreAlike, IsTight, source_of}
+use Rattle.field_boxes.specs.Classifier.{Rule}
+use Rattle.field_boxes.specs.Fields.{stated}
 use Rattle.ternary_words.specs.Prefixes.{IsPrefixInEach}
-use Rattle.ternary_words.specs.Table.{Entry, Table, answer}
+use Rattle.ternary_words.specs.Table.{Table, answer}
 use Rattle.table_compose.specs.LeastCost.{IsLeastCost}
 use Rattle.table_compose.specs.declared.composition.ComposeError.{ComposeError}
 use Rattle.table_compose.specs.declared.composition.ComposeError.TheVariants.{TooMany, Memory}
 use Rattle.rule_compilation.specs.Pass.{IsKept}
-
--- each entry alone, left out, changes the answer of some header
-abbrev pub IsTight : List Entry → Type 0
-IsTight entries = (place : ℕ) → place < length entries → (header : List ℕ) × IsHeader header × (answer (remove entries place) header ≢ answer entries header)
 
 -- the table decides every header as the rules do by words that are prefixes in each field, and says their field-by-field
 -- least cost in the order of the fields; its entries are what a pass keeps of a table of so many entries that is composed
@@ -21,10 +17,10 @@ pub record IsCompiledIn (order : List ℕ) (rules : List (Rule (List ℕ))) (wid
   pub slot : table.slot ≡ width
   pub composed : IsLeastCost order rules table.composed
   pub few : length table.entries ≤ table.composed
-  pub answers : (header : List ℕ) → IsHeader header → answer table.entries header ≡ source stated header rules
+  pub answers : AreAlike (answer table.entries) (source_of rules)
   pub prefixes : All (λ e. IsPrefixInEach e.word) table.entries
   pub pass : IsKept order rules table.composed table.entries
-  pub tight : IsTight table.entries
+  pub tight : IsTight answer table.entries
 
 -- the same in the stated order
 abbrev pub IsCompiled : List (Rule (List ℕ)) → ℕ → Table → Type 0

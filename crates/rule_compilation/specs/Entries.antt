@@ -1,5 +1,6 @@
 -- Entries with the numbers of their decisions, as a table of the names.
 use Rattle.std.specs.Prelude.{◌≡◌, ℕ, ◌≤◌, List, [], length, map, Some}
+use Rattle.field_boxes.specs.Alike.{AreAlike, IsTight, source_of}
 use Rattle.field_boxes.specs.Classifier.{Rule, source}
 use Rattle.field_boxes.specs.Fields.{IsHeader, stated}
 use Rattle.field_boxes.specs.Names.{name_at}
@@ -10,7 +11,7 @@ use Rattle.ternary_words.specs.Views.{entry_of}
 use Rattle.table_compose.specs.Composed.{decided}
 use Rattle.table_compose.specs.LeastCost.{IsLeastCost}
 use Rattle.redundancy_laws.specs.Built.{ArePrefixes}
-use Rattle.redundancy_laws.specs.Entries.{IsTight}
+use Rattle.redundancy_laws.specs.Entries.{answer as number_answer}
 use Rattle.redundancy_laws.specs.Pass.{Keeps}
 use Rattle.rule_compilation.specs.Pass.{AreComposedOf}
 
@@ -28,10 +29,10 @@ pub record AreTightOf (order : List ℕ) (names : List (List ℕ)) (rules : List
   pub least : IsLeastCost order rules composed
   pub few : length entries ≤ composed
   pub numbered : AreNumbered (length names) entries
-  pub answers : (header : List ℕ) → IsHeader header → answer (map (entry_of names) entries) header ≡ source stated header rules
+  pub answers : AreAlike (answer (map (entry_of names) entries)) (source_of rules)
   pub prefixes : ArePrefixes entries
   pub all : List code.Entry
   pub made : AreComposedOf order names rules all
   pub many : length all ≡ composed
   pub pass : Keeps [] all entries
-  pub tight : IsTight entries
+  pub tight : IsTight number_answer entries

@@ -9,7 +9,7 @@ use Rattle.ternary_words.specs.Views.{entry_of}
 use Rattle.node_store.specs.Diagram.{Node, answer, level_of}
 use Rattle.node_store.specs.Store.{IsStore}
 use Rattle.table_compose.specs.Composed.{AreComposed}
-use Rattle.redundancy_laws.specs.Orders.{picked}
+use Rattle.field_boxes.specs.Orders.{picked}
 use Rattle.redundancy_laws.specs.Pass.{Keeps}
 
 -- the node of a store of diagrams reads the fields in the order and answers every header as the rules decide it, by the

@@ -1,5 +1,6 @@
 //! A compiler of lists one after another.
 ghost use Rattle.std.specs.Prelude.{◌≡◌, IfSome};
+ghost use Rattle.razor_base.specs.declared.limits.TheConstants.{MOST_ENTRIES};
 ghost use Rattle.field_boxes.specs.Fields.{stated};
 ghost use Rattle.redundancy.specs.Removal.{UnlessMemory};
 ghost use Rattle.rule_compilation.specs.Kept.{IsTrue};
@@ -61,7 +62,7 @@ impl Compiler {
         slot: u16,
     ) -> Result<Table, ComposeError>
         requires numbered { All (IsNumberedBy names.now) rules.now }
-        requires limit { limit ≤ 262144 }
+        requires limit { limit ≤ MOST_ENTRIES }
         requires slot { ∥ IsSlotWidth slot ∥₁ }
         ensures table { MatchResult result
             (λ table. IsCompiled (named_rules names.now rules.now) slot (table_of table))

@@ -1,10 +1,11 @@
 //! The table of a rule list.
 ghost use Rattle.std.specs.Prelude.{◌≡◌, ◌≤◌, ℕ, All, IfOk, MatchResult};
+ghost use Rattle.razor_base.specs.declared.limits.TheConstants.{MOST_ENTRIES};
 ghost use Rattle.field_boxes.specs.Fields.{stated};
 ghost use Rattle.field_boxes.specs.NamedRules.{IsNumberedBy, named_rules};
 ghost use Rattle.ternary_words.specs.Limits.{IsSlotWidth};
 ghost use Rattle.ternary_words.specs.Views.{table_of};
-ghost use Rattle.redundancy_laws.specs.Orders.{IsOrder};
+ghost use Rattle.field_boxes.specs.Orders.{IsOrder};
 ghost use Rattle.table_compose.specs.LeastCost.{IsLeastCost};
 ghost use Rattle.rule_compilation.specs.Compiled.{IsCompiled, IsCompiledIn, IsRefused, IsRefusedIn};
 ghost use Rattle.rule_compilation.specs.Entries.{AreEntriesOf};
@@ -34,7 +35,7 @@ pub fn compile(
     slot: u16,
 ) -> Result<Table, ComposeError>
     requires numbered { All (IsNumberedBy names.now) rules.now }
-    requires limit { limit ≤ 262144 }
+    requires limit { limit ≤ MOST_ENTRIES }
     requires slot { ∥ IsSlotWidth slot ∥₁ }
     ensures table { MatchResult result
         (λ table. IsCompiled (named_rules names.now rules.now) slot (table_of table))
@@ -57,7 +58,7 @@ pub fn compile_in(
 ) -> Result<Table, ComposeError>
     requires order { IsOrder order.now }
     requires numbered { All (IsNumberedBy names.now) rules.now }
-    requires limit { limit ≤ 262144 }
+    requires limit { limit ≤ MOST_ENTRIES }
     requires slot { ∥ IsSlotWidth slot ∥₁ }
     ensures table { MatchResult result
         (λ table. IsCompiledIn order.now (named_rules names.now rules.now) slot (table_of table))

@@ -26,13 +26,14 @@ pub(crate) struct Kept<'a> {
 
 impl<'a> Kept<'a> {
     ghost use Rattle.std.specs.Prelude.{◌≡◌, ◌≤◌, ℕ, List, All, IfOk, MatchResult};
+    ghost use Rattle.razor_base.specs.declared.limits.TheConstants.{MOST_ENTRIES};
     ghost use Rattle.field_boxes.specs.NamedRules.{IsNumberedBy, named_rules};
     ghost use Rattle.node_store.specs.Diagram.{Node};
     ghost use Rattle.node_store.specs.Levels.{IsLevel};
     ghost use Rattle.ternary_words.specs.Limits.{IsSlotWidth};
     ghost use Rattle.ternary_words.specs.Views.{table_of};
     ghost use Rattle.fdd_build.specs.Builders.{IsBuilderOf};
-    ghost use Rattle.redundancy_laws.specs.Orders.{IsOrder};
+    ghost use Rattle.field_boxes.specs.Orders.{IsOrder};
     ghost use Rattle.redundancy.specs.Removal.{UnlessMemory};
     ghost use Rattle.table_compose.specs.LeastCost.{IsLeastCost};
     ghost use Rattle.rule_compilation.specs.Compiled.{IsCompiledIn, IsRefusedIn};
@@ -87,7 +88,7 @@ impl<'a> Kept<'a> {
         requires order { IsOrder order.now }
         requires kept { IsTrue order.now self.old }
         requires numbered { All (IsNumberedBy names.now) rules.now }
-        requires limit { limit ≤ 262144 }
+        requires limit { limit ≤ MOST_ENTRIES }
         requires slot { ∥ IsSlotWidth slot ∥₁ }
         ensures table { MatchResult result
             (λ table. IsCompiledIn order.now (named_rules names.now rules.now) slot (table_of table))

@@ -1,5 +1,6 @@
 //! How many entries rules come to.
 ghost use Rattle.std.specs.Prelude.{◌≡◌, ◌≤◌, ◌^◌, length, map};
+ghost use Rattle.razor_base.specs.declared.limits.TheConstants.{MOST_RULES};
 ghost use Rattle.field_boxes.specs.Rules.{rule_of};
 ghost use Rattle.field_boxes.specs.Fields.{stated};
 ghost use Rattle.rule_expansion.specs.Expansion.{covers, expanded_count, product_of_lengths};
@@ -11,7 +12,7 @@ use field_boxes::Rule;
 ///
 /// It takes no memory.
 pub fn entry_count(rules: &[Rule]) -> u128
-    requires { length rules.now ≤ 65536 }
+    requires { length rules.now ≤ MOST_RULES }
     ensures { result ≡ expanded_count (map rule_of rules.now) }
 {
     let mut count = 0;

@@ -1,5 +1,6 @@
 //! The table of an expansion, within a limit.
 ghost use Rattle.std.specs.Prelude.{◌≡◌, ◌≤◌, All, IfOk, MatchResult, length};
+ghost use Rattle.razor_base.specs.declared.limits.TheConstants.{MOST_RULES, MOST_ENTRIES};
 ghost use Rattle.field_boxes.specs.NamedRules.{IsNumberedBy, named_rules};
 ghost use Rattle.ternary_words.specs.Limits.{IsSlotWidth};
 ghost use Rattle.ternary_words.specs.Views.{table_of};
@@ -46,9 +47,9 @@ pub fn expand(
     limit: u32,
     slot: u16,
 ) -> Result<Table, ExpandError>
-    requires few { length rules.now ≤ 65536 }
+    requires few { length rules.now ≤ MOST_RULES }
     requires numbered { All (IsNumberedBy names.now) rules.now }
-    requires limit { limit ≤ 262144 }
+    requires limit { limit ≤ MOST_ENTRIES }
     requires slot { ∥ IsSlotWidth slot ∥₁ }
     ensures table { MatchResult result
         (λ table. IsExpansion (named_rules names.now rules.now) slot (table_of table))

@@ -2,6 +2,7 @@
 ghost use Rattle.std.specs.Prelude.{◌≡◌, ◌≤◌, ◌<◌, ◌^◌, ℕ, MatchResult, IfOk, map};
 ghost use Rattle.std.specs.List.{count_by};
 ghost use Rattle.std.specs.Str.{bytes_eq};
+ghost use Rattle.razor_base.specs.declared.limits.TheConstants.{MOST_RULES, MOST_ENTRIES};
 ghost use Rattle.field_boxes.specs.Fields.{stated};
 ghost use Rattle.field_boxes.specs.Names.{text_of};
 ghost use Rattle.list_generator.specs.DrawnRules.{generated};
@@ -14,15 +15,13 @@ ghost use Rattle.self_run.specs.Summaries.{IsSummary};
 use crate::summary::{Counts, Summary};
 use field_boxes::{Decisions, Header};
 use list_generator::generate_load;
+use razor_base::limits::MOST_ENTRIES;
 use rule_compilation::compile;
 use std::alloc::Global;
 use table_compose::ComposeError;
 use tcam_sim::{Device, loaded};
 use trace_run::answer;
 use trace_run::laws::{loaded_entries_answer, loaded_entries_have_names};
-
-/// The greatest number of entries.
-const LIMIT: u32 = 262_144;
 
 /// The width of a slot.
 const SLOT: u16 = 144;
@@ -67,14 +66,20 @@ fn counts<V: Device>(device: &V, names: &Decisions, headers: &[Header]) -> Count
 /// The table has at most 262,144 composed entries, for slots of 144 trits.
 pub fn self_run(alloc: Global, seed: u32, rules: u32) -> Result<Summary, ComposeError>
     requires seed { seed < 2 ^ 31 }
-    requires few { rules ≤ 65536 }
+    requires few { rules ≤ MOST_RULES }
     ensures summary { MatchResult result
         (λ summary. IsSummary seed rules summary)
-        (λ e. IsRefused (generated seed rules).rules 262144 e) }
-    ensures room { IfOk result (λ summary. (needed : ℕ) → IsLeastCost stated (generated seed rules).rules needed → needed ≤ 262144) }
+        (λ e. IsRefused (generated seed rules).rules MOST_ENTRIES e) }
+    ensures room { IfOk result (λ summary. (needed : ℕ) → IsLeastCost stated (generated seed rules).rules needed → needed ≤ MOST_ENTRIES) }
 {
     let load = generate_load(alloc, seed, rules)?;
-    let table = compile(alloc, &load.list.rules, &load.list.names, LIMIT, SLOT)?;
+    let table = compile(
+        alloc,
+        &load.list.rules,
+        &load.list.names,
+        MOST_ENTRIES,
+        SLOT,
+    )?;
     let bank = loaded(alloc, &table)?;
     loaded_entries_answer();
     loaded_entries_have_names();

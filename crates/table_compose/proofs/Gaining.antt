@@ -17,6 +17,7 @@ use Rattle.ternary_words.specs.Prefixes.{FitFields}
 use Rattle.prefix_min.specs.declared.row.PrefixRow.{PrefixRow}
 use Rattle.table_compose.specs.declared.row.Row.{Row}
 use Rattle.table_compose.specs.Rows.{row_of, rows_of, rows_at}
+use Rattle.field_boxes.proofs.Orders.{place_of_field}
 use Rattle.node_store.specs.Diagram.{Node, level_of, answer}
 use Rattle.node_store.specs.Store.{IsStore}
 use Rattle.table_compose.specs.Plans.{IsChild, IsListOf, width_of}
@@ -71,14 +72,6 @@ fit_set [] ps k p less fits fit = tt
 fit_set (f ∷ fs) [] k p less fits fit = tt
 fit_set (f ∷ fs) (q ∷ ps) zero p less fits fit = (fit, fits.1)
 fit_set (f ∷ fs) (q ∷ ps) (suc k) p less fits fit = (fits.0, fit_set fs ps k p (omega (arith, less)) fits.1 fit)
-
-pub place_of_field : (f : ℕ) → f < 5 → slice_index stated f ≡ f
-place_of_field zero h = refl
-place_of_field (suc zero) h = refl
-place_of_field (suc (suc zero)) h = refl
-place_of_field (suc (suc (suc zero))) h = refl
-place_of_field (suc (suc (suc (suc zero)))) h = refl
-place_of_field (suc (suc (suc (suc (suc f))))) h = absurd (omega (arith, h))
 
 pub fit_longer : (ps : List Prefix) (f : ℕ) (p : Prefix) → f < 5 → FitFields stated ps → FitsWidth (width f) p → FitFields stated (set ps f p)
 fit_longer ps f p five fits fit = fit_set stated ps f p five fits (subst (λ k. FitsWidth (width k) p) (sym (place_of_field f five)) fit)

@@ -12,8 +12,9 @@ use Rattle.field_boxes.specs.Fields.{width, stated, AreValues, IsHeader}
 use Rattle.field_boxes.specs.Prefix.{prefix_holds}
 use Rattle.ternary_words.specs.Prefixes.{all_hold}
 use Rattle.node_store.specs.Levels.{IsLevel}
-use Rattle.table_compose.specs.Composed.{placed, picked, open_all, Missing, AreDistinct}
-use Rattle.table_compose.proofs.Gaining.{place_of_field}
+use Rattle.table_compose.specs.Composed.{placed, open_all}
+use Rattle.field_boxes.specs.Orders.{picked, IsMissing, AreDistinct}
+use Rattle.field_boxes.proofs.Orders.{place_of_field, value_of}
 
 abbrev any : Prefix
 any = record { value = 0; len = 0 }
@@ -23,7 +24,7 @@ abbrev pub AreOpen : List ℕ → List Prefix → List ℕ → Type 0
 AreOpen [] base header = Unit {0}
 AreOpen (f ∷ level) base header = (prefix_holds (width f) (slice_index_or base f any) (slice_index header f) ≡ true) × AreOpen level base header
 
-still_open : (level : List ℕ) (base : List Prefix) (header : List ℕ) (f : ℕ) (p : Prefix) → Missing f level → AreOpen level base header → AreOpen level (set base f p) header
+still_open : (level : List ℕ) (base : List Prefix) (header : List ℕ) (f : ℕ) (p : Prefix) → IsMissing f level → AreOpen level base header → AreOpen level (set base f p) header
 still_open [] base header f p m h = tt
 still_open (g ∷ level) base header f p m h =
     (subst (λ q. prefix_holds (width g) q (slice_index header g) ≡ true) (sym (get_or-set_other base f g p any (λ e. m.0 e))) h.0, still_open level base header f p m.1 h.1)
@@ -62,21 +63,6 @@ placed_holds (f ∷ level) base (p ∷ ps) header is apart b h n opened =
     placed_holds level (set base f p) ps header is.1 apart.1 (length-set base f p ∙ b) h (omega (arith, n)) (still_open level base header f p apart.0 opened.1)
     ∙ ap (λ t. all_hold level ps (picked level header) && t) here
     ∙ first_in (all_hold level ps (picked level header)) (prefix_holds (width f) p (slice_index header f)) (all_hold stated base header)
-
--- the value of a field in a header
-value_at : (fs values : List ℕ) (k : ℕ) → k < length fs → AreValues fs values → slice_index values k < 2 ^ width (slice_index fs k)
-value_at [] values k less h = absurd (omega (arith, less))
-value_at (f ∷ fs) [] k less h = absurd h
-value_at (f ∷ fs) (v ∷ values) zero less h = h.0
-value_at (f ∷ fs) (v ∷ values) (suc k) less h = value_at fs values k (omega (arith, less)) h.1
-
-value_of : (header : List ℕ) (f : ℕ) → f < 5 → IsHeader header → slice_index header f < 2 ^ width f
-value_of header f five h = subst (λ k. slice_index header f < 2 ^ width k) (place_of_field f five) (value_at stated header f (omega (arith, five)) h)
-
--- a header's values of a level's fields are such values
-pub picked_values : (level header : List ℕ) → IsLevel level → IsHeader header → AreValues level (picked level header)
-picked_values [] header is h = tt
-picked_values (f ∷ level) header is h = (value_of header f is.0.0 h, picked_values level header is.1 h)
 
 any_by : (w k v : ℕ) → k ≡ w → v < 2 ^ w → nat_eq (v / 2 ^ k) (0 / 2 ^ k) ≡ true
 any_by w k v e h =

@@ -13,8 +13,10 @@ use Rattle.ternary_words.specs.Views.{word_of}
 use Rattle.node_store.specs.Diagram.{Node, level_of, answer}
 use Rattle.node_store.specs.Store.{IsStore}
 use Rattle.prefix_min.specs.declared.row.PrefixRow.{PrefixRow}
-use Rattle.table_compose.specs.Composed.{Box, boxes, HaveCosts, HaveLists, IsPlaced, placed, picked, open_all, AreDistinct, Gains, IsPrefixWord, decided}
-use Rattle.table_compose.proofs.Placing.{box_at, picked_values}
+use Rattle.table_compose.specs.Composed.{Box, boxes, HaveCosts, HaveLists, IsPlaced, placed, open_all, Gains, IsPrefixWord, decided}
+use Rattle.field_boxes.specs.Orders.{picked, AreDistinct}
+use Rattle.table_compose.proofs.Placing.{box_at}
+use Rattle.node_store.proofs.Orders.{picked_values}
 use Rattle.table_compose.proofs.Boxes.{prefix_count, count, decide_by, first_of}
 
 same_length : (level : List ℕ) (bs : List Box) (es : List Entry) → AllZip (IsPlaced level open_all) bs es → length es ≡ length bs

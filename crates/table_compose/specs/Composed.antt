@@ -65,20 +65,6 @@ IsPlaced level base box entry = IsWordOf entry.word (placed level base box.prefi
 abbrev pub open_all : List Prefix
 open_all = let p : Prefix = record { value = 0; len = 0 } in p ∷ p ∷ p ∷ p ∷ p ∷ []
 
--- the header's values of these fields, in their order
-abbrev pub picked : List ℕ → List ℕ → List ℕ
-picked level header = map (λ f. slice_index header f) level
-
--- the field isn't among these
-abbrev pub Missing : ℕ → List ℕ → Type 0
-Missing f [] = Unit {0}
-Missing f (g ∷ level) = (g ≢ f) × Missing f level
-
--- no field stands twice
-abbrev pub AreDistinct : List ℕ → Type 0
-AreDistinct [] = Unit {0}
-AreDistinct (f ∷ level) = Missing f level × AreDistinct level
-
 -- the entries are the table of the diagram over the level's fields, by prefix lists of its nodes
 pub record AreComposed (nodes : List Node) (level : List ℕ) (root : ℕ) (entries : List Entry) : Type 0 where
   pub lists : ℕ → List PrefixRow

@@ -4,13 +4,14 @@
 use Rattle.std.specs.Prelude.{◌≡◌, ℕ, ◌<◌, ◌≤◌, ◌^◌, List, [], ◌∷◌, Option, Some, sum_by, find}
 use Rattle.std.specs.List.{All}
 use Rattle.field_boxes.specs.declared.prefix.Prefix.{Prefix}
-use Rattle.field_boxes.specs.Fields.{width, AreValues}
+use Rattle.field_boxes.specs.Alike.{AreAlikeOver}
+use Rattle.field_boxes.specs.Fields.{width}
 use Rattle.field_boxes.specs.Prefix.{FitsWidth, prefix_holds}
 use Rattle.field_boxes.specs.Classifier.{Rule, source, residue}
 
 -- the two lists decide alike at all values of these fields
 abbrev pub AreAlike : {A : Type 0} → List ℕ → List (Rule A) → List (Rule A) → Type 0
-AreAlike fields R S = (values : List ℕ) → AreValues fields values → source fields values R ≡ source fields values S
+AreAlike fields R S = AreAlikeOver fields (λ values. source fields values R) (λ values. source fields values S)
 
 -- one pair of a plan: a prefix of the field and a value of it, with the cost of the residue at the value
 pub record Choice : Type 0 where

@@ -7,7 +7,8 @@ ghost use Rattle.node_store.specs.Diagram.{level_of, answer};
 ghost use Rattle.table_compose.specs.declared.composition.ComposeError.TheVariants.{Memory as OutOfMemory};
 ghost use Rattle.table_compose.specs.Diagrams.{IsCostOf};
 ghost use Rattle.table_compose.specs.Rows.{rows_at};
-ghost use Rattle.table_compose.specs.Composed.{HaveCosts, HaveLists, IsPlaced, picked, open_all, AreDistinct, boxes, AreComposed, decided, IsAnswer, IsPrefixWord, IsRefusal};
+ghost use Rattle.table_compose.specs.Composed.{HaveCosts, HaveLists, IsPlaced, open_all, boxes, AreComposed, decided, IsAnswer, IsPrefixWord, IsRefusal};
+ghost use Rattle.field_boxes.specs.Orders.{picked, AreDistinct};
 
 use crate::diagram_plans::Plans;
 use crate::entries::add_table;

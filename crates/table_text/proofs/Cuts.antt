@@ -1,40 +1,11 @@
--- A text cut at its first separator, and the lines of a text.
-use Rattle.std.proofs.Common.{◌≡◌, ◌≢◌, ◌∷◌, ℕ, suc, ◌+◌, ◌<◌, ◌≤◌, List, Bool, true, false, cond, [], ap, refl, sym, ◌∙◌, arith, length, take, drop, add-one, Some, None, nat_lt}
-use Rattle.std.specs.Prelude.{position, Option, option_map, not, nat_eq, MatchOption}
-use Rattle.std.specs.List.{position_or_len}
-use Rattle.std.proofs.lemmas.Bool.{false≢true, ltb-true, ltb-false, lt-ltb, le-ltb}
-use Rattle.std.proofs.lemmas.Bool.Decides.{nat_tests}
-use Rattle.table_text.specs.Steps.{split_once}
+-- The lines of a text, cut off at their line feeds and cut again where they were joined.
+use Rattle.std.proofs.Common.{◌≡◌, ◌≢◌, ◌∷◌, ◌++◌, ℕ, List, Bool, true, false, cond, [], ap, refl, Some, None, Option, option_map, nat_eq, ◌==◌, MatchOption}
+use Rattle.std.specs.List.{list_all}
+use Rattle.std.proofs.lemmas.Bool.{and_parts, not-true}
+use Rattle.text_lines.specs.Cuts.{split_once}
+use Rattle.text_lines.proofs.Cuts.{split_once-cons}
+use Rattle.text_lines.proofs.Joins.{is_other}
 use Rattle.table_text.specs.Lines.{Line, lines_of, onto_first}
-
-found_or_not : (n len : ℕ) (t : Bool) → nat_lt n len ≡ t → cond (nat_lt (1 + n) (suc len)) (Some (1 + n)) None ≡ option_map (λ i. i + 1) (cond t (Some n) None)
-found_or_not n len true h =
-    let lt : n < len = ltb-true n len h in
-    let e : nat_lt (1 + n) (suc len) ≡ true = lt-ltb (1 + n) (suc len) (omega arith) in
-    let same : 1 + n ≡ n + 1 = omega arith in
-    rw e (ap Some same)
-found_or_not n len false h =
-    let le : len ≤ n = ltb-false n len h in
-    let e : nat_lt (1 + n) (suc len) ≡ false = le-ltb (1 + n) (suc len) (omega arith) in
-    rw e refl
-
-position_step : (t : Bool) (n len : ℕ) → cond (nat_lt (cond (not t) (1 + n) 0) (suc len)) (Some (cond (not t) (1 + n) 0)) None ≡ cond t (Some 0) (option_map (λ i. i + 1) (cond (nat_lt n len) (Some n) None))
-position_step true n len = let e : nat_lt 0 (suc len) ≡ true = grind (arith, nat_tests) in rw e refl
-position_step false n len = found_or_not n len (nat_lt n len) refl
-
--- the first place in a list of one more
-pub position-cons : {X : Type 0} (p : X → Bool) (x : X) (xs : List X) → position p (x ∷ xs) ≡ cond (p x) (Some 0) (option_map (λ i. i + 1) (position p xs))
-position-cons p x xs = position_step (p x) (position_or_len p xs) (length xs)
-
-split_step : (b : ℕ) (bs : List ℕ) (t : Bool) (o : Option ℕ) →
-    option_map {U = List ℕ × List ℕ} (λ i. (take i (b ∷ bs), drop (i + 1) (b ∷ bs))) (cond t (Some 0) (option_map (λ i. i + 1) o)) ≡ cond t (Some ([], bs)) (option_map {U = List ℕ × List ℕ} (λ p. (b ∷ p.0, p.1)) (option_map {U = List ℕ × List ℕ} (λ i. (take i bs, drop (i + 1) bs)) o))
-split_step b bs true o = refl
-split_step b bs false None = refl
-split_step b bs false (Some i) = let e : i + 1 ≡ suc i = add-one i in let f : i + 1 + 1 ≡ suc (i + 1) = add-one (i + 1) in rw (f, e) refl
-
--- a cut of a text of one byte more
-pub split_once-cons : (s b : ℕ) (bs : List ℕ) → split_once s (b ∷ bs) ≡ cond (nat_eq b s) (Some ([], bs)) (option_map {U = List ℕ × List ℕ} (λ p. (b ∷ p.0, p.1)) (split_once s bs))
-split_once-cons s b bs = ap (option_map {U = List ℕ × List ℕ} (λ i. (take i (b ∷ bs), drop (i + 1) (b ∷ bs)))) (position-cons (λ c. nat_eq c s) b bs) ∙ split_step b bs (nat_eq b s) (position (λ c. nat_eq c s) bs)
 
 abbrev pub whole_line : List ℕ → Bool → Line
 whole_line text ended = record { text = text; ended = ended }
@@ -56,6 +27,9 @@ pub cuts_line : (text : List ℕ) → CutsLine text (split_once 10 text)
 cuts_line [] = λ some. absurd (some refl)
 cuts_line (b ∷ bs) = rw (split_once-cons 10 b bs) (cut_step b bs (nat_eq b 10) (split_once 10 bs) refl (cuts_line bs))
 
--- a text that doesn't test as empty has a byte
-pub has_byte : (text : List ℕ) → nat_eq (length text) 0 ≡ false → text ≢ []
-has_byte text h e = false≢true (sym h ∙ ap (λ (t : List ℕ). nat_eq (length t) 0) e)
+-- a line, and then its end and a rest
+pub lines_of-line : (line rest : List ℕ) → list_all (is_other 10) line ≡ true → lines_of (line ++ 10 ∷ rest) ≡ whole_line line true ∷ lines_of rest
+lines_of-line [] rest h = refl
+lines_of-line (b ∷ line) rest h =
+    let parts = and_parts (is_other 10 b) (list_all (is_other 10) line) h in
+    rw (not-true (b == 10) parts.0) (ap (onto_first b) (lines_of-line line rest parts.1))

@@ -1,6 +1,5 @@
 -- The line of an entry is read as it is written.
-use Rattle.std.proofs.Common.{◌≡◌, ◌∷◌, ◌++◌, ℕ, ◌*◌, ◌/◌, ◌%◌, ◌^◌, List, Bool, true, [], ap, refl, sym, ◌∙◌, arith, append_assoc, Some}
-use Rattle.std.specs.Prelude.{Option, Ok, ◌&&◌, bit_and}
+use Rattle.std.proofs.Common.{◌≡◌, ◌∷◌, ◌++◌, ℕ, ◌*◌, ◌/◌, ◌%◌, ◌^◌, List, Bool, true, [], ap, refl, sym, ◌∙◌, arith, append_assoc, Some, Option, Ok, ◌&&◌, bit_and}
 use Rattle.std.specs.List.{list_all}
 use Rattle.std.proofs.lemmas.Bool.{and_from, eq-eqb}
 use Rattle.field_boxes.specs.Bits.{bits}
@@ -17,7 +16,7 @@ use Rattle.table_text.specs.Names.{decided, is_decision}
 use Rattle.table_text.specs.Reading.{columns_entry}
 use Rattle.table_text.proofs.Cuts.{whole_line}
 use Rattle.table_text.proofs.HexTexts.{hex_all, masked-read}
-use Rattle.table_text.proofs.Joins.{all_joined, is_other, split_once-joined}
+use Rattle.text_lines.proofs.Joins.{all_joined, is_other, split_once-joined}
 use Rattle.table_text.proofs.Spelled.{columns-is, decided-ok}
 
 -- five columns, and then what stands behind them
@@ -126,7 +125,7 @@ columns-written w rest =
 no_line : (k v m : ℕ) → list_all (is_other 10) (column k v m) ≡ true
 no_line k v m = column-all (is_other 10) k v m (hex_all (is_other 10) refl k) refl
 
-front_all : (p : ℕ → Bool) (a rest : List ℕ) → list_all p a ≡ true → p 32 ≡ true → list_all p rest ≡ true → list_all p (a ++ 32 ∷ rest) ≡ true
+pub front_all : (p : ℕ → Bool) (a rest : List ℕ) → list_all p a ≡ true → p 32 ≡ true → list_all p rest ≡ true → list_all p (a ++ 32 ∷ rest) ≡ true
 front_all p a rest ha space h = all_joined p a (32 ∷ rest) ha (and_from (p 32) (list_all p rest) space h)
 
 before-all : (p : ℕ → Bool) (a b c d e rest : List ℕ) → p 32 ≡ true → list_all p a ≡ true → list_all p b ≡ true → list_all p c ≡ true → list_all p d ≡ true → list_all p e ≡ true → list_all p rest ≡ true → list_all p (before a b c d e rest) ≡ true

@@ -1,18 +1,15 @@
 -- The first line of a table is written as it was read.
-use Rattle.std.proofs.Common.{◌≡◌, ◌∷◌, ◌++◌, ℕ, List, Bool, true, false, cond, [], ap, refl, sym, ◌∙◌, arith, Some, None}
-use Rattle.std.specs.Prelude.{◌&&◌, codes}
-use Rattle.std.specs.Fmt.{decimal}
-use Rattle.std.specs.Str.{bytes_eq}
+use Rattle.std.proofs.Common.{◌≡◌, ◌∷◌, ◌++◌, ℕ, List, Bool, true, false, cond, [], ap, refl, sym, ◌∙◌, arith, Some, None, ◌&&◌, codes, decimal, bytes_eq}
 use Rattle.std.proofs.lemmas.Bool.{and_parts}
-use Rattle.std.proofs.lemmas.Option.{option_and_then_some}
+use Rattle.std.proofs.lemmas.Option.{cond_some, option_and_then_some}
 use Rattle.std.proofs.lemmas.Slice.Eq.{bytes_eq-Decides}
 use Rattle.table_text.specs.declared.heading.Version.TheVariants.{Trits, Columns}
 use Rattle.table_text.specs.Heading.{Heading, Words, heading_of, is_labelled, slot_of, version_of, words_of}
-use Rattle.table_text.specs.Numbers.{plain_number}
-use Rattle.table_text.specs.Steps.{split_once}
-use Rattle.table_text.proofs.CutBack.{split_back}
+use Rattle.text_lines.specs.Cuts.{split_once}
+use Rattle.text_lines.specs.Numbers.{plain_number}
+use Rattle.text_lines.proofs.Joins.{split_back}
 use Rattle.table_text.proofs.HeadingTexts.{first_text, three_digits}
-use Rattle.table_text.proofs.NumberBack.{plain_back}
+use Rattle.text_lines.proofs.NumberBack.{plain_back}
 
 -- eight words with a space between them
 abbrev with_spaces : List ℕ → List ℕ → List ℕ → List ℕ → List ℕ → List ℕ → List ℕ → List ℕ → List ℕ
@@ -38,9 +35,8 @@ words_back line w h =
     ∙ ap joined same)))))))
 
 version_step : (text : List ℕ) (s t : Bool) → bytes_eq text (49 ∷ []) ≡ s → bytes_eq text (50 ∷ []) ≡ t → cond s (Some Trits) (cond t (Some Columns) None) ≡ Some Columns → text ≡ 50 ∷ []
-version_step text true t es et h = absurd cc
 version_step text false true es et h = (bytes_eq-Decides text (50 ∷ [])).0 et
-version_step text false false es et h = absurd cc
+version_step text s t es et h = absurd cc
 
 version_back : (text : List ℕ) → version_of text ≡ Some Columns → text ≡ codes "2"
 version_back text h = version_step text (bytes_eq text (49 ∷ [])) (bytes_eq text (50 ∷ [])) refl refl h
@@ -65,10 +61,6 @@ eight_same w slot composed entries labelled version hs hc he =
     let b = and_parts (bytes_eq w.table (codes "table")) (bytes_eq w.slot (codes "slot")) c.0 in
     rw ((bytes_eq-Decides w.table (codes "table")).0 b.0, version, (bytes_eq-Decides w.slot (codes "slot")).0 b.1, hs, (bytes_eq-Decides w.composed (codes "composed")).0 c.1, hc, (bytes_eq-Decides w.entries (codes "entries")).0 d.1, he) refl
 
-label_step : (w : Words) (made h : Heading) (t : Bool) → is_labelled w ≡ t → cond t (Some made) None ≡ Some h → (is_labelled w ≡ true) × (made ≡ h)
-label_step w made h true e is = let same : made ≡ h = cc in (e, same)
-label_step w made h false e is = absurd cc
-
 -- a first line of the second version
 pub heading_back : (line : List ℕ) (h : Heading) → heading_of line ≡ Some h → h.version ≡ Columns → line ≡ first_text (decimal h.slot) (decimal h.composed) (decimal h.entries)
 unfolding heading_of
@@ -79,7 +71,7 @@ heading_back line h is version =
     option_and_then_some _ (plain_number 262144 w.composed_number) h hs (λ c ec hc.
     option_and_then_some _ (plain_number 262144 w.entries_number) h hc (λ n en hn.
     let made : Heading = record { version = v; slot = s; composed = c; entries = n } in
-    let last = label_step w made h (is_labelled w) refl hn in
+    let last = cond_some (is_labelled w) made h hn in
     let second : v ≡ Columns = ap (λ (x : Heading). x.version) last.1 ∙ version in
     words_back line w ew
     ∙ eight_same w (decimal s) (decimal c) (decimal n) last.0 (version_back w.version (ev ∙ ap (λ x. Some x) second)) (slot_back w.slot_number s es) (sym (plain_back 262144 w.composed_number c (omega arith) ec)) (sym (plain_back 262144 w.entries_number n (omega arith) en))

@@ -1,10 +1,8 @@
 -- The first line of a table is read as it is written.
-use Rattle.std.proofs.Common.{◌≡◌, ◌∷◌, ◌++◌, ℕ, ◌+◌, ◌*◌, ◌/◌, ◌%◌, ◌^◌, ◌<◌, ◌≤◌, List, Bool, true, false, [], ap, refl, sym, ◌∙◌, arith, append_assoc, length, inl, inr, Some}
-use Rattle.std.specs.Prelude.{◌||◌, ◌==◌, codes}
+use Rattle.std.proofs.Common.{◌≡◌, ◌∷◌, ◌++◌, ℕ, ◌+◌, ◌*◌, ◌/◌, ◌%◌, ◌^◌, ◌<◌, ◌≤◌, List, Bool, true, false, [], ap, refl, sym, ◌∙◌, arith, append_assoc, length, inl, inr, Some, ◌||◌, ◌==◌, codes, decimal}
 use Rattle.std.specs.List.{list_all}
-use Rattle.std.specs.Fmt.{decimal}
 use Rattle.std.proofs.Math.Logic.{∥∥₁_elim}
-use Rattle.std.proofs.lemmas.Bool.{and_from, eqb-true, or_cases}
+use Rattle.std.proofs.lemmas.Bool.{eqb-true, or_cases}
 use Rattle.std.proofs.lemmas.Fmt.{decimal_digit, decimal_step}
 use Rattle.std.proofs.Math.Nat.{ℕ_set}
 use Rattle.ternary_words.specs.Hexadecimal.{bit_number}
@@ -13,9 +11,10 @@ use Rattle.ternary_words.specs.Table.{Table}
 use Rattle.ternary_words.specs.TableText.{first_line}
 use Rattle.table_text.specs.declared.heading.Version.TheVariants.{Columns}
 use Rattle.table_text.specs.Heading.{Words, heading_of, slot_of, words_of}
-use Rattle.table_text.specs.Numbers.{plain_number}
-use Rattle.table_text.proofs.Joins.{all_joined, is_other, split_once-joined}
-use Rattle.table_text.proofs.NumberTexts.{decimal-other, plain_number-decimal}
+use Rattle.table_text.proofs.EntryTexts.{front_all}
+use Rattle.text_lines.specs.Numbers.{plain_number}
+use Rattle.text_lines.proofs.Decimals.{decimal-other, plain_number-decimal}
+use Rattle.text_lines.proofs.Joins.{is_other, split_once-joined}
 
 -- the eight words with a space between them
 abbrev pub first_text : List ℕ → List ℕ → List ℕ → List ℕ
@@ -106,12 +105,9 @@ in_words slot composed entries rest = simp append_assoc
 pub heading-written : (t : Table) (rest : List ℕ) → first_line t ++ rest ≡ first_text (decimal t.slot) (decimal t.composed) (decimal (length t.entries)) ++ 10 ∷ rest
 heading-written t rest = in_words (decimal t.slot) (decimal t.composed) (decimal (length t.entries)) rest
 
-after_word : (p : ℕ → Bool) (a rest : List ℕ) → list_all p a ≡ true → p 32 ≡ true → list_all p rest ≡ true → list_all p (a ++ 32 ∷ rest) ≡ true
-after_word p a rest ha space h = all_joined p a (32 ∷ rest) ha (and_from (p 32) (list_all p rest) space h)
-
 -- no byte of the first line ends it
 pub heading-line : (slot composed entries : ℕ) → ∥ IsSlotWidth slot ∥₁ → composed < 2 ^ 64 → entries < 2 ^ 64 → list_all (is_other 10) (first_text (decimal slot) (decimal composed) (decimal entries)) ≡ true
 heading-line slot composed entries h hc he =
     let hs = small_width slot (width_of slot h) in
-    after_word (is_other 10) (decimal slot) (codes "composed" ++ 32 ∷ (decimal composed ++ 32 ∷ (codes "entries" ++ 32 ∷ decimal entries))) (decimal-other 10 slot (omega arith) hs) refl
-    (after_word (is_other 10) (decimal composed) (codes "entries" ++ 32 ∷ decimal entries) (decimal-other 10 composed (omega arith) hc) refl (decimal-other 10 entries (omega arith) he))
+    front_all (is_other 10) (decimal slot) (codes "composed" ++ 32 ∷ (decimal composed ++ 32 ∷ (codes "entries" ++ 32 ∷ decimal entries))) (decimal-other 10 slot (omega arith) hs) refl
+    (front_all (is_other 10) (decimal composed) (codes "entries" ++ 32 ∷ decimal entries) (decimal-other 10 composed (omega arith) hc) refl (decimal-other 10 entries (omega arith) he))

@@ -1,6 +1,5 @@
 -- Columns are written as they were read, where their digits are in upper case.
-use Rattle.std.proofs.Common.{◌≡◌, ◌∷◌, ◌++◌, ℕ, suc, ◌+◌, ◌*◌, ◌/◌, ◌%◌, ◌^◌, ◌<◌, ◌≤◌, List, Bool, true, false, cond, [], ap, refl, sym, ◌∙◌, arith, fold, length, nat_lt, nat_eq, inl, inr, Some, None}
-use Rattle.std.specs.Prelude.{◌&&◌, ◌||◌, not, nat_le}
+use Rattle.std.proofs.Common.{◌≡◌, ◌∷◌, ◌++◌, ℕ, suc, ◌+◌, ◌*◌, ◌/◌, ◌%◌, ◌^◌, ◌<◌, ◌≤◌, List, Bool, true, false, cond, [], ap, refl, sym, ◌∙◌, arith, fold, length, nat_lt, nat_eq, inl, inr, Some, None, ◌&&◌, ◌||◌, not, nat_le}
 use Rattle.std.specs.List.{list_all}
 use Rattle.std.specs.Char.{digit_value}
 use Rattle.std.proofs.lemmas.Bool.{agree_below_at, and_parts, eqb-true, false≢true, ltb-true, not_from_true, or_cases}
@@ -12,10 +11,10 @@ use Rattle.field_boxes.proofs.Bits.{bits-mod}
 use Rattle.ternary_words.specs.Hexadecimal.{hex_digit, hex_digits}
 use Rattle.ternary_words.proofs.Columns.{hex_of, hex-number}
 use Rattle.table_text.specs.Columns.{Masked, hex_number, masked_of}
-use Rattle.table_text.specs.Numbers.{is_number, number_of, number_within}
-use Rattle.table_text.specs.Steps.{split_once}
+use Rattle.text_lines.specs.Cuts.{split_once}
+use Rattle.text_lines.specs.Numbers.{is_number, number_of, number_within}
 use Rattle.table_text.specs.UpperCase.{is_upper}
-use Rattle.table_text.proofs.CutBack.{split_back}
+use Rattle.text_lines.proofs.Joins.{split_back}
 use Rattle.table_text.proofs.EntryTexts.{column}
 
 abbrev is_hex : ℕ → Bool
@@ -39,10 +38,7 @@ from_more : (text : List ℕ) (n : ℕ) → from n text ≡ n * 2 ^ (4 * length 
 from_more [] n = omega arith
 from_more (b ∷ text) n =
     let d = digit_value b in
-    let one = from_more text (n * 16 + d) in
-    let two = from_more text (0 * 16 + d) in
-    let power = four_more (length text) in
-    rw (one, two, power) (omega arith)
+    rw (from_more text (n * 16 + d), from_more text (0 * 16 + d), four_more (length text)) (omega arith)
 
 from_below : (text : List ℕ) → list_all is_hex text ≡ true → from 0 text < 2 ^ (4 * length text)
 from_below [] h = omega arith
@@ -50,11 +46,8 @@ from_below (b ∷ text) h =
     let d = digit_value b in
     let parts = and_parts (is_hex b) (list_all is_hex text) h in
     let small = ltb-true d 16 parts.0 in
-    let rest = from_below text parts.1 in
-    let one = from_more text (0 * 16 + d) in
-    let power = four_more (length text) in
     let most : (d + 1) * 2 ^ (4 * length text) ≤ 16 * 2 ^ (4 * length text) = mul-le-mul_right (2 ^ (4 * length text)) (omega (arith, small)) in
-    rw (one, power) (omega (arith, rest, most))
+    rw (from_more text (0 * 16 + d), four_more (length text)) (omega (arith, from_below text parts.1, most))
 
 -- the digits see no higher part
 hex_low : (k n : ℕ) → hex_of k n ≡ hex_of k (n % 2 ^ (4 * k))
@@ -82,13 +75,12 @@ hex_back (b ∷ text) h upper =
 
 hex_step : (k greatest : ℕ) (text : List ℕ) (n : ℕ) (s t : Bool) → nat_eq (length text) k ≡ s → (is_number 16 text && nat_le (number_of 16 text) greatest) ≡ t → is_upper text ≡ true →
     cond s (cond t (Some (number_of 16 text)) None) None ≡ Some n → text ≡ hex_of k n
-hex_step k greatest text n false t es et upper h = absurd cc
-hex_step k greatest text n true false es et upper h = absurd cc
 hex_step k greatest text n true true es et upper h =
     let same : number_of 16 text ≡ n = cc in
     let parts = and_parts (is_number 16 text) (nat_le (number_of 16 text) greatest) et in
     let digits = and_parts (nat_lt 0 (length text)) (list_all is_hex text) parts.0 in
     sym (hex_back text digits.1 upper) ∙ ap (λ m. hex_of m (number_of 16 text)) (eqb-true (length text) k es) ∙ ap (hex_of k) same
+hex_step k greatest text n s t es et upper h = absurd cc
 
 number_back : (k greatest : ℕ) (text : List ℕ) (n : ℕ) → hex_number k greatest text ≡ Some n → is_upper text ≡ true → text ≡ hex_of k n
 unfolding hex_number number_within

@@ -6,9 +6,9 @@ use Rattle.std.proofs.lemmas.Bool.{agree_below, agree_below_at, and_from, eq-eqb
 use Rattle.std.proofs.lemmas.Nat.{mod-pow-add, mod_below, pow-add, pow_pos}
 use Rattle.ternary_words.specs.Hexadecimal.{hex_digit}
 use Rattle.ternary_words.proofs.Columns.{hex_of}
-use Rattle.table_text.specs.Numbers.{is_number, number_of, number_within}
+use Rattle.text_lines.specs.Numbers.{is_number, number_of, number_within}
+use Rattle.text_lines.proofs.Joins.{is_other, split_once-joined}
 use Rattle.table_text.specs.Columns.{hex_number, masked_of}
-use Rattle.table_text.proofs.Joins.{is_other, split_once-joined}
 
 -- what holds of each of the sixteen digits holds of all
 pub hex_all : (p : ℕ → Bool) → agree_below (λ d. p (hex_digit d)) (λ d. true) 16 ≡ true → (k n : ℕ) → list_all p (hex_of k n) ≡ true

@@ -1,17 +1,15 @@
 -- Names are read as they are written.
-use Rattle.std.proofs.Common.{◌≡◌, ◌∷◌, ℕ, zero, suc, ◌<◌, ◌≤◌, List, Bool, true, false, cond, [], refl, sym, ◌∙◌, arith, length, inl, inr, Some, None}
-use Rattle.std.specs.Prelude.{All, IsTrue, ◌&&◌, ◌||◌, not, ◌==◌, is_some, nat_le, nat_lt, slice_get}
+use Rattle.std.proofs.Common.{◌≡◌, ◌∷◌, ℕ, zero, suc, ◌<◌, ◌≤◌, List, Bool, true, false, cond, [], refl, sym, ◌∙◌, arith, length, inl, inr, Some, None, All, IsTrue, ◌&&◌, ◌||◌, not, ◌==◌, is_some, nat_le, nat_lt, slice_get, bytes_eq}
 use Rattle.std.specs.List.{AllByRecursion, list_all}
 use Rattle.std.proofs.lemmas.List.Elements.{recursion_from_All}
-use Rattle.std.specs.Str.{bytes_eq}
 use Rattle.std.proofs.lemmas.Bool.{agree_below_at, and_parts, eqb-true, false≢true, not-true, not_from_true, or_cases}
 use Rattle.std.proofs.lemmas.Bool.Decides.{nat_tests}
 use Rattle.field_boxes.specs.Names.{has_word_form, is_decision_word, is_word_byte, miss, name_at}
 use Rattle.table_text.specs.Names.{is_name, is_rule_name}
-use Rattle.table_text.specs.Numbers.{has_leading_zero, is_number, number_of, number_within, plain_number}
+use Rattle.text_lines.specs.Numbers.{has_leading_zero, is_number, number_of, number_within, plain_number}
+use Rattle.text_lines.proofs.Decimals.{digit_other, is_digit}
+use Rattle.text_lines.proofs.Joins.{all_wider, is_other}
 use Rattle.table_text.proofs.EntryTexts.{IsSpelled}
-use Rattle.table_text.proofs.Joins.{all_wider, is_other}
-use Rattle.table_text.proofs.NumberTexts.{digit_other, is_digit}
 
 -- a byte of a word is of ASCII
 word_low : (b : ℕ) → is_word_byte b ≡ true → b < 128

@@ -1,9 +1,7 @@
 -- The entries that were read so far, in front of what the lines that are left come to.
-use Rattle.std.proofs.Common.{◌≡◌, ◌∷◌, ◌++◌, ℕ, zero, suc, ◌+◌, ◌-◌, ◌<◌, List, [], Ok, Err, take, refl, ap, sym, subst, ◌∙◌, arith, append_assoc, append-nil, ne_eqb, eq-eqb}
-use Rattle.std.specs.Prelude.{Result, min}
+use Rattle.std.proofs.Common.{◌≡◌, ◌∷◌, ◌++◌, ℕ, suc, ◌+◌, ◌-◌, ◌<◌, List, [], Ok, Err, take, refl, ap, sym, ◌∙◌, arith, append_assoc, append-nil, eq-eqb, Result}
 use Rattle.ternary_words.specs.Table.{Entry, Table}
 use Rattle.table_text.specs.declared.error.TableReason.{TableReason}
-use Rattle.table_text.specs.declared.error.TableReason.TheVariants.{Count}
 use Rattle.table_text.specs.Lines.{Line}
 use Rattle.table_text.specs.Heading.{Heading}
 use Rattle.table_text.specs.Reading.{BadLine, entry_of, in_front, entries_of, counted}
@@ -26,17 +24,6 @@ err_at number reason = Err (bad_at number reason)
 -- what is read of the lines after so many
 abbrev pub resumed : Heading → List Entry → ℕ → List Line → Result (List Entry) BadLine
 resumed heading front place lines = with_front front (entries_of heading (place + 2) (take (heading.entries - place) lines))
-
-nothing_before : (r : Result (List Entry) BadLine) → with_front [] r ≡ r
-nothing_before (Ok entries) = refl
-nothing_before (Err bad) = refl
-
--- nothing was read yet
-pub resumed-none : (heading : Heading) (lines : List Line) → resumed heading [] 0 lines ≡ entries_of heading 2 (take heading.entries lines)
-resumed-none heading lines =
-    let two : 0 + 2 ≡ 2 = omega arith in
-    let all : heading.entries - 0 ≡ heading.entries = omega arith in
-    nothing_before (entries_of heading (0 + 2) (take (heading.entries - 0) lines)) ∙ ap (λ n. entries_of heading n (take (heading.entries - 0) lines)) two ∙ ap (λ n. entries_of heading 2 (take n lines)) all
 
 front_in : (front : List Entry) (number : ℕ) (entry : Entry) (r : Result (List Entry) BadLine) → with_front front (in_front number (Ok entry) r) ≡ with_front (front ++ entry ∷ []) r
 front_in front number entry (Ok entries) = let e : front ++ entry ∷ entries ≡ (front ++ entry ∷ []) ++ entries = sym (append_assoc front (entry ∷ []) entries) in ap (λ es. Ok es) e
@@ -74,18 +61,6 @@ resumed-bad heading front place line lines reason lt is =
     ap (with_front front) (first_taken heading place line lines lt)
     ∙ ap (λ r. with_front front (in_front (place + 2) r (entries_of heading (place + 1 + 2) (take (heading.entries - (place + 1)) lines)))) is
 
-abbrev no_lines : List Line
-no_lines = []
-
-take_none : (n : ℕ) → take n no_lines ≡ no_lines
-take_none zero = refl
-take_none (suc n) = refl
-
--- no line is left
-pub resumed-end : (heading : Heading) (front : List Entry) (place : ℕ) → resumed heading front place [] ≡ Ok front
-resumed-end heading front place =
-    ap (λ ls. with_front front (entries_of heading (place + 2) ls)) (take_none (heading.entries - place)) ∙ ap (λ es. Ok es) (append-nil front)
-
 -- all lines that were to be read were
 pub resumed-all : (heading : Heading) (front : List Entry) (lines : List Line) → resumed heading front heading.entries lines ≡ Ok front
 resumed-all heading front lines =
@@ -97,12 +72,6 @@ pub counted_same : (heading : Heading) (found : ℕ) (read : Result (List Entry)
 counted_same heading found read entries is same =
     ap (counted heading found) is ∙ rw (eq-eqb found heading.entries same) refl
 
--- another number of lines was found
-pub counted_other : (heading : Heading) (found : ℕ) (read : Result (List Entry) BadLine) (entries : List Entry) → read ≡ Ok entries → (found ≡ heading.entries → ⊥) →
-    counted heading found read ≡ Err (bad_at (min heading.entries found + 2) (Count heading.entries found))
-counted_other heading found read entries is other =
-    ap (counted heading found) is ∙ rw (ne_eqb found heading.entries other) refl
-
 pub counted_bad : (heading : Heading) (found : ℕ) (read : Result (List Entry) BadLine) (bad : BadLine) → read ≡ Err bad → counted heading found read ≡ Err bad
 counted_bad heading found read bad is = ap (counted heading found) is
 
@@ -111,8 +80,3 @@ pub refused : (error : TableError) (number : ℕ) (read : Result Entry TableReas
     ((reason : TableReason) → read ≡ Err reason → whole ≡ Err (bad_at number reason)) → IsRefused error whole
 refused errors.Memory number read whole h f = tt
 refused (errors.BadLine line reason) number read whole h f = f reason h.1 ∙ ap (λ n. Err (bad_at n reason)) (sym h.0)
-
--- another number of lines was found, and the text is refused for that
-pub refused_count : (error : TableError) (stated found : ℕ) (whole : Result Table BadLine) → error ≡ errors.BadLine (min stated found + 2) (Count stated found) →
-    whole ≡ Err (bad_at (min stated found + 2) (Count stated found)) → IsRefused error whole
-refused_count error stated found whole e h = subst (λ x. IsRefused x whole) (sym e) h

@@ -1,13 +1,12 @@
 -- What a line spells, step by step.
-use Rattle.std.proofs.Common.{◌≡◌, ℕ, List, Bool, true, false, Option, Some, Ok, Err, length, refl, ap, sym, ◌∙◌, eq-eqb}
-use Rattle.std.specs.Prelude.{Result, not, ◌==◌, if◌then◌else◌}
+use Rattle.std.proofs.Common.{◌≡◌, ℕ, List, Bool, true, false, Option, Some, Ok, Err, length, refl, ap, sym, ◌∙◌, eq-eqb, Result, not, ◌==◌, if◌then◌else◌}
 use Rattle.std.specs.List.{list_all}
 use Rattle.ternary_words.specs.Word.{Trit as Place}
 use Rattle.ternary_words.specs.Table.{Entry}
 use Rattle.table_text.specs.declared.error.TableReason.{TableReason}
 use Rattle.table_text.specs.declared.error.TableReason.TheVariants.{WordLength, Trit, Padding, Decision}
 use Rattle.table_text.specs.Lines.{Line}
-use Rattle.table_text.specs.Steps.{split_once, front_or_all, rest_of}
+use Rattle.text_lines.specs.Cuts.{parts_at}
 use Rattle.table_text.specs.Names.{is_decision, decided}
 use Rattle.table_text.specs.Trits.{is_trit, is_padded, word_of_trits}
 use Rattle.table_text.specs.Columns.{LineColumns, Fields, columns_of, fields_of, are_within, word_of_fields}
@@ -24,7 +23,7 @@ abbrev trits_body : ℕ → Bool → List ℕ → Option (List ℕ) → Result E
 trits_body slot ended word text =
     if not (length word == slot) then Err WordLength else (if not (list_all is_trit word) then Err Trit else (if not (is_padded word) then Err Padding else with_decision ended (word_of_trits word) text))
 
-trits_as : (slot : ℕ) (line : Line) → trits_entry slot line ≡ trits_body slot line.ended (front_or_all line.text (split_once 32 line.text)) (rest_of (split_once 32 line.text))
+trits_as : (slot : ℕ) (line : Line) → trits_entry slot line ≡ trits_body slot line.ended (parts_at 32 line.text).0 (parts_at 32 line.text).1
 unfolding trits_entry
 trits_as slot line = refl
 
@@ -33,10 +32,10 @@ trits_last : (slot : ℕ) (ended : Bool) (word : List ℕ) (text : Option (List 
 trits_last slot ended word text size trits padded = rw (eq-eqb (length word) slot size, trits, padded) refl
 
 -- a line of the first version whose word is good
-pub trits-is : (slot : ℕ) (line : Line) (word : List ℕ) (text : Option (List ℕ)) (spelled : List Place) → word ≡ front_or_all line.text (split_once 32 line.text) → text ≡ rest_of (split_once 32 line.text) →
+pub trits-is : (slot : ℕ) (line : Line) (word : List ℕ) (text : Option (List ℕ)) (spelled : List Place) → word ≡ (parts_at 32 line.text).0 → text ≡ (parts_at 32 line.text).1 →
     length word ≡ slot → list_all is_trit word ≡ true → is_padded word ≡ true → spelled ≡ word_of_trits word → trits_entry slot line ≡ with_decision line.ended spelled text
 trits-is slot line word text spelled is rest size trits padded e =
-    trits_as slot line ∙ ap (λ w. trits_body slot line.ended w (rest_of (split_once 32 line.text))) (sym is) ∙ ap (trits_body slot line.ended word) (sym rest)
+    trits_as slot line ∙ ap (λ w. trits_body slot line.ended w (parts_at 32 line.text).1) (sym is) ∙ ap (trits_body slot line.ended word) (sym rest)
     ∙ trits_last slot line.ended word text size trits padded ∙ ap (λ w. with_decision line.ended w text) (sym e)
 
 -- a line of the second version whose columns are good

@@ -1,10 +1,7 @@
 -- A text of the second version, in upper case, is written as it was read.
-use Rattle.std.proofs.Common.{◌≡◌, ◌∷◌, ◌++◌, ℕ, suc, ◌+◌, List, Bool, true, false, cond, [], ap, refl, sym, ◌∙◌, arith, append_assoc, length, take, Some, None, Ok, Err}
-use Rattle.std.specs.Prelude.{Option, Result, ◌==◌, min}
+use Rattle.std.proofs.Common.{◌≡◌, ◌∷◌, ◌++◌, ℕ, suc, ◌+◌, List, Bool, true, false, cond, [], ap, refl, sym, ◌∙◌, arith, append_assoc, length, take, Some, None, Ok, Err, Option, Result, ◌==◌, min, decimal, take_all}
 use Rattle.std.specs.List.{flat_map, list_all}
-use Rattle.std.specs.Fmt.{decimal}
 use Rattle.std.proofs.lemmas.Bool.{and_parts, eqb-true}
-use Rattle.std.proofs.lemmas.List.{take_all}
 use Rattle.ternary_words.specs.Table.{Entry, Table}
 use Rattle.ternary_words.specs.TableText.{entries_text, entry_line, table_text}
 use Rattle.table_text.specs.declared.error.TableReason.{TableReason}
@@ -16,7 +13,7 @@ use Rattle.table_text.specs.Lines.{Line, lines_of}
 use Rattle.table_text.specs.Reading.{BadLine, after_heading, counted, entries_of, entry_in, entry_of, heading_in, in_front, table_in, table_in_text}
 use Rattle.table_text.specs.UpperCase.{is_columns, is_second, is_upper_line, is_upper_table, is_upper_text}
 use Rattle.table_text.proofs.CutBack.{line_bytes, lines_back}
-use Rattle.table_text.proofs.EntryBack.{entry_back, ended_line}
+use Rattle.table_text.proofs.EntryBack.{cond_ok, entry_back, ended_line}
 use Rattle.table_text.proofs.HeadingBack.{heading_back}
 use Rattle.table_text.proofs.HeadingTexts.{first_text, heading-written}
 
@@ -30,14 +27,13 @@ AreKept lines entries = (length entries ≡ length lines) × (flat_map entry_lin
 
 front_step : (number : ℕ) (line : Line) (lines : List Line) (entries : List Entry) (r : Result Entry TableReason) (rs : Result (List Entry) BadLine) →
     ((e : Entry) → r ≡ Ok e → entry_line e ≡ line_bytes line) → ((es : List Entry) → rs ≡ Ok es → AreKept lines es) → in_front number r rs ≡ Ok entries → AreKept (line ∷ lines) entries
-front_step number line lines entries (Err reason) rs here more h = absurd cc
-front_step number line lines entries (Ok e) (Err bad) here more h = absurd cc
 front_step number line lines entries (Ok e) (Ok es) here more h =
     let same : e ∷ es ≡ entries = cc in
     let rest = more es refl in (
       ap length (sym same) ∙ ap suc rest.0,
       ap (flat_map entry_line) (sym same) ∙ ap (λ t. t ++ flat_map entry_line es) (here e refl) ∙ ap (λ t. line_bytes line ++ t) rest.1,
     )
+front_step number line lines entries r rs here more h = absurd cc
 
 entries_back : (h : Heading) (number : ℕ) (lines : List Line) (entries : List Entry) → h.version ≡ Columns → list_all is_upper_line lines ≡ true → entries_of h number lines ≡ Ok entries → AreKept lines entries
 entries_back h number [] entries second upper is = let same : [] ≡ entries = cc in (ap length (sym same), ap (flat_map entry_line) (sym same))
@@ -62,24 +58,16 @@ whole_back line lines h entries first second size kept =
     ∙ ap (λ t. t ++ 10 ∷ flat_map entry_line entries) text ∙ ap (λ t. line.text ++ 10 ∷ t) kept
     ∙ sym (append_assoc line.text (10 ∷ []) (flat_map line_bytes lines)) ∙ ap (λ t. t ++ flat_map line_bytes lines) (ended_line line.text line.ended parts.0)
 
--- the table that is read, where so many lines were found
-abbrev counted_as : Heading → ℕ → List Entry → Bool → Result Table BadLine
-counted_as h found entries s = cond s (Ok (record { slot = h.slot; composed = h.composed; entries = entries })) (Err (record { line = min h.entries found + 2; reason = Count h.entries found }))
-
-count_step : (line : Line) (lines : List Line) (h : Heading) (entries : List Entry) (t : Table) (s : Bool) → heading_in line ≡ Some h → h.version ≡ Columns → (length lines == h.entries) ≡ s → ((length lines ≡ h.entries) → AreKept lines entries) →
-    counted_as h (length lines) entries s ≡ Ok t → table_text t ≡ flat_map line_bytes (line ∷ lines)
-count_step line lines h entries t false first second es kept is = absurd cc
-count_step line lines h entries t true first second es kept is =
-    let made : Table = record { slot = h.slot; composed = h.composed; entries = entries } in
-    let same : made ≡ t = cc in
-    let size = eqb-true (length lines) h.entries es in
-    let all = kept size in
-    ap table_text (sym same) ∙ whole_back line lines h entries first second (all.0 ∙ size) all.1
-
 read_step : (line : Line) (lines : List Line) (h : Heading) (t : Table) (r : Result (List Entry) BadLine) → heading_in line ≡ Some h → h.version ≡ Columns → ((entries : List Entry) → r ≡ Ok entries → length lines ≡ h.entries → AreKept lines entries) →
     counted h (length lines) r ≡ Ok t → table_text t ≡ flat_map line_bytes (line ∷ lines)
 read_step line lines h t (Err bad) first second kept is = absurd cc
-read_step line lines h t (Ok entries) first second kept is = count_step line lines h entries t (length lines == h.entries) first second refl (kept entries refl) is
+read_step line lines h t (Ok entries) first second kept is =
+    let made : Table = record { slot = h.slot; composed = h.composed; entries = entries } in
+    let passed = cond_ok (length lines == h.entries) (Ok made) (record { line = min h.entries (length lines) + 2; reason = Count h.entries (length lines) }) t is in
+    let same : made ≡ t = cc passed.1 in
+    let size = eqb-true (length lines) h.entries passed.0 in
+    let all = kept entries refl size in
+    ap table_text (sym same) ∙ whole_back line lines h entries first second (all.0 ∙ size) all.1
 
 heading_step : (line : Line) (lines : List Line) (t : Table) (o : Option Heading) → heading_in line ≡ o → is_second o ≡ true → list_all is_upper_line lines ≡ true → after_heading o lines ≡ Ok t → table_text t ≡ flat_map line_bytes (line ∷ lines)
 heading_step line lines t None first second upper is = absurd cc

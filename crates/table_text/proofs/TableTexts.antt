@@ -1,8 +1,6 @@
 -- The text of a table is read as it is written.
-use Rattle.std.proofs.Common.{◌≡◌, ◌∷◌, ◌++◌, ℕ, ◌+◌, ◌≤◌, List, true, [], ap, refl, sym, ◌∙◌, arith, append_assoc, length, map, take, Some}
-use Rattle.std.specs.Prelude.{All, IsTrue, Ok, Result, slice_index_or}
+use Rattle.std.proofs.Common.{◌≡◌, ◌∷◌, ◌++◌, ℕ, ◌+◌, ◌≤◌, List, true, [], ap, refl, sym, ◌∙◌, arith, append_assoc, length, map, take, Some, All, IsTrue, Ok, Result, slice_index_or, decimal}
 use Rattle.std.specs.List.{AllByRecursion, flat_map}
-use Rattle.std.specs.Fmt.{decimal}
 use Rattle.std.proofs.lemmas.List.{length-map, take_all}
 use Rattle.std.proofs.lemmas.List.Elements.{recursion_from_All}
 use Rattle.field_boxes.specs.Names.{name_at, text_of}
@@ -10,7 +8,7 @@ use Rattle.ternary_words.specs.declared.entry.Entry as code_entry
 use Rattle.ternary_words.specs.declared.table.Table as code_table
 use Rattle.ternary_words.specs.Table.{Entry}
 use Rattle.ternary_words.specs.TableText.{entries_text, entry_line, table_text}
-use Rattle.ternary_words.specs.Views.{table_of, word_of}
+use Rattle.ternary_words.specs.Views.{table_of}
 use Rattle.ternary_words.specs.Views as words
 use Rattle.table_text.specs.declared.error.TableReason.{TableReason}
 use Rattle.table_text.specs.declared.heading.Version.TheVariants.{Columns}
@@ -19,10 +17,9 @@ use Rattle.ternary_words.specs.Limits.{AreNumbered}
 use Rattle.table_text.specs.Lines.{Line, lines_of}
 use Rattle.table_text.specs.Names.{is_name}
 use Rattle.table_text.specs.Reading.{after_heading, entries_of, entry_in, in_front, table_in, table_in_text}
-use Rattle.table_text.proofs.Cuts.{whole_line}
+use Rattle.table_text.proofs.Cuts.{lines_of-line, whole_line}
 use Rattle.table_text.proofs.EntryTexts.{IsSpelled, columns, columns-line, columns-written, entry-read}
 use Rattle.table_text.proofs.HeadingTexts.{first_text, heading-line, heading-read, heading-written}
-use Rattle.table_text.proofs.Joins.{lines_of-line}
 use Rattle.table_text.proofs.NameTexts.{numbered_spelled}
 use Rattle.table_text.proofs.Resumed.{counted_same}
 

@@ -1,6 +1,5 @@
 -- The texts that are written are in upper case.
-use Rattle.std.proofs.Common.{◌≡◌, ◌∷◌, ℕ, ◌/◌, ◌^◌, List, true, [], ap, refl, ◌∙◌, map, nat_lt}
-use Rattle.std.specs.Prelude.{◌&&◌}
+use Rattle.std.proofs.Common.{◌≡◌, ◌∷◌, ℕ, ◌/◌, ◌^◌, List, true, [], ap, refl, ◌∙◌, map, nat_lt, ◌&&◌}
 use Rattle.std.specs.List.{list_all}
 use Rattle.std.proofs.lemmas.Bool.{and_from}
 use Rattle.field_boxes.specs.Names.{name_at, text_of}

@@ -1,8 +1,10 @@
 -- The word of an entry in the second version: a value and a mask for each field, in hexadecimal.
 use Rattle.std.specs.Prelude.{ℕ, ◌==◌, Bool, ◌&&◌, List, [], ◌∷◌, length, Option, Some, None, bit_and, if◌then◌else◌}
+use Rattle.razor_base.specs.declared.limits.TheConstants.{GREATEST_ADDRESS, GREATEST_PORT, GREATEST_PROTOCOL}
 use Rattle.ternary_words.specs.Word.{Trit, trits, header_bits}
-use Rattle.table_text.specs.Steps.{◌>>=◌, split_once, front_or_all, rest_of}
-use Rattle.table_text.specs.Numbers.{number_within}
+use Rattle.text_lines.specs.Cuts.{parts_at, split_once}
+use Rattle.text_lines.specs.Numbers.{number_within}
+use Rattle.text_lines.specs.Steps.{◌>>=◌}
 
 -- the five columns of a line, and the decision, where a fifth space stands before it
 pub record LineColumns : Type 0 where
@@ -19,7 +21,7 @@ columns_of line = do
   b ← split_once 32 a.1
   c ← split_once 32 b.1
   d ← split_once 32 c.1
-  Some (record { source = a.0; destination = b.0; source_port = c.0; destination_port = d.0; protocol = front_or_all d.1 (split_once 32 d.1); decision = rest_of (split_once 32 d.1) })
+  Some (record { source = a.0; destination = b.0; source_port = c.0; destination_port = d.0; protocol = (parts_at 32 d.1).0; decision = (parts_at 32 d.1).1 })
 
 -- what a field must have, and where
 pub record Masked : Type 0 where
@@ -49,11 +51,11 @@ pub record Fields : Type 0 where
 -- eight digits for an address, four for a port, two for the protocol
 unfoldable pub fields_of : LineColumns → Option Fields
 fields_of columns = do
-  source ← masked_of 8 4294967295 columns.source
-  destination ← masked_of 8 4294967295 columns.destination
-  source_port ← masked_of 4 65535 columns.source_port
-  destination_port ← masked_of 4 65535 columns.destination_port
-  protocol ← masked_of 2 255 columns.protocol
+  source ← masked_of 8 GREATEST_ADDRESS columns.source
+  destination ← masked_of 8 GREATEST_ADDRESS columns.destination
+  source_port ← masked_of 4 GREATEST_PORT columns.source_port
+  destination_port ← masked_of 4 GREATEST_PORT columns.destination_port
+  protocol ← masked_of 2 GREATEST_PROTOCOL columns.protocol
   Some (record { source = source; destination = destination; source_port = source_port; destination_port = destination_port; protocol = protocol })
 
 -- the value has no bit outside the mask

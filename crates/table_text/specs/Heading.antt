@@ -1,10 +1,12 @@
 -- The first line of a table's text.
 use Rattle.std.specs.Prelude.{ℕ, List, [], ◌∷◌, Bool, ◌&&◌, Option, Some, None, codes, if◌then◌else◌}
 use Rattle.std.specs.Str.{bytes_eq}
+use Rattle.razor_base.specs.declared.limits.TheConstants.{MOST_ENTRIES}
 use Rattle.table_text.specs.declared.heading.Version.{Version}
 use Rattle.table_text.specs.declared.heading.Version.TheVariants.{Trits, Columns}
-use Rattle.table_text.specs.Steps.{◌>>=◌, split_once}
-use Rattle.table_text.specs.Numbers.{plain_number}
+use Rattle.text_lines.specs.Cuts.{split_once}
+use Rattle.text_lines.specs.Numbers.{plain_number}
+use Rattle.text_lines.specs.Steps.{◌>>=◌}
 
 -- the version of the text, the slot width, and the two counts
 pub record Heading : Type 0 where
@@ -53,6 +55,6 @@ heading_of line = do
   words ← words_of line
   version ← version_of words.version
   slot ← slot_of words.slot_number
-  composed ← plain_number 262144 words.composed_number
-  entries ← plain_number 262144 words.entries_number
+  composed ← plain_number MOST_ENTRIES words.composed_number
+  entries ← plain_number MOST_ENTRIES words.entries_number
   if is_labelled words then Some (record { version = version; slot = slot; composed = composed; entries = entries }) else None

@@ -1,6 +1,4 @@
 pub mod Lines
-pub mod Steps
-pub mod Numbers
 pub mod Heading
 pub mod Names
 pub mod Trits

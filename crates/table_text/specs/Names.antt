@@ -1,13 +1,14 @@
 -- The decision at the end of an entry's line.
 use Rattle.std.specs.Prelude.{ℕ, ◌==◌, Bool, false, not, ◌&&◌, ◌||◌, List, [], ◌∷◌, Option, Some, None, is_some, if◌then◌else◌}
 use Rattle.std.specs.Str.{bytes_eq}
+use Rattle.razor_base.specs.declared.limits.TheConstants.{MOST_RULES}
 use Rattle.field_boxes.specs.Names.{miss, is_decision_word}
-use Rattle.table_text.specs.Numbers.{plain_number}
+use Rattle.text_lines.specs.Numbers.{plain_number}
 
 -- '#', and a number from 1 to 65,536 without leading zeros
 abbrev pub is_rule_name : List ℕ → Bool
 is_rule_name [] = false
-is_rule_name (b ∷ digits) = b == 35 && not (bytes_eq digits (48 ∷ [])) && is_some (plain_number 65536 digits)
+is_rule_name (b ∷ digits) = b == 35 && not (bytes_eq digits (48 ∷ [])) && is_some (plain_number MOST_RULES digits)
 
 -- a name that a table's text can spell: a decision word, or the name of a rule without one
 abbrev pub is_name : List ℕ → Bool

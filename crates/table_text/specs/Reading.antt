@@ -8,7 +8,7 @@ use Rattle.table_text.specs.declared.heading.Version.TheVariants.{Trits, Columns
 use Rattle.table_text.specs.declared.error.TableReason.{TableReason}
 use Rattle.table_text.specs.declared.error.TableReason.TheVariants.{FirstLine, WordLength, Trit as NoTrit, Padding, Decision, Count, FieldForm, OutsideMask}
 use Rattle.table_text.specs.Lines.{Line, lines_of}
-use Rattle.table_text.specs.Steps.{split_once, front_or_all, rest_of}
+use Rattle.text_lines.specs.Cuts.{parts_at}
 use Rattle.table_text.specs.Heading.{Heading, heading_of}
 use Rattle.table_text.specs.Names.{is_decision, decided}
 use Rattle.table_text.specs.Trits.{is_trit, is_padded, word_of_trits}
@@ -22,9 +22,8 @@ with_decision ended word (Some text) = if ended && is_decision text then Ok (rec
 -- the first version: the reasons are tried in this order
 unfoldable pub trits_entry : ℕ → Line → Result Entry TableReason
 trits_entry slot line =
-    let parts = split_once 32 line.text in
-    let word = front_or_all line.text parts in
-    if not (length word == slot) then Err WordLength else (if not (list_all is_trit word) then Err NoTrit else (if not (is_padded word) then Err Padding else with_decision line.ended (word_of_trits word) (rest_of parts)))
+    let parts = parts_at 32 line.text in
+    if not (length parts.0 == slot) then Err WordLength else (if not (list_all is_trit parts.0) then Err NoTrit else (if not (is_padded parts.0) then Err Padding else with_decision line.ended (word_of_trits parts.0) parts.1))
 
 -- the second version: first the forms of all columns, then their values, then the decision
 abbrev pub fields_entry : Bool → Option (List ℕ) → Fields → Result Entry TableReason

@@ -6,9 +6,9 @@ ghost use Rattle.table_text.specs.Columns.{are_within, columns_of, fields_of, he
 ghost use Rattle.table_text.specs.ColumnViews.{columns_view, fields_view, masked_view};
 ghost use Rattle.table_text.specs.ColumnBounds.{AreFields};
 
-use crate::cut::{last_column, split_once};
-use crate::number::number_within;
+use razor_base::limits::{GREATEST_PORT, GREATEST_PROTOCOL};
 use ternary_words::Word;
+use text_lines::{number_within, parts_at, split_once};
 
 /// The five columns of a line, as they stand, and the decision, where a fifth space stands before it.
 #[derive(Clone, Copy)]
@@ -47,7 +47,7 @@ pub(crate) fn cut_columns(line: &[u8]) -> Option<LineColumns<'_>>
     let (destination, rest) = split_once(rest, b' ')?;
     let (source_port, rest) = split_once(rest, b' ')?;
     let (destination_port, rest) = split_once(rest, b' ')?;
-    let (protocol, decision) = last_column(rest);
+    let (protocol, decision) = parts_at(rest, b' ');
     Some(LineColumns {
         source,
         destination,
@@ -90,9 +90,9 @@ pub(crate) fn read_fields(columns: &LineColumns<'_>) -> Option<Fields>
 {
     let source = read_field(columns.source, 8, u32::MAX)?;
     let destination = read_field(columns.destination, 8, u32::MAX)?;
-    let source_port = read_field(columns.source_port, 4, 65_535)?;
-    let destination_port = read_field(columns.destination_port, 4, 65_535)?;
-    let protocol = read_field(columns.protocol, 2, 255)?;
+    let source_port = read_field(columns.source_port, 4, GREATEST_PORT)?;
+    let destination_port = read_field(columns.destination_port, 4, GREATEST_PORT)?;
+    let protocol = read_field(columns.protocol, 2, GREATEST_PROTOCOL)?;
     Some(Fields {
         source,
         destination,

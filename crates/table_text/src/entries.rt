@@ -1,5 +1,6 @@
 //! The entries of a table that is read, one after another.
 ghost use Rattle.std.specs.Prelude.{◌≡◌, ◌≤◌, ◌<◌, ℕ, length, map, vec_len, All, IfOk, IsTrue, OnOk};
+ghost use Rattle.razor_base.specs.declared.limits.TheConstants.{MOST_ENTRIES};
 ghost use Rattle.field_boxes.specs.Names.{name_at};
 ghost use Rattle.ternary_words.specs.Limits.{AreNumbered};
 ghost use Rattle.ternary_words.specs.Views.{entry_of};
@@ -17,7 +18,7 @@ use ternary_words::{Entry, Word};
 pub(crate) struct Entries {
     pub(crate) entries: Vec<Entry>,
     pub(crate) names: Decisions,
-    pub ghost few: { vec_len entries ≤ 262144 },
+    pub ghost few: { vec_len entries ≤ MOST_ENTRIES },
     pub ghost fewer_names: { length names ≤ vec_len entries },
     pub ghost numbered: { AreNumbered (length names) entries.items },
     pub ghost seen: { names_seen (map (entry_of names) entries.items) ≡ names },
@@ -43,7 +44,7 @@ impl Entries {
 
     /// With an entry behind the others, and its decision among the names.
     pub(crate) fn with_entry(self, word: Word, decision: &str) -> Result<Self, Memory>
-        requires room { vec_len self.entries < 262144 }
+        requires room { vec_len self.entries < MOST_ENTRIES }
         requires named { IsTrue (is_decision decision.now) }
         ensures entries { IfOk result (λ entries. entries_view entries
             ≡ entries_view self ++ record { word = word_of word; decision = decided decision.now } ∷ []) }
@@ -64,7 +65,7 @@ impl Entries {
 
 /// The number of the decision, which is put among the names.
 fn number_of(names: &mut Decisions, decision: &str) -> Result<u32, Memory>
-    requires { length names.old < 262144 }
+    requires { length names.old < MOST_ENTRIES }
     ensures names { OnOk result (names.new ≡ with_decided names.old (decided decision.now)) }
     ensures number { IfOk result (λ n. name_at names.new n ≡ decided decision.now) }
     ensures within { IfOk result (λ n. n ≤ length names.new) }

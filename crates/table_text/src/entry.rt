@@ -7,13 +7,13 @@ ghost use Rattle.table_text.specs.HeadingViews.{heading_view};
 ghost use Rattle.table_text.specs.Reading.{columns_entry, entry_of, trits_entry, with_decision};
 
 use crate::columns::{are_within, cut_columns, read_fields, word_of_fields};
-use crate::cut::last_column;
 use crate::error::TableReason;
 use crate::heading::{Heading, Version};
 use crate::names::decision;
 use crate::spelling::Spelled;
 use crate::trits::{are_trits, is_padded, word_of_trits};
 use ternary_words::Word;
+use text_lines::parts_at;
 
 /// The entry of the word, if a decision stands at the end of the line.
 fn with_decision<'a>(
@@ -42,7 +42,7 @@ fn trits_entry(line: &[u8], ended: bool, slot: u16) -> Result<Spelled<'_>, Table
         (λ spelled. trits_entry slot (line_of line.now ended) ≡ Ok (spelled_view spelled))
         (λ reason. trits_entry slot (line_of line.now ended) ≡ Err reason) }
 {
-    let (word, text) = last_column(line);
+    let (word, text) = parts_at(line, b' ');
     if word.len() != slot as usize {
         return Err(TableReason::WordLength);
     }

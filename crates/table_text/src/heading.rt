@@ -2,15 +2,13 @@
 ghost use Rattle.std.specs.Prelude.{◌≡◌, ◌≤◌, IfSome};
 ghost use Rattle.std.specs.Option.{option_map};
 ghost use Rattle.std.specs.Str.{bytes_eq};
+ghost use Rattle.razor_base.specs.declared.limits.TheConstants.{MOST_ENTRIES};
 ghost use Rattle.ternary_words.specs.Limits.{IsSlotWidth};
 ghost use Rattle.table_text.specs.Heading.{heading_of, is_labelled, slot_of, version_of, words_of};
 ghost use Rattle.table_text.specs.HeadingViews.{heading_view, words_view};
 
-use crate::cut::split_once;
-use crate::number::plain_number;
-
-/// As many entries as a table may have, or may be composed of.
-const MOST_ENTRIES: u32 = 262_144;
+use razor_base::limits::MOST_ENTRIES;
+use text_lines::{plain_number, split_once};
 
 /// How the words of the entries are spelled.
 #[derive(Clone, Copy)]
@@ -120,8 +118,8 @@ pub(crate) fn read_heading(line: &[u8]) -> Option<Heading>
     ensures heading { option_map heading_view result ≡ heading_of line.now }
     ensures width { IfSome result (λ heading. ∥ IsSlotWidth heading.slot ∥₁) }
     ensures narrowest { IfSome result (λ heading. 104 ≤ heading.slot) }
-    ensures composed { IfSome result (λ heading. heading.composed ≤ 262144) }
-    ensures few { IfSome result (λ heading. heading.entries ≤ 262144) }
+    ensures composed { IfSome result (λ heading. heading.composed ≤ MOST_ENTRIES) }
+    ensures few { IfSome result (λ heading. heading.entries ≤ MOST_ENTRIES) }
 {
     let words = cut_words(line)?;
     let version = read_version(words.version)?;

@@ -13,7 +13,6 @@
 #![tactic(auto)]
 
 mod columns;
-mod cut;
 mod entries;
 mod entry;
 mod error;
@@ -21,7 +20,6 @@ mod heading;
 pub mod laws;
 mod line;
 mod names;
-mod number;
 mod reading;
 mod spelling;
 mod trits;

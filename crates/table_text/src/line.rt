@@ -2,7 +2,7 @@
 ghost use Rattle.std.specs.Prelude.{◌≡◌, ◌≤◌, ◌<◌, ◌∷◌, [], length, IfSome, IfNone};
 ghost use Rattle.table_text.specs.Lines.{lines_of};
 
-use crate::cut::split_once;
+use text_lines::split_once;
 
 /// The first line of the text without its line feed, whether a line feed ends it, and what stands after
 /// it; none where the text is empty.

@@ -2,12 +2,14 @@
 ghost use Rattle.std.specs.Prelude.{◌≡◌, ◌∷◌, [], true, false, not, ◌&&◌, is_some, IfSome, IfNone};
 ghost use Rattle.std.specs.Bool.{OnTrue};
 ghost use Rattle.std.specs.Str.{IsAscii, bytes_eq};
+ghost use Rattle.razor_base.specs.declared.limits.TheConstants.{MOST_RULES};
 ghost use Rattle.field_boxes.specs.Names.{miss};
 ghost use Rattle.table_text.specs.Names.{is_decision, is_rule_name};
-ghost use Rattle.table_text.specs.Numbers.{plain_number};
+ghost use Rattle.text_lines.specs.Numbers.{plain_number};
 
-use crate::number::plain_number;
 use field_boxes::decision_word;
+use razor_base::limits::MOST_RULES;
+use text_lines::plain_number;
 
 /// Whether the text is the word for no decision.
 pub(crate) fn is_miss(text: &[u8]) -> bool
@@ -19,10 +21,10 @@ pub(crate) fn is_miss(text: &[u8]) -> bool
 
 /// Whether the text is a number from 1 to 65,536 without leading zeros.
 fn rule_number(text: &[u8]) -> bool
-    ensures number { result ≡ (not (bytes_eq text.now (48 ∷ [])) && is_some (plain_number 65536 text.now)) }
+    ensures number { result ≡ (not (bytes_eq text.now (48 ∷ [])) && is_some (plain_number MOST_RULES text.now)) }
     ensures ascii { OnTrue result (IsAscii text.now) }
 {
-    text != b"0".as_slice() && plain_number(text, 65_536).is_some()
+    text != b"0".as_slice() && plain_number(text, MOST_RULES).is_some()
 }
 
 /// Whether the text is `#` and the number of a rule.

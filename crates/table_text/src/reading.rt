@@ -1,5 +1,6 @@
 //! Reading the text of a table whole.
 ghost use Rattle.std.specs.Prelude.{◌≡◌, ◌+◌, ◌-◌, ◌^◌, ◌≤◌, ◌<◌, min, length, take, vec_len, Ok, Err, All, IfOk, IfSome, IfNone, IsTrue, MatchResult, OnOk, Some};
+ghost use Rattle.razor_base.specs.declared.limits.TheConstants.{MOST_ENTRIES};
 ghost use Rattle.ternary_words.specs.Limits.{IsSlotWidth};
 ghost use Rattle.ternary_words.specs.Views as words;
 ghost use Rattle.table_text.specs.Lines.{lines_of};
@@ -55,8 +56,8 @@ fn first_line(bytes: &[u8]) -> Option<(Heading, &[u8])>
     ensures none { IfNone result (table_in_text bytes.now ≡ no_heading) }
     ensures width { IfSome result (λ parts. ∥ IsSlotWidth parts.0.slot ∥₁) }
     ensures narrowest { IfSome result (λ parts. 104 ≤ parts.0.slot) }
-    ensures composed { IfSome result (λ parts. parts.0.composed ≤ 262144) }
-    ensures few { IfSome result (λ parts. parts.0.entries ≤ 262144) }
+    ensures composed { IfSome result (λ parts. parts.0.composed ≤ MOST_ENTRIES) }
+    ensures few { IfSome result (λ parts. parts.0.entries ≤ MOST_ENTRIES) }
 {
     let (line, ended, lines) = next_line(bytes)?;
     if !ended {
@@ -69,7 +70,7 @@ fn first_line(bytes: &[u8]) -> Option<(Heading, &[u8])>
 /// The entries of the lines, which must be as many as the first line states.
 fn read_entries(alloc: Global, heading: &Heading, lines: &[u8]) -> Result<Entries, TableError>
     requires width { 104 ≤ heading.now.slot }
-    requires few { heading.now.entries ≤ 262144 }
+    requires few { heading.now.entries ≤ MOST_ENTRIES }
     ensures { MatchResult result
         (λ entries. counted (heading_view heading.now) (length (lines_of lines.now)) (entries_of (heading_view heading.now) 2 (take heading.now.entries (lines_of lines.now))) ≡ Ok (table_view (heading_view heading.now) (entries_view entries)))
         (λ error. IsRefused error (counted (heading_view heading.now) (length (lines_of lines.now)) (entries_of (heading_view heading.now) 2 (take heading.now.entries (lines_of lines.now))))) }
@@ -114,7 +115,7 @@ fn with_line(
     entries: Entries,
 ) -> Result<Entries, TableError>
     requires width { 104 ≤ heading.now.slot }
-    requires room { vec_len entries.entries < 262144 }
+    requires room { vec_len entries.entries < MOST_ENTRIES }
     ensures read { MatchResult result
         (λ new. IsBehind (entries_view entries) (entry_of (heading_view heading.now) (line_of line.now ended)) (entries_view new))
         (λ error. IsLineRefused error number (entry_of (heading_view heading.now) (line_of line.now ended))) }

@@ -4,10 +4,6 @@ use Rattle.std.proofs.lemmas.List.{set_at, map-append, length-map}
 use Rattle.ternary_words.specs.declared.entry.Entry.{Entry}
 use Rattle.tcam_sim.specs.Slots.{Stored, stored, filled}
 
--- no entry yet
-pub filled-none : (slots : List (Option Stored)) → slots ≡ replicate (length slots) None → slots ≡ filled (length slots) []
-filled-none slots empty = empty ∙ ap (λ n. replicate {A = Option Stored} n None) (let e : length slots ≡ length slots - 0 = omega arith in e)
-
 -- one entry more
 pub filled-next : (count n : ℕ) (done : List Entry) (e : Entry) → length done ≡ n → n < count → set (filled count done) n (Some (stored e)) ≡ filled count (done ++ e ∷ [])
 filled-next count n done e long room =

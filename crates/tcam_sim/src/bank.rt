@@ -1,5 +1,6 @@
 //! A ternary memory that never fails.
 ghost use Rattle.std.specs.Prelude.{◌≡◌, ◌≤◌, length};
+ghost use Rattle.razor_base.specs.declared.limits.TheConstants.{MOST_ENTRIES};
 ghost use Rattle.tcam_sim.specs.Columns.{AreNarrow, HasLength, KeepNone};
 
 use crate::device::Device;
@@ -25,7 +26,7 @@ pub struct Bank {
     ghost values_long: { HasLength values (length decisions.items) },
     ghost masks_long: { HasLength masks (length decisions.items) },
     ghost vacant_long: { length vacant.items ≡ length decisions.items },
-    ghost few: { length decisions.items ≤ 262144 },
+    ghost few: { length decisions.items ≤ MOST_ENTRIES },
     ghost cleared: { KeepNone vacant.items decisions.items },
     ghost narrow: { AreNarrow masks.high.items },
 }
@@ -38,7 +39,7 @@ impl Bank {
     /// A bank with so many slots, from 1 to 262,144, all of them empty.
     pub fn new(alloc: Global, slots: u32) -> Result<Bank, Memory>
         requires some { 1 ≤ slots }
-        requires few { slots ≤ 262144 }
+        requires few { slots ≤ MOST_ENTRIES }
         ensures empty { IfOk result (λ bank. slots_of bank ≡ replicate slots None) }
         ensures untried { IfOk result (λ bank. sets_of bank ≡ 0) }
     {

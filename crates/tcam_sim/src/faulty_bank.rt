@@ -1,4 +1,6 @@
 //! A ternary memory of which chosen writes fail.
+ghost use Rattle.razor_base.specs.declared.limits.TheConstants.{MOST_ENTRIES};
+
 use crate::bank::Bank;
 use crate::device::Device;
 use field_boxes::Header;
@@ -23,7 +25,7 @@ impl FaultyBank {
     /// A bank with so many slots, from 1 to 262,144, all of them empty.
     pub fn new(alloc: Global, slots: u32) -> Result<FaultyBank, Memory>
         requires some { 1 ≤ slots }
-        requires few { slots ≤ 262144 }
+        requires few { slots ≤ MOST_ENTRIES }
         ensures empty { IfOk result (λ bank. faulty_slots bank ≡ replicate slots None) }
         ensures calm { IfOk result (λ bank. (chosen_sets bank ≡ []) × (sets_made bank ≡ 0) × (set_faults bank ≡ 0)) }
     {

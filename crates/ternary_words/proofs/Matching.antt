@@ -40,7 +40,7 @@ top_of n m v k =
     ∙ and_mod (bit_xor (k / 2 ^ n) (v / 2 ^ n)) (m / 2 ^ n) 1
     ∙ ap (λ x. bit_and x (m / 2 ^ n % 2)) (xor_mod (k / 2 ^ n) (v / 2 ^ n) 1)
 
-split_top : (n x : ℕ) → x % 2 ^ suc n ≡ (x / 2 ^ n % 2) * 2 ^ n + x % 2 ^ n
+pub split_top : (n x : ℕ) → x % 2 ^ suc n ≡ (x / 2 ^ n % 2) * 2 ^ n + x % 2 ^ n
 split_top n x = ap (λ m. x % 2 ^ m) (sym (one-add n)) ∙ mod-pow-add x 1 n
 
 -- of n bits

@@ -1,9 +1,10 @@
 -- A mask whose ones stand in front of its zeros: its lowest one is as high as it has zeros.
-use Rattle.std.proofs.Common.{◌≡◌, ℕ, zero, suc, ◌+◌, ◌-◌, ◌*◌, ◌%◌, ◌^◌, ◌<◌, ◌≤◌, min, ap, refl, sym, ◌∙◌, arith}
+use Rattle.std.proofs.Common.{◌≡◌, ℕ, zero, suc, ◌+◌, ◌-◌, ◌*◌, ◌/◌, ◌%◌, ◌^◌, ◌<◌, ◌≤◌, min, ap, refl, sym, ◌∙◌, arith}
+use Rattle.std.specs.Prelude.{bit_and}
 use Rattle.std.specs.Int.{w32, trailing_zeros, bit_at}
 use Rattle.std.proofs.lemmas.Nat.{pow_pos, pow-add, one_shl}
-use Rattle.std.proofs.lemmas.Nat.Bits.{bit_at-trailing_zeros, bit_at-zero, bit_at_mask_below, bit_at_mask_inside}
-use Rattle.std.proofs.Math.Nat.{mod-eq_of_lt, suc-mul, zero-mul}
+use Rattle.std.proofs.lemmas.Nat.Bits.{and_high, bit_at-trailing_zeros, bit_at-zero, bit_at_mask_below, bit_at_mask_inside}
+use Rattle.std.proofs.Math.Nat.{mod-eq_of_lt, mul-mod_left, suc-mul, zero-mul}
 use lib.Count.{count_trailing_zeros}
 use Rattle.std.proofs.Math.Pow.{pow_mono}
 use Rattle.ternary_words.proofs.PrefixMasks.{mask_below}
@@ -43,3 +44,8 @@ shifts l k room =
     let wide : 2 ^ (l + k) ≤ 2 ^ 32 = pow_mono room in
     let below = mask_below l k in
     ap (λ n. (n - 1) * 2 ^ k % 2 ^ 64) one ∙ mod-eq_of_lt (omega (arith, wide, below))
+
+pub low_zero : (l k v m : ℕ) → bit_and v m ≡ v → m ≡ (2 ^ l - 1) * 2 ^ k → v % 2 ^ k ≡ 0
+low_zero l k v m e is =
+    let whole : v ≡ v / 2 ^ k % 2 ^ l * 2 ^ k = sym e ∙ ap (bit_and v) (is ∙ between l k) ∙ and_high v l k in
+    ap (λ n. n % 2 ^ k) whole ∙ mul-mod_left (v / 2 ^ k % 2 ^ l) (2 ^ k)

@@ -11,9 +11,9 @@ use Rattle.field_boxes.proofs.Bits.{length-bits, bits-add, bits-mod, begins-bits
 use Rattle.ternary_words.specs.Word.{trits, field_bits, header_bits}
 use Rattle.ternary_words.specs.Prefixes.{FitFields, HasMask, IsPart, IsPrefixInEach, IsWordOf, fields_trits, mask_of, masks_of, prefix_trits}
 use Rattle.ternary_words.specs.TableText.{mask_bit}
-use Rattle.ternary_words.proofs.Columns.{length-trits, mask-bits}
+use Rattle.ternary_words.proofs.Columns.{length-trits, mask-bits, trits-append}
 use Rattle.ternary_words.proofs.PrefixMasks.{mask_small}
-use Rattle.ternary_words.proofs.PrefixTrits.{trits-append, trits-fields, trits-prefix}
+use Rattle.ternary_words.proofs.PrefixTrits.{trits-fields, trits-prefix}
 
 -- the bits of these fields
 abbrev pub room : List ℕ → ℕ
@@ -37,7 +37,7 @@ are_parts [] n = tt
 are_parts (f ∷ fs) n = (mod_below (n / 2 ^ room fs) (2 ^ width f) (pow_pos (width f)), are_parts fs n)
 
 -- numbers with the same bits are the same
-same_bits : (n a b : ℕ) → a < 2 ^ n → b < 2 ^ n → bits n a ≡ bits n b → a ≡ b
+pub same_bits : (n a b : ℕ) → a < 2 ^ n → b < 2 ^ n → bits n a ≡ bits n b → a ≡ b
 same_bits n a b ha hb e =
     eqb-true a b (sym (begins-bits n a b [] ha hb) ∙ ap (λ bs. begins bs (bits n b ++ [])) e ∙ begins-bits n b b [] hb hb ∙ eq-eqb b b refl)
 

@@ -1,12 +1,12 @@
 -- The words of prefixes match what the prefixes hold.
-use Rattle.std.proofs.Common.{◌≡◌, ◌∷◌, ◌++◌, ℕ, zero, suc, ◌+◌, ◌-◌, ◌/◌, ◌^◌, ◌<◌, ◌≤◌, List, [], Bool, true, false, Some, None, length, replicate, map, take, ap, refl, sym, subst, ◌∙◌, arith}
-use Rattle.std.specs.Prelude.{nat_eq, ◌&&◌}
+use Rattle.std.proofs.Common.{◌≡◌, ◌∷◌, ◌++◌, ℕ, zero, suc, ◌+◌, ◌-◌, ◌^◌, ◌<◌, ◌≤◌, List, [], Bool, true, false, Some, None, length, replicate, map, take, ap, refl, sym, ◌∙◌, arith}
+use Rattle.std.specs.Prelude.{◌&&◌}
 use Rattle.std.proofs.lemmas.List.{length-append, length-map, length-replicate, length-take-le}
 use Rattle.field_boxes.specs.Bits.{bits, begins}
 use Rattle.field_boxes.specs.Fields.{width, AreValues}
 use Rattle.field_boxes.specs.Prefix.{FitsWidth, prefix_bits, prefix_holds}
 use Rattle.field_boxes.specs.declared.prefix.Prefix.{Prefix}
-use Rattle.field_boxes.proofs.Bits.{length-bits, prefix-begins}
+use Rattle.field_boxes.proofs.Bits.{length-bits, begins_at}
 use Rattle.ternary_words.specs.Word.{Trit, trit_agrees, agrees, field_bits}
 use Rattle.ternary_words.specs.Prefixes.{prefix_trits, fields_trits, FitFields, all_hold}
 
@@ -25,10 +25,6 @@ agrees-front (false ∷ bs) (true ∷ cs) k h = refl
 
 length-front : (w l p : ℕ) → l ≤ w → length (take l (bits w p)) ≡ l
 length-front w l p h = length-take-le l (bits w p) (let e = length-bits w p in omega (arith, e))
-
-begins_at : (w l k p v : ℕ) → l + k ≡ w → p < 2 ^ w → v < 2 ^ w → begins (take l (bits w p)) (bits w v) ≡ nat_eq (v / 2 ^ k) (p / 2 ^ k)
-begins_at w l k p v e =
-    subst (λ n. p < 2 ^ n → v < 2 ^ n → begins (take l (bits n p)) (bits n v) ≡ nat_eq (v / 2 ^ k) (p / 2 ^ k)) e (λ h j. sym (prefix-begins l k p v h j))
 
 -- one field
 agrees-prefix : (w : ℕ) (p : Prefix) (v : ℕ) → FitsWidth w p → v < 2 ^ w → agrees (prefix_trits w p) (bits w v) ≡ prefix_holds w p v

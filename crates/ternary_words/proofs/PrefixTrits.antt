@@ -8,9 +8,10 @@ use Rattle.field_boxes.specs.Fields.{width}
 use Rattle.field_boxes.specs.Prefix.{FitsWidth}
 use Rattle.field_boxes.specs.declared.prefix.Prefix.{Prefix}
 use Rattle.field_boxes.proofs.Bits.{length-bits}
-use Rattle.ternary_words.specs.Word.{trit, trits, field_bits}
+use Rattle.ternary_words.specs.Word.{trits, field_bits}
 use Rattle.ternary_words.specs.Prefixes.{mask_of, masks_of, prefix_trits, fields_trits, FitFields}
 use Rattle.ternary_words.proofs.Joined.{bits-joined}
+use Rattle.ternary_words.proofs.Columns.{trits-append}
 
 bits-zero : (n : ℕ) → bits n 0 ≡ replicate n false
 bits-zero zero = refl
@@ -56,12 +57,6 @@ trits-prefix w p fits =
     let le = fits.len in
     let whole : p.len + (w - p.len) ≡ w = omega arith in
     at_width w p.len (w - p.len) p.value whole
-
-pub trits-append : (ms ns vs ws : List Bool) → length ms ≡ length vs → trits (ms ++ ns) (vs ++ ws) ≡ trits ms vs ++ trits ns ws
-trits-append [] ns [] ws h = refl
-trits-append [] ns (v ∷ vs) ws h = absurd (omega arith)
-trits-append (m ∷ ms) ns [] ws h = absurd (omega arith)
-trits-append (m ∷ ms) ns (v ∷ vs) ws h = ap (λ ts. trit m v ∷ ts) (trits-append ms ns vs ws (omega arith))
 
 -- field by field
 pub trits-fields : (fs : List ℕ) (ps : List Prefix) → FitFields fs ps →

@@ -43,7 +43,7 @@ union_of w v s p h =
     let fits = h.fits in
     or_false (interval_holds v (interval_of s)) ∙ ap (interval_holds v) h.same ∙ interval-prefix (w - p.len) p.value v fits.low
 
-five_tests : (a b c d e a' b' c' d' e' : Bool) → a ≡ a' → b ≡ b' → c ≡ c' → d ≡ d' → e ≡ e' → (a && (b && (c && (d && (e && true))))) ≡ (a' && (b' && (c' && (d' && (e' && true)))))
+pub five_tests : (a b c d e a' b' c' d' e' : Bool) → a ≡ a' → b ≡ b' → c ≡ c' → d ≡ d' → e ≡ e' → (a && (b && (c && (d && (e && true))))) ≡ (a' && (b' && (c' && (d' && (e' && true)))))
 five_tests a b c d e a' b' c' d' e' h0 h1 h2 h3 h4 = cc
 
 pub box_five : (s0 s1 s2 s3 s4 : Span) (p0 p1 p2 p3 p4 : Prefix) → IsSpanOf 32 s0 p0 → IsSpanOf 32 s1 p1 → IsSpanOf 16 s2 p2 → IsSpanOf 16 s3 p3 → IsSpanOf 8 s4 p4 →

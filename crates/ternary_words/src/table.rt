@@ -1,5 +1,6 @@
 //! Tables: entries, the width of their slots, and the names of their decisions.
 ghost use Rattle.std.specs.Prelude.{◌≤◌, length, vec_len};
+ghost use Rattle.razor_base.specs.declared.limits.TheConstants.{MOST_ENTRIES};
 ghost use Rattle.ternary_words.specs.Limits.{IsSlotWidth, AreNumbered};
 
 use crate::entry::Entry;
@@ -18,8 +19,8 @@ pub struct Table {
     pub entries: Vec<Entry>,
     pub names: Decisions,
     pub ghost width: { ∥ IsSlotWidth slot ∥₁ },
-    pub ghost counted: { composed ≤ 262144 },
-    pub ghost few: { vec_len entries ≤ 262144 },
+    pub ghost counted: { composed ≤ MOST_ENTRIES },
+    pub ghost few: { vec_len entries ≤ MOST_ENTRIES },
     pub ghost numbered: { AreNumbered (length names) entries.items },
 }
 

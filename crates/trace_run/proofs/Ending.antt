@@ -1,12 +1,11 @@
 -- How a run over a trace ends.
-use Rattle.std.proofs.Common.{◌≡◌, ℕ, ◌+◌, ◌<◌, ◌≤◌, List, false, [], ◌∷◌, ◌++◌, Option, Some, None, Result, Ok, Err, ap, refl, sym, subst, ◌∙◌, length, take, length-append, append_assoc, append-nil, arith, Bool, true, cond}
-use Rattle.std.specs.Prelude.{IfSome}
+use Rattle.std.proofs.Common.{◌≡◌, ℕ, ◌+◌, ◌<◌, ◌≤◌, List, [], ◌∷◌, ◌++◌, Option, Some, None, Ok, Err, ap, refl, sym, subst, ◌∙◌, length, take, length-append, append_assoc, append-nil, arith, IfSome, take_at}
+use Rattle.std.proofs.lemmas.Bool.{cond_both}
 use Rattle.std.specs.Io.KnownBytes.{Consumes, IsAtEnd, Keeps, prepend_known}
-use Rattle.std.proofs.lemmas.List.{take_at}
 use Rattle.std.proofs.lemmas.List.Concat.{flat_map-append}
 use Rattle.razor_base.specs.Output.{LeavesOut, AppendsFront}
 use Rattle.razor_base.proofs.Output.{leaves_out-then, appends_front-then, appends_front-within}
-use Rattle.filter_reader.specs.FilterList.{text_lines}
+use Rattle.text_lines.specs.Lines.{text_lines}
 use Rattle.tcam_sim.specs.Slots.{Stored}
 use Rattle.trace_run.specs.declared.error.TraceError.{TraceError}
 use Rattle.trace_run.specs.declared.error.TraceError.TheVariants as errors
@@ -18,27 +17,21 @@ use Rattle.trace_run.specs.Trace.{Trace, BadLine, has_feed, trace_of, trace_with
 use Rattle.trace_run.proofs.Feeds.{whole_lines-append, whole_lines-twice, text_lines-few}
 use Rattle.trace_run.proofs.Traces.{trace_from-few}
 use Rattle.trace_run.proofs.Within.{within_all, within_bad, within_headers, within_longer, whole_front, trace_behind}
-use Rattle.trace_run.proofs.Standing.{ReadSoFar, consumes-then, texts}
+use Rattle.trace_run.proofs.Standing.{ReadSoFar, texts}
+use Rattle.std.proofs.KnownBytes.{Consumes-kept, Consumes-trans}
 
 -- no more lines and headers than bytes
 pub so_far-few : {S : Type 0} {w : S → Option (List ℕ)} {f : S → ℕ} {a b : S} {waited waits : List ℕ} {names : List (List ℕ)} {slots : List (Option Stored)} {limit room : ℕ} {before left : Option (List ℕ)} {progress : Progress} →
     ReadSoFar w f a b waited waits names slots limit room before left progress → (progress.lines + length progress.line.items + room ≤ limit) × (progress.headers ≤ limit)
 so_far-few {progress = progress} s =
     let lines = text_lines-few s.front in
-    let headers = trace_from-few 1 (text_lines s.front) in
     let both = ap length s.parts ∙ length-append s.front progress.line.items in
-    (omega (arith, lines, both, s.lines, s.long), omega (arith, lines, headers, both, s.headers, s.long))
+    (omega (arith, lines, both, s.lines, s.long), omega (arith, lines, trace_from-few 1 (text_lines s.front), both, s.headers, s.long))
 
 -- what was read is a front of what was there
 pub seen_of : (all seen : List ℕ) (left : Option (List ℕ)) → Consumes (Some all) left seen → (rest : List ℕ) × (left ≡ Some rest) × (all ≡ seen ++ rest)
 seen_of all seen None h = absurd h
 seen_of all seen (Some rest) h = (rest, refl, h)
-
-consumes-kept : (a b c : Option (List ℕ)) (xs : List ℕ) → Consumes a b xs → Keeps b c → Consumes a c xs
-consumes-kept None b c xs p q = tt
-consumes-kept (Some x) None c xs p q = absurd p
-consumes-kept (Some x) (Some y) None xs p q = absurd q
-consumes-kept (Some x) (Some y) (Some z) xs p q = p ∙ ap (λ bs. xs ++ bs) (sym q)
 
 -- a read failed
 pub ends_fault : {S : Type 0} {w : S → Option (List ℕ)} {f : S → ℕ} {a b : S} {waited waits : List ℕ} {names : List (List ℕ)} {slots : List (Option Stored)} {limit room : ℕ} {before middle : Option (List ℕ)} {progress : Progress} (left : Option (List ℕ)) →
@@ -47,18 +40,16 @@ pub ends_fault : {S : Type 0} {w : S → Option (List ℕ)} {f : S → ℕ} {a b
 ends_fault {w = w} {a = a} {b = b} {waited = waited} {waits = waits} {names = names} {slots = slots} {before = before} {middle = middle} {progress = progress} left s kept =
     let front : whole_lines s.seen ≡ s.front = ap whole_lines s.parts ∙ whole_front s.front progress.line.items s.whole s.unfinished in (
       s.seen,
-      record { read = consumes-kept before middle left s.seen s.consumed kept; within = omega (arith, s.long); good = ap (λ bs. (trace_of bs).bad) front ∙ s.good },
+      record { read = Consumes-kept before middle left s.seen s.consumed kept; within = omega (arith, s.long); good = ap (λ bs. (trace_of bs).bad) front ∙ s.good },
       subst (λ bs. Written w a b waited waits (answers_text names slots (trace_of bs).headers)) (sym front) s.put,
     )
 
 -- what is whole of a text is a front of it
-tail_step : (b : ℕ) (text : List ℕ) (t : Bool) → ((tail : List ℕ) × (text ≡ whole_lines text ++ tail)) → (tail : List ℕ) × (b ∷ text ≡ cond t (b ∷ whole_lines text) [] ++ tail)
-tail_step b text true h = (h.0, ap (λ bs. b ∷ bs) h.1)
-tail_step b text false h = (b ∷ text, refl)
-
 pub tail_of : (text : List ℕ) → (tail : List ℕ) × (text ≡ whole_lines text ++ tail)
 tail_of [] = ([], refl)
-tail_of (b ∷ text) = tail_step b text (has_feed (b ∷ text)) (tail_of text)
+tail_of (b ∷ text) =
+    let rest = tail_of text in
+    cond_both (has_feed (b ∷ text)) (b ∷ whole_lines text) [] (λ whole. (tail : List ℕ) × (b ∷ text ≡ whole ++ tail)) (λ e. (rest.0, ap (λ bs. b ∷ bs) rest.1)) (λ e. (b ∷ text, refl))
 
 -- the lines that end in a piece, behind those in front
 record Reaches (limit : ℕ) (all front ended : List ℕ) : Type 0 where
@@ -72,18 +63,16 @@ reaches : {S : Type 0} {w : S → Option (List ℕ)} {f : S → ℕ} {a b : S} {
     Reaches limit all s.front (whole_lines (progress.line.items ++ piece))
 reaches {middle = middle} {progress = progress} all piece extra left s consumed fits =
     let line = progress.line.items in
-    let known = seen_of all (s.seen ++ (piece ++ extra)) left (consumes-then (Some all) middle left s.seen (piece ++ extra) s.consumed consumed) in
+    let known = seen_of all (s.seen ++ (piece ++ extra)) left (Consumes-trans (Some all) middle left s.seen (piece ++ extra) s.consumed consumed) in
     let tail = tail_of (line ++ piece) in
     let ended = whole_lines (line ++ piece) in
     let read : s.seen ++ piece ≡ (s.front ++ ended) ++ tail.0 =
     ap (λ bs. bs ++ piece) s.parts ∙ append_assoc s.front line piece ∙ ap (λ bs. s.front ++ bs) tail.1 ∙ sym (append_assoc s.front ended tail.0) in
-    let long = ap length read ∙ length-append (s.front ++ ended) tail.0 in
-    let sum = length-append s.seen piece in
     record {
       more = tail.0 ++ (extra ++ known.0);
       parts = known.2 ∙ ap (λ bs. bs ++ known.0) (sym (append_assoc s.seen piece extra)) ∙ append_assoc (s.seen ++ piece) extra known.0
           ∙ ap (λ bs. bs ++ (extra ++ known.0)) read ∙ append_assoc (s.front ++ ended) tail.0 (extra ++ known.0);
-      short = omega (arith, long, sum, fits, s.long);
+      short = omega (arith, ap length read ∙ length-append (s.front ++ ended) tail.0, length-append s.seen piece, fits, s.long);
       whole = whole_lines-append s.front ended s.whole ∙ ap (λ bs. s.front ++ bs) (whole_lines-twice (line ++ piece));
     }
 
@@ -129,8 +118,7 @@ pub ends_in_piece : {S T : Type 0} {w : S → Option (List ℕ)} {f : S → ℕ}
 ends_in_piece {c = c} {before = before} piece extra left (errors.BadLine line reason) s consumed fits puts stops = ends_bad c before piece extra left (record { line = line; reason = reason }) s consumed fits puts.put stops
 ends_in_piece piece extra left errors.ReadFault s consumed fits puts stops = absurd stops
 ends_in_piece piece extra left errors.TooLong s consumed fits puts stops = absurd stops
-ends_in_piece {c = c} {before = before} piece extra left errors.WriteFault s consumed fits puts stops = ends_lost c before piece extra left s consumed fits puts.put
-ends_in_piece {c = c} {before = before} piece extra left errors.Memory s consumed fits puts stops = ends_lost c before piece extra left s consumed fits puts.put
+ends_in_piece {c = c} {before = before} piece extra left e s consumed fits puts stops = ends_lost c before piece extra left s consumed fits puts.put
 
 at_end : (left : Option (List ℕ)) (rest : List ℕ) → left ≡ Some rest → IsAtEnd left → rest ≡ []
 at_end left rest e h = subst IsAtEnd e h
@@ -144,7 +132,7 @@ record IsRead (limit : ℕ) (all front line : List ℕ) (left : Option (List ℕ
 is_read : {S : Type 0} {w : S → Option (List ℕ)} {f : S → ℕ} {a b : S} {waited waits : List ℕ} {names : List (List ℕ)} {slots : List (Option Stored)} {limit room : ℕ} {middle : Option (List ℕ)} {progress : Progress} (all : List ℕ) (left : Option (List ℕ)) →
     (s : ReadSoFar w f a b waited waits names slots limit room (Some all) middle progress) → Consumes middle left [] → IsAtEnd left → IsRead limit all s.front progress.line.items left
 is_read {middle = middle} all left s consumed end =
-    let known = seen_of all (s.seen ++ []) left (consumes-then (Some all) middle left s.seen [] s.consumed consumed) in
+    let known = seen_of all (s.seen ++ []) left (Consumes-trans (Some all) middle left s.seen [] s.consumed consumed) in
     let none = at_end left known.0 known.1 end in
     let same : all ≡ s.seen = known.2 ∙ ap (λ bs. (s.seen ++ []) ++ bs) none ∙ append-nil (s.seen ++ []) ∙ append-nil s.seen in
     record { parts = same ∙ s.parts; none = known.1 ∙ ap Some none; short = omega (arith, ap length same, s.long) }
@@ -196,8 +184,7 @@ pub ends_at_last : {S T : Type 0} {w : S → Option (List ℕ)} {f : S → ℕ} 
 ends_at_last {c = c} {before = before} left (errors.BadLine line reason) s consumed end puts stops = last_bad c before left (record { line = line; reason = reason }) s consumed end puts.put stops
 ends_at_last left errors.ReadFault s consumed end puts stops = absurd stops
 ends_at_last left errors.TooLong s consumed end puts stops = absurd stops
-ends_at_last {c = c} {before = before} left errors.WriteFault s consumed end puts stops = last_lost c before left s consumed end puts.put
-ends_at_last {c = c} {before = before} left errors.Memory s consumed end puts stops = last_lost c before left s consumed end puts.put
+ends_at_last {c = c} {before = before} left e s consumed end puts stops = last_lost c before left s consumed end puts.put
 
 -- of more than was taken, this is left behind what was taken
 pub consumes-first : (a b : Option (List ℕ)) (xs ys : List ℕ) → Consumes a b (xs ++ ys) → Consumes a (prepend_known ys b) xs
@@ -212,28 +199,11 @@ pub ends_long : {S : Type 0} {w : S → Option (List ℕ)} {f : S → ℕ} {a b 
 ends_long None left extra s some = tt
 ends_long (Some all) None extra s some = absurd s.consumed
 ends_long {w = w} {a = a} {b = b} {waited = waited} {waits = waits} {names = names} {slots = slots} {limit = limit} {progress = progress} (Some all) (Some rest) extra s some =
-    let more = length-append extra rest in
     let long = ap length s.consumed ∙ length-append s.seen (extra ++ rest) in
-    let longer : limit < length all = omega (arith, more, long, s.long, some) in
+    let longer : limit < length all = omega (arith, length-append extra rest, long, s.long, some) in
     let cut : take limit all ≡ s.seen = ap (take limit) s.consumed ∙ take_at s.seen (extra ++ rest) limit (omega (arith, s.long)) in
     let here : trace_within limit all ≡ trace_of s.front =
     within_longer limit all longer ∙ ap (λ bs. trace_of (whole_lines bs)) (cut ∙ s.parts) ∙ ap trace_of (whole_front s.front progress.line.items s.whole s.unfinished) in (
       record { longer = longer; good = ap (λ (t : Trace). t.bad) here ∙ s.good },
       subst (λ (t : Trace). Written w a b waited waits (answers_text names slots t.headers)) (sym here) s.put,
     )
-
--- the last line stops the run, and its error was handed on
-pub ends_at_last_as : {S T : Type 0} {w : S → Option (List ℕ)} {f : S → ℕ} {a b c : S} {waited waits rests : List ℕ} {names : List (List ℕ)} {slots : List (Option Stored)} {limit room : ℕ} {before middle : Option (List ℕ)} {progress : Progress} (left : Option (List ℕ)) (e : TraceError) (r : Result ℕ TraceError) → r ≡ Err e →
-    ReadSoFar w f a b waited waits names slots limit room before middle progress → Consumes middle left [] → IsAtEnd left →
-    PutsLines {T = T} w f b c waits rests (answers_text names slots (last_trace progress).headers) (Err e) → StopsAt e (last_trace progress).bad →
-    Outcome (Written w a c waited rests) (Begun w a c waited) (answers_text names slots) limit before left r
-ends_at_last_as {w = w} {a = a} {c = c} {waited = waited} {rests = rests} {names = names} {slots = slots} {limit = limit} {before = before} left e r same s consumed end puts stops =
-    subst (λ (x : Result ℕ TraceError). Outcome (Written w a c waited rests) (Begun w a c waited) (answers_text names slots) limit before left x) (sym same) (ends_at_last left e s consumed end puts stops)
-
--- a piece stops the run, and its error was handed on
-pub ends_in_piece_as : {S T : Type 0} {w : S → Option (List ℕ)} {f : S → ℕ} {a b c : S} {waited waits rests : List ℕ} {names : List (List ℕ)} {slots : List (Option Stored)} {limit room : ℕ} {before middle : Option (List ℕ)} {progress : Progress} (piece extra : List ℕ) (left : Option (List ℕ)) (e : TraceError) (r : Result ℕ TraceError) → r ≡ Err e →
-    ReadSoFar w f a b waited waits names slots limit room before middle progress → Consumes middle left (piece ++ extra) → length piece ≤ room →
-    PutsLines {T = T} w f b c waits rests (answers_text names slots (next_trace progress piece).headers) (Err e) → StopsAt e (next_trace progress piece).bad →
-    Outcome (Written w a c waited rests) (Begun w a c waited) (answers_text names slots) limit before left r
-ends_in_piece_as {w = w} {a = a} {c = c} {waited = waited} {rests = rests} {names = names} {slots = slots} {limit = limit} {before = before} piece extra left e r same s consumed fits puts stops =
-    subst (λ (x : Result ℕ TraceError). Outcome (Written w a c waited rests) (Begun w a c waited) (answers_text names slots) limit before left x) (sym same) (ends_in_piece piece extra left e s consumed fits puts stops)

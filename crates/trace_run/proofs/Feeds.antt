@@ -1,53 +1,40 @@
 -- Texts up to their last line feed.
-use Rattle.std.proofs.Common.{◌≡◌, ℕ, suc, ◌+◌, ◌-◌, ◌<◌, ◌≤◌, List, Bool, true, false, cond, [], ◌∷◌, ◌++◌, ap, refl, sym, ◌∙◌, length, take, drop, get_or, append_assoc, append-nil, take-append-drop, arith, nat_eq, map}
-use Rattle.std.specs.Prelude.{◌||◌}
+use Rattle.std.proofs.Common.{◌≡◌, ℕ, suc, ◌+◌, ◌-◌, ◌<◌, ◌≤◌, List, Bool, true, false, cond, [], ◌∷◌, ◌++◌, ap, refl, sym, ◌∙◌, length, take, drop, get_or, append_assoc, append-nil, take-append-drop, arith, nat_eq, map, ◌||◌, ◌==◌}
 use Rattle.std.specs.List.{onto_first}
+use Rattle.std.proofs.lemmas.Bool.{or_from, or_left, or_right, cond_both}
+use Rattle.std.proofs.lemmas.List.Folds.{list_any-append}
 use Rattle.std.proofs.lemmas.List.{map-append, length-map, length-take-le, take_more}
-use Rattle.filter_reader.specs.FilterList.{text_lines}
-use Rattle.filter_reader.specs.Lines.{lines_of, without_return}
+use Rattle.text_lines.specs.Lines.{text_lines, lines_of, without_return}
 use Rattle.trace_run.specs.Trace.{has_feed, whole_lines}
-
-or_true : (p : Bool) → (p || true) ≡ true
-or_true true = refl
-or_true false = refl
 
 -- a text that ends with a line feed has one
 pub has_feed-end : (text : List ℕ) → has_feed (text ++ 10 ∷ []) ≡ true
-has_feed-end [] = refl
-has_feed-end (b ∷ text) = ap (λ t. nat_eq b 10 || t) (has_feed-end text) ∙ or_true (nat_eq b 10)
+has_feed-end text = list_any-append (λ b. b == 10) text (10 ∷ []) ∙ or_right (has_feed text) true refl
 
 -- a text that ends with a line feed is whole
 pub whole_lines-end : (text : List ℕ) → whole_lines (text ++ 10 ∷ []) ≡ text ++ 10 ∷ []
 whole_lines-end [] = refl
 whole_lines-end (b ∷ text) = ap (λ t. cond t (b ∷ whole_lines (text ++ 10 ∷ [])) []) (has_feed-end (b ∷ text)) ∙ ap (λ bs. b ∷ bs) (whole_lines-end text)
 
--- a byte that isn't a line feed in front of a text without one
-pub has_feed-other : (b : ℕ) (text : List ℕ) → nat_eq b 10 ≡ false → has_feed text ≡ false → has_feed (b ∷ text) ≡ false
-has_feed-other b text e h = ap (λ t. t || has_feed text) e ∙ h
-
 -- a text without a line feed has no whole line
 pub whole_lines-none : (text : List ℕ) → has_feed text ≡ false → whole_lines text ≡ []
 whole_lines-none [] h = refl
 whole_lines-none (b ∷ text) h = ap (λ t. cond t (b ∷ whole_lines text) []) h
 
-first_or_more : (t : Bool) (front rest : List ℕ) → (t || has_feed front) ≡ true → (has_feed front ≡ true → has_feed (front ++ rest) ≡ true) → (t || has_feed (front ++ rest)) ≡ true
-first_or_more true front rest h more = refl
-first_or_more false front rest h more = more h
-
 -- a line feed before a text
 more_feeds : (front rest : List ℕ) → has_feed front ≡ true → has_feed (front ++ rest) ≡ true
-more_feeds [] rest h = absurd cc
-more_feeds (b ∷ front) rest h = first_or_more (nat_eq b 10) front rest h (more_feeds front rest)
+more_feeds front rest h = list_any-append (λ b. b == 10) front rest ∙ or_left (has_feed front) (has_feed rest) h
 
-whole_step : (b : ℕ) (front rest : List ℕ) (t : Bool) → has_feed (b ∷ front) ≡ t → cond t (b ∷ whole_lines front) [] ≡ b ∷ front →
-    (whole_lines front ≡ front → whole_lines (front ++ rest) ≡ front ++ whole_lines rest) → whole_lines ((b ∷ front) ++ rest) ≡ (b ∷ front) ++ whole_lines rest
-whole_step b front rest true e h more = ap (λ t. cond t (b ∷ whole_lines (front ++ rest)) []) (more_feeds (b ∷ front) rest e) ∙ ap (λ bs. b ∷ bs) (more (ap (drop 1) h))
-whole_step b front rest false e h more = absurd cc
+whole_rest : (b : ℕ) (front : List ℕ) (t : Bool) → cond t (b ∷ whole_lines front) [] ≡ b ∷ front → (t ≡ true) × (whole_lines front ≡ front)
+whole_rest b front true h = (refl, ap (drop 1) h)
+whole_rest b front false h = absurd cc
 
 -- what is whole stays whole before any text
 pub whole_lines-append : (front rest : List ℕ) → whole_lines front ≡ front → whole_lines (front ++ rest) ≡ front ++ whole_lines rest
 whole_lines-append [] rest h = refl
-whole_lines-append (b ∷ front) rest h = whole_step b front rest (has_feed (b ∷ front)) refl h (whole_lines-append front rest)
+whole_lines-append (b ∷ front) rest h =
+    let parts = whole_rest b front (has_feed (b ∷ front)) h in
+    ap (λ t. cond t (b ∷ whole_lines (front ++ rest)) []) (more_feeds (b ∷ front) rest parts.0) ∙ ap (λ bs. b ∷ bs) (whole_lines-append front rest parts.1)
 
 -- a byte goes onto the first of some lines
 onto_more : (b c : ℕ) (t : Bool) (parts more : List (List ℕ)) → onto_first b (cond t ([] ∷ parts) (onto_first c parts) ++ more) ≡ onto_first b (cond t ([] ∷ parts) (onto_first c parts)) ++ more
@@ -64,10 +51,6 @@ lines_step : (b : ℕ) (front rest : List ℕ) (t : Bool) → (t || has_feed fro
 lines_step b front rest true h e = ap (λ ls. [] ∷ ls) e
 lines_step b front rest false h e = ap (onto_first b) e ∙ onto_some b front (lines_of rest) h
 
-whole_rest : (b : ℕ) (front : List ℕ) (t : Bool) → cond t (b ∷ whole_lines front) [] ≡ b ∷ front → (t ≡ true) × (whole_lines front ≡ front)
-whole_rest b front true h = (refl, ap (drop 1) h)
-whole_rest b front false h = absurd cc
-
 -- the lines of what is whole, and those of a text behind it
 pub lines_of-append : (front rest : List ℕ) → whole_lines front ≡ front → lines_of (front ++ rest) ≡ lines_of front ++ lines_of rest
 lines_of-append [] rest h = refl
@@ -79,9 +62,8 @@ pub text_lines-append : (front rest : List ℕ) → whole_lines front ≡ front 
 text_lines-append front rest h = ap (map without_return) (lines_of-append front rest h) ∙ map-append without_return (lines_of front) (lines_of rest)
 
 few_step : (b n : ℕ) (t : Bool) (parts : List (List ℕ)) → length parts ≤ n → length (cond t ([] ∷ parts) (onto_first b parts)) ≤ suc n
-few_step b n true parts h = omega (arith, h)
 few_step b n false [] h = omega arith
-few_step b n false (part ∷ parts) h = omega (arith, h)
+few_step b n t parts h = omega (arith, h)
 
 -- no more lines than bytes
 pub lines_of-few : (text : List ℕ) → length (lines_of text) ≤ length text
@@ -98,27 +80,17 @@ whole_lines-cut text n some within feed =
     let cut : take n text ≡ take (n - 1) text ++ 10 ∷ [] = ap (λ m. take m text) (sym e) ∙ take_more text (n - 1) 0 (omega (arith, some, within)) ∙ ap (λ b. take (n - 1) text ++ b ∷ []) feed in
     ap whole_lines cut ∙ whole_lines-end (take (n - 1) text) ∙ sym cut
 
-no_first : (t : Bool) (front rest : List ℕ) → (t || has_feed front) ≡ false → (has_feed front ≡ false → has_feed (front ++ rest) ≡ false) → (t || has_feed (front ++ rest)) ≡ false
-no_first true front rest h more = absurd cc
-no_first false front rest h more = more h
-
 -- texts without a line feed
 pub no_feeds : (front rest : List ℕ) → has_feed front ≡ false → has_feed rest ≡ false → has_feed (front ++ rest) ≡ false
-no_feeds [] rest h e = e
-no_feeds (b ∷ front) rest h e = no_first (nat_eq b 10) front rest h (λ k. no_feeds front rest k e)
+no_feeds front rest h e = list_any-append (λ b. b == 10) front rest ∙ or_from (has_feed front) (has_feed rest) h e
 
 -- a text that is whole has a line feed, if it has a byte
-whole_feed : (b : ℕ) (text : List ℕ) (t : Bool) → has_feed (b ∷ text) ≡ t → cond t (b ∷ whole_lines text) [] ≡ b ∷ text → has_feed (b ∷ text) ≡ true
-whole_feed b text true e h = e
-whole_feed b text false e h = absurd cc
-
 ends_with_feed : (text : List ℕ) → 0 < length text → whole_lines text ≡ text → has_feed text ≡ true
 ends_with_feed [] some h = absurd (omega (arith, some))
-ends_with_feed (b ∷ text) some h = whole_feed b text (has_feed (b ∷ text)) refl h
+ends_with_feed (b ∷ text) some h = (whole_rest b text (has_feed (b ∷ text)) h).0
 
 later_feed : (front rest : List ℕ) → has_feed rest ≡ true → has_feed (front ++ rest) ≡ true
-later_feed [] rest h = h
-later_feed (b ∷ front) rest h = ap (λ t. nat_eq b 10 || t) (later_feed front rest h) ∙ or_true (nat_eq b 10)
+later_feed front rest h = list_any-append (λ b. b == 10) front rest ∙ or_right (has_feed front) (has_feed rest) h
 
 -- a text before one that is whole and has a byte
 whole_lines-behind : (front rest : List ℕ) → has_feed rest ≡ true → whole_lines rest ≡ rest → whole_lines (front ++ rest) ≡ front ++ rest
@@ -137,20 +109,15 @@ whole_lines-piece line piece n some within whole none =
 pub whole_lines-unfinished : (line piece : List ℕ) → has_feed line ≡ false → has_feed piece ≡ false → whole_lines (line ++ piece) ≡ []
 whole_lines-unfinished line piece h e = whole_lines-none (line ++ piece) (no_feeds line piece h e)
 
-feed_step : (b : ℕ) (text : List ℕ) (t : Bool) → has_feed (b ∷ text) ≡ t → has_feed (whole_lines text) ≡ has_feed text → has_feed (cond t (b ∷ whole_lines text) []) ≡ t
-feed_step b text true e same = ap (λ u. nat_eq b 10 || u) same ∙ e
-feed_step b text false e same = refl
-
 -- what is whole has a line feed where the text has one
 pub has_feed-whole : (text : List ℕ) → has_feed (whole_lines text) ≡ has_feed text
 has_feed-whole [] = refl
-has_feed-whole (b ∷ text) = feed_step b text (has_feed (b ∷ text)) refl (has_feed-whole text)
-
-twice_step : (b : ℕ) (text : List ℕ) (t : Bool) → has_feed (b ∷ text) ≡ t → whole_lines (whole_lines text) ≡ whole_lines text → whole_lines (cond t (b ∷ whole_lines text) []) ≡ cond t (b ∷ whole_lines text) []
-twice_step b text true e same = ap (λ t. cond t (b ∷ whole_lines (whole_lines text)) []) (ap (λ u. nat_eq b 10 || u) (has_feed-whole text) ∙ e) ∙ ap (λ bs. b ∷ bs) same
-twice_step b text false e same = refl
+has_feed-whole (b ∷ text) =
+    cond_both (has_feed (b ∷ text)) (b ∷ whole_lines text) [] (λ whole. has_feed whole ≡ has_feed (b ∷ text)) (λ e. ap (λ t. nat_eq b 10 || t) (has_feed-whole text)) (λ e. sym e)
 
 -- what is whole is whole
 pub whole_lines-twice : (text : List ℕ) → whole_lines (whole_lines text) ≡ whole_lines text
 whole_lines-twice [] = refl
-whole_lines-twice (b ∷ text) = twice_step b text (has_feed (b ∷ text)) refl (whole_lines-twice text)
+whole_lines-twice (b ∷ text) =
+    cond_both (has_feed (b ∷ text)) (b ∷ whole_lines text) [] (λ whole. whole_lines whole ≡ whole) (λ e.
+    ap (λ t. cond t (b ∷ whole_lines (whole_lines text)) []) (ap (λ t. nat_eq b 10 || t) (has_feed-whole text) ∙ e) ∙ ap (λ bs. b ∷ bs) (whole_lines-twice text)) (λ e. refl)

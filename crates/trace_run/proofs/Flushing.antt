@@ -1,7 +1,6 @@
 -- How a run ends once what waited is written.
-use Rattle.std.proofs.Common.{◌≡◌, ℕ, List, false, [], ◌++◌, Option, Some, None, Result, Ok, Err, ap, sym, subst, ◌∙◌, append_assoc, length, length-append, arith}
+use Rattle.std.proofs.Common.{◌≡◌, ℕ, List, false, [], ◌++◌, Option, Some, None, Result, Ok, Err, ap, sym, subst, ◌∙◌, append_assoc, length, length-append, arith, IfSome}
 use Rattle.std.specs.Io.KnownBytes.{Appends}
-use Rattle.std.specs.Prelude.{IfSome}
 use Rattle.std.proofs.lemmas.List.Concat.{flat_map-append}
 use Rattle.razor_base.specs.Output.{LeavesOut, AppendsFront}
 use Rattle.razor_base.proofs.Output.{leaves_out-appends, appends_front-rest, appends_front-within}
@@ -24,15 +23,13 @@ one w a b c waited waits text none all put = leaves_out-appends (w a) (w b) (w c
 pub flushed : {S : Type 0} (w : S → Option (List ℕ)) (a b c : S) (waited waits : List ℕ) (answers : List (List ℕ) → List ℕ) (limit : ℕ) (before left : Option (List ℕ)) (r : Result ℕ TraceError) → waited ≡ [] → is_lost r ≡ false →
     Appends (w b) (w c) waits → Outcome (Written w a b waited waits) (Begun w a b waited) answers limit before left r →
     Outcome (Appends (w a) (w c)) (AppendsFront (w a) (w c)) answers limit before left r
-flushed w a b c waited waits answers limit None left (Ok count) none going all outcome = tt
 flushed w a b c waited waits answers limit (Some bytes) left (Ok count) none going all outcome = (outcome.0, one w a b c waited waits _ none all outcome.1)
-flushed w a b c waited waits answers limit None left (Err (errors.BadLine line reason)) none going all outcome = tt
 flushed w a b c waited waits answers limit (Some bytes) left (Err (errors.BadLine line reason)) none going all outcome = (outcome.0, one w a b c waited waits _ none all outcome.1)
-flushed w a b c waited waits answers limit None left (Err errors.TooLong) none going all outcome = tt
 flushed w a b c waited waits answers limit (Some bytes) left (Err errors.TooLong) none going all outcome = (outcome.0, one w a b c waited waits _ none all outcome.1)
 flushed w a b c waited waits answers limit before left (Err errors.ReadFault) none going all outcome = (outcome.0, outcome.1, one w a b c waited waits _ none all outcome.2)
 flushed w a b c waited waits answers limit before left (Err errors.WriteFault) none going all outcome = absurd cc
 flushed w a b c waited waits answers limit before left (Err errors.Memory) none going all outcome = absurd cc
+flushed w a b c waited waits answers limit before left r none going all outcome = tt
 
 -- a front of one text was written
 begun : {S : Type 0} (w : S → Option (List ℕ)) (a b c : S) (waited waits text : List ℕ) → waited ≡ [] → AppendsFront (w b) (w c) waits → Written w a b waited waits text → AppendsFront (w a) (w c) text
@@ -56,15 +53,9 @@ pub unflushed : {S : Type 0} (w : S → Option (List ℕ)) (a b c : S) (waited w
 unflushed w a b c waited waits names slots limit None left r none going some outcome = tt
 unflushed w a b c waited waits names slots limit (Some all) left (Ok count) none going some outcome =
     subst (λ (t : Trace). AppendsFront (w a) (w c) (answers_text names slots t.headers)) (sym (within_all limit all outcome.0.within)) (begun w a b c waited waits _ none some outcome.1)
-unflushed w a b c waited waits names slots limit (Some all) left (Err (errors.BadLine line reason)) none going some outcome = begun w a b c waited waits _ none some outcome.1
-unflushed w a b c waited waits names slots limit (Some all) left (Err errors.TooLong) none going some outcome = begun w a b c waited waits _ none some outcome.1
 unflushed w a b c waited waits names slots limit (Some all) left (Err errors.ReadFault) none going some outcome =
     let front = cut_front names slots limit all left outcome.0 outcome.1 in
     appends_front-within (w a) (w c) _ _ front.0 front.1 (begun w a b c waited waits _ none some outcome.2)
 unflushed w a b c waited waits names slots limit (Some all) left (Err errors.WriteFault) none going some outcome = absurd cc
 unflushed w a b c waited waits names slots limit (Some all) left (Err errors.Memory) none going some outcome = absurd cc
-
--- the error of a flush was handed on
-pub unflushed_as : {S : Type 0} (w : S → Option (List ℕ)) (a c : S) (answers : List (List ℕ) → List ℕ) (limit : ℕ) (before left : Option (List ℕ)) (r : Result ℕ TraceError) → r ≡ Err errors.WriteFault →
-    IfSome before (λ all. AppendsFront (w a) (w c) (answers (trace_within limit all).headers)) → Outcome (Appends (w a) (w c)) (AppendsFront (w a) (w c)) answers limit before left r
-unflushed_as w a c answers limit before left r same lost = subst (λ (x : Result ℕ TraceError). Outcome (Appends (w a) (w c)) (AppendsFront (w a) (w c)) answers limit before left x) (sym same) lost
+unflushed w a b c waited waits names slots limit before left r none going some outcome = begun w a b c waited waits _ none some outcome.1

@@ -1,4 +1,3 @@
-pub mod Places
 pub mod Feeds
 pub mod Traces
 pub mod SoFar

@@ -5,16 +5,15 @@ use Rattle.ternary_words.specs.Limits.{AreNumbered}
 use Rattle.ternary_words.specs.Table.{answer, entry_matches}
 use Rattle.ternary_words.specs.Views.{entry_of}
 use Rattle.ternary_words.specs.declared.entry.Entry.{Entry}
-use Rattle.filter_reader.proofs.Positions.{position-cons}
+use Rattle.text_lines.proofs.Positions.{position-cons}
 use Rattle.tcam_sim.specs.Slots.{Stored, decision_in, filled, slot_matches, stored}
 use Rattle.trace_run.specs.Answers.{HaveNames, answer_in}
 
 found_step : (names : List (List ℕ)) (slot : Option Stored) (slots : List (Option Stored)) (t : Bool) (found : Option ℕ) →
     option_and_then (λ (x : ℕ × ℕ). name_at names x.1) (option_map {U = ℕ × ℕ} (λ k. (k, decision_in (get_or (slot ∷ slots) k None))) (cond t (Some 0) (option_map (λ i. i + 1) found)))
     ≡ cond t (name_at names (decision_in slot)) (option_and_then (λ (x : ℕ × ℕ). name_at names x.1) (option_map {U = ℕ × ℕ} (λ k. (k, decision_in (get_or slots k None))) found))
-found_step names slot slots true found = refl
-found_step names slot slots false None = refl
 found_step names slot slots false (Some k) = ap (λ i. name_at names (decision_in (get_or (slot ∷ slots) i None))) (let e : k + 1 ≡ suc k = add-one k in e)
+found_step names slot slots t found = refl
 
 -- the answer of one slot more
 answer-cons : (names : List (List ℕ)) (slot : Option Stored) (slots : List (Option Stored)) (values : List ℕ) →
@@ -45,9 +44,8 @@ answer-filled names values slots entries = answer-loaded names values (slots - l
 
 -- no decision in an empty slot
 none_in : (count k : ℕ) → decision_in (get_or (replicate count None) k None) ≡ 0
-none_in zero k = refl
-none_in (suc count) zero = refl
 none_in (suc count) (suc k) = none_in count k
+none_in count k = refl
 
 named : (names : List (List ℕ)) (count : ℕ) (entries : List Entry) → AreNumbered (length names) entries → (k : ℕ) → decision_in (get_or (map (λ e. Some (stored e)) entries ++ replicate count None) k None) ≤ length names
 named names count [] numbered k = let none = none_in count k in omega (arith, none)

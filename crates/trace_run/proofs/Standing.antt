@@ -1,10 +1,10 @@
 -- Where a run over a trace stands between two reads, and how it ends.
-use Rattle.std.proofs.Common.{◌≡◌, ℕ, ◌+◌, ◌≤◌, List, false, [], ◌++◌, Option, Some, None, Ok, ap, refl, sym, subst, ◌∙◌, length, length-append, append_assoc, append-nil, arith}
+use Rattle.std.proofs.Common.{◌≡◌, ℕ, ◌+◌, List, false, ◌++◌, Option, None, Ok, ap, sym, subst, ◌∙◌, length, length-append, append_assoc, arith}
 use Rattle.std.specs.Io.KnownBytes.{Consumes}
 use Rattle.std.proofs.lemmas.List.Concat.{flat_map-append}
-use Rattle.filter_reader.specs.FilterList.{text_lines}
+use Rattle.text_lines.specs.Lines.{text_lines}
 use Rattle.razor_base.specs.Output.{LeavesOut}
-use Rattle.razor_base.proofs.Output.{leaves_out-none, leaves_out-then}
+use Rattle.razor_base.proofs.Output.{leaves_out-then}
 use Rattle.tcam_sim.specs.Slots.{Stored}
 use Rattle.trace_run.specs.declared.progress.Progress.{Progress}
 use Rattle.trace_run.specs.Answers.{answer_line, answers_text}
@@ -13,6 +13,7 @@ use Rattle.trace_run.specs.Trace.{Trace, has_feed, trace_of, whole_lines}
 use Rattle.trace_run.proofs.Feeds.{whole_lines-append, whole_lines-twice, text_lines-append}
 use Rattle.trace_run.proofs.Traces.{behind}
 use Rattle.trace_run.proofs.Within.{trace_behind}
+use Rattle.std.proofs.KnownBytes.{Consumes-trans}
 
 -- what was read so far, of which the lines in front were taken
 pub record ReadSoFar {S : Type 0} (w : S → Option (List ℕ)) (f : S → ℕ) (a b : S) (waited waits : List ℕ) (names : List (List ℕ)) (slots : List (Option Stored)) (limit room : ℕ) (before left : Option (List ℕ)) (progress : Progress) : Type 0 where
@@ -28,35 +29,6 @@ pub record ReadSoFar {S : Type 0} (w : S → Option (List ℕ)) (f : S → ℕ) 
   pub headers : progress.headers ≡ length (trace_of front).headers
   pub put : LeavesOut (w a) (w b) (waited ++ answers_text names slots (trace_of front).headers) waits
   pub calm : f b ≡ f a
-
-consumes-none : (known : Option (List ℕ)) → Consumes known known []
-consumes-none None = tt
-consumes-none (Some bytes) = refl
-
--- one read behind another
-pub consumes-then : (a b c : Option (List ℕ)) (xs ys : List ℕ) → Consumes a b xs → Consumes b c ys → Consumes a c (xs ++ ys)
-consumes-then None b c xs ys p q = tt
-consumes-then (Some x) None c xs ys p q = absurd p
-consumes-then (Some x) (Some y) None xs ys p q = absurd q
-consumes-then (Some x) (Some y) (Some z) xs ys p q = p ∙ ap (λ bs. xs ++ bs) q ∙ sym (append_assoc xs ys z)
-
--- nothing was read
-pub so_far-none : {S : Type 0} {w : S → Option (List ℕ)} {f : S → ℕ} {a : S} {waited : List ℕ} (names : List (List ℕ)) (slots : List (Option Stored)) (limit : ℕ) (before : Option (List ℕ)) (progress : Progress) →
-    progress.line.items ≡ [] → progress.lines ≡ 0 → progress.headers ≡ 0 → ReadSoFar w f a a waited waited names slots limit limit before before progress
-so_far-none {w = w} {a = a} {waited = waited} names slots limit before progress line lines headers = record {
-  seen = [];
-  front = [];
-  consumed = consumes-none before;
-  long = omega arith;
-  parts = sym line;
-  whole = refl;
-  unfinished = ap has_feed line;
-  good = refl;
-  lines = lines;
-  headers = headers;
-  put = rw (append-nil waited) (leaves_out-none (w a) waited);
-  calm = refl;
-}
 
 -- the answers to what was taken and to what comes next
 pub texts : (names : List (List ℕ)) (slots : List (Option Stored)) (waited : List ℕ) (done : List (List ℕ)) (whole next : Trace) → whole ≡ behind done next →
@@ -76,14 +48,13 @@ pub so_far-next : {S : Type 0} {w : S → Option (List ℕ)} {f : S → ℕ} {a 
 so_far-next {w = w} {f = f} {a = a} {b = b} {c = c} {waited = waited} {waits = waits} {left = left} {names = names} {slots = slots} {before = before} {behind_b = middle} {progress = progress} next after piece less s consumed long puts moved rest unfinished =
     let ended = whole_lines (progress.line.items ++ piece) in
     let come = trace_behind s.front ended progress.lines s.whole s.good s.lines in
-    let more = length-append s.seen piece in
     let both = ap length (text_lines-append s.front ended s.whole) ∙ length-append (text_lines s.front) (text_lines ended) in
     let headers = ap (λ (t : Trace). length t.headers) come ∙ length-append (trace_of s.front).headers (next_trace progress piece).headers in
     record {
       seen = s.seen ++ piece;
       front = s.front ++ ended;
-      consumed = consumes-then before middle after s.seen piece s.consumed consumed;
-      long = omega (arith, s.long, long, more);
+      consumed = Consumes-trans before middle after s.seen piece s.consumed consumed;
+      long = omega (arith, s.long, long, length-append s.seen piece);
       parts = ap (λ bs. bs ++ piece) s.parts ∙ append_assoc s.front progress.line.items piece ∙ ap (λ bs. s.front ++ bs) (sym rest) ∙ sym (append_assoc s.front ended next.line.items);
       whole = whole_lines-append s.front ended s.whole ∙ ap (λ bs. s.front ++ bs) (whole_lines-twice (progress.line.items ++ piece));
       unfinished = unfinished;

@@ -1,8 +1,8 @@
 -- What is taken of an input within the limit, by a front of it that is whole.
-use Rattle.std.proofs.Common.{◌≡◌, ℕ, ◌+◌, ◌-◌, ◌<◌, ◌≤◌, List, Bool, true, false, cond, ◌++◌, Some, None, ap, sym, ◌∙◌, length, take, append-nil, arith, nat_le, le-leb}
+use Rattle.std.proofs.Common.{◌≡◌, ℕ, ◌+◌, ◌-◌, ◌<◌, ◌≤◌, List, false, cond, ◌++◌, Some, None, ap, sym, ◌∙◌, length, take, append-nil, arith, nat_le, le-leb}
 use Rattle.std.proofs.Math.Seq.{take-append-add}
-use Rattle.std.proofs.lemmas.Bool.{lt-leb}
-use Rattle.filter_reader.specs.FilterList.{text_lines}
+use Rattle.std.proofs.lemmas.Bool.{lt-leb, cond_both}
+use Rattle.text_lines.specs.Lines.{text_lines}
 use Rattle.trace_run.specs.Trace.{Trace, BadLine, has_feed, trace_from, trace_of, trace_within, whole_lines}
 use Rattle.trace_run.proofs.Feeds.{text_lines-append, whole_lines-append, whole_lines-none}
 use Rattle.trace_run.proofs.Traces.{behind, trace_from-append, trace_from-bad, headers_begin}
@@ -12,20 +12,18 @@ take_behind front more n le =
     let e : length front + (n - length front) ≡ n = omega (arith, le) in
     ap (λ m. take m (front ++ more)) (sym e) ∙ take-append-add front more (n - length front)
 
-begins : (limit : ℕ) (all front more : List ℕ) (t : Bool) → whole_lines front ≡ front → all ≡ front ++ more → length front ≤ limit →
-    (lines : List (List ℕ)) × (cond t (trace_of all) (trace_of (whole_lines (take limit all))) ≡ trace_from 1 (text_lines front ++ lines))
-begins limit all front more true whole e le = (text_lines more, ap trace_of e ∙ ap (trace_from 1) (text_lines-append front more whole))
-begins limit all front more false whole e le =
-    let rest = whole_lines (take (limit - length front) more) in (
-      text_lines rest,
-      ap (λ bs. trace_of (whole_lines (take limit bs))) e ∙ ap (λ bs. trace_of (whole_lines bs)) (take_behind front more limit le)
-          ∙ ap trace_of (whole_lines-append front (take (limit - length front) more) whole) ∙ ap (trace_from 1) (text_lines-append front rest whole),
-    )
-
 -- the lines that are taken begin with those of a front that is whole
 pub within_begins : (limit : ℕ) (all front more : List ℕ) → whole_lines front ≡ front → all ≡ front ++ more → length front ≤ limit →
     (lines : List (List ℕ)) × (trace_within limit all ≡ trace_from 1 (text_lines front ++ lines))
-within_begins limit all front more whole e le = begins limit all front more (nat_le (length all) limit) whole e le
+within_begins limit all front more whole e le =
+    let rest = whole_lines (take (limit - length front) more) in
+    cond_both (nat_le (length all) limit) (trace_of all) (trace_of (whole_lines (take limit all))) (λ trace. (lines : List (List ℕ)) × (trace ≡ trace_from 1 (text_lines front ++ lines)))
+    (λ within. (text_lines more, ap trace_of e ∙ ap (trace_from 1) (text_lines-append front more whole)))
+    (λ longer. (
+      text_lines rest,
+      ap (λ bs. trace_of (whole_lines (take limit bs))) e ∙ ap (λ bs. trace_of (whole_lines bs)) (take_behind front more limit le)
+          ∙ ap trace_of (whole_lines-append front (take (limit - length front) more) whole) ∙ ap (trace_from 1) (text_lines-append front rest whole),
+    ))
 
 -- a bad line in a front that is whole
 pub within_bad : (limit : ℕ) (all front more : List ℕ) (bad : BadLine) → whole_lines front ≡ front → all ≡ front ++ more → length front ≤ limit → (trace_of front).bad ≡ Some bad → trace_within limit all ≡ trace_of front

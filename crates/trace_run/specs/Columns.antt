@@ -1,29 +1,11 @@
--- The columns of a trace line: blanks part them.
-use Rattle.std.specs.Prelude.{ℕ, nat_le, List, [], ◌∷◌, Option, Some, None, Result, Ok, Err, ok_or, if◌then◌else◌}
-use Rattle.std.specs.List.{onto_first}
+-- The columns of a trace line.
+use Rattle.std.specs.Prelude.{ℕ, nat_le, List, [], ◌∷◌, Result, Ok, Err, ok_or, if◌then◌else◌}
 use Rattle.field_boxes.specs.Fields.{greatest_of}
-use Rattle.filter_reader.specs.Lines.{is_blank}
-use Rattle.filter_reader.specs.Numbers.{is_number, number_of}
-use Rattle.filter_reader.specs.Tokens.{begins_token}
+use Rattle.text_lines.specs.Columns.{first_column}
+use Rattle.text_lines.specs.Fallible.{◌>>=◌}
+use Rattle.text_lines.specs.Numbers.{is_number, number_of}
 use Rattle.trace_run.specs.declared.reason.TraceReason.{TraceReason}
 use Rattle.trace_run.specs.declared.reason.TraceReason.TheVariants.{Short, Digits, Large}
-
-infixl 10 ◌>>=◌
-abbrev pub ◌>>=◌ : {A B : Type 0} → Result A TraceReason → (A → Result B TraceReason) → Result B TraceReason
-Ok value >>= f = f value
-Err reason >>= f = Err reason
-
--- the columns, in order
-abbrev pub columns : List ℕ → List (List ℕ)
-columns [] = []
-columns (b ∷ text) =
-    if is_blank b then columns text
-    else (if begins_token text then onto_first b (columns text) else (b ∷ []) ∷ columns text)
-
--- the first column, and those behind it
-abbrev pub first_column : List (List ℕ) → Option (List ℕ × List (List ℕ))
-first_column [] = None
-first_column (column ∷ more) = Some (column, more)
 
 -- a decimal number, leading zeros allowed, which is no greater than this
 unfoldable pub value_within : ℕ → List ℕ → Result ℕ TraceReason

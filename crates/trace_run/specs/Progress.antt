@@ -1,6 +1,6 @@
 -- What is kept of a trace while it is read.
 use Rattle.std.specs.Prelude.{◌≡◌, ℕ, ◌+◌, ◌≤◌, Bool, true, false, List, ◌++◌, Option, Some, None, length, Result, Ok, Err}
-use Rattle.filter_reader.specs.FilterList.{text_lines}
+use Rattle.text_lines.specs.Lines.{text_lines}
 use Rattle.razor_base.specs.Faults.{Rose}
 use Rattle.razor_base.specs.Output.{LeavesOut, AppendsFront}
 use Rattle.trace_run.specs.declared.error.TraceError.{TraceError}

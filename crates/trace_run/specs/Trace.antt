@@ -1,10 +1,11 @@
 -- A trace: the headers up to its first bad line, and that line if there is one.
 use Rattle.std.specs.Prelude.{ℕ, ◌+◌, ◌==◌, Bool, List, [], ◌∷◌, Option, Some, None, Result, Ok, Err, length, nat_le, take, if◌then◌else◌}
 use Rattle.std.specs.List.{list_any}
-use Rattle.filter_reader.specs.FilterList.{text_lines}
-use Rattle.filter_reader.specs.Lines.{is_skipped}
+use Rattle.text_lines.specs.Columns.{columns}
+use Rattle.text_lines.specs.Lines.{text_lines, is_skipped}
 use Rattle.trace_run.specs.declared.reason.TraceReason.{TraceReason}
-use Rattle.trace_run.specs.Columns.{◌>>=◌, columns, header_of_columns}
+use Rattle.text_lines.specs.Fallible.{◌>>=◌}
+use Rattle.trace_run.specs.Columns.{header_of_columns}
 
 -- a bad line, counted from 1, and its first reason
 pub record BadLine : Type 0 where

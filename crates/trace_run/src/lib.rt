@@ -25,7 +25,6 @@ mod running;
 mod taking;
 
 pub use answering::answer;
-pub use column::next_column;
 pub use error::TraceError;
 pub use reason::TraceReason;
 pub use running::run;

@@ -1,14 +1,16 @@
 //! One line of a trace as a header.
 ghost use Rattle.std.specs.Prelude.{◌≡◌, Result};
-ghost use Rattle.filter_reader.specs.Lines.{without_return};
-ghost use Rattle.trace_run.specs.Columns.{columns, header_of_columns};
+ghost use Rattle.text_lines.specs.Columns.{columns};
+ghost use Rattle.text_lines.specs.Lines.{without_return};
+ghost use Rattle.trace_run.specs.Columns.{header_of_columns};
 ghost use Rattle.trace_run.specs.Trace.{header_of_line};
 ghost use Rattle.trace_run.specs.Views.{header_seen, line_seen};
 
 use crate::column::value_column;
 use crate::reason::TraceReason;
 use field_boxes::Header;
-use filter_reader::{is_skipped, without_return};
+use razor_base::limits::{GREATEST_PORT, GREATEST_PROTOCOL};
+use text_lines::{is_skipped, without_return};
 
 /// The header in the first five columns of the line.
 #[tactic(auto, unfolding(crate::specs::Columns::header_of_columns))]
@@ -17,9 +19,9 @@ fn header(line: &[u8]) -> Result<Header, TraceReason>
 {
     let (source, rest) = value_column(line, u32::MAX)?;
     let (destination, rest) = value_column(rest, u32::MAX)?;
-    let (source_port, rest) = value_column(rest, 65_535)?;
-    let (destination_port, rest) = value_column(rest, 65_535)?;
-    let (protocol, _) = value_column(rest, 255)?;
+    let (source_port, rest) = value_column(rest, GREATEST_PORT)?;
+    let (destination_port, rest) = value_column(rest, GREATEST_PORT)?;
+    let (protocol, _) = value_column(rest, GREATEST_PROTOCOL)?;
     Ok(Header {
         values: [source, destination, source_port, destination_port, protocol],
     })

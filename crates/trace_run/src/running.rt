@@ -3,6 +3,7 @@ ghost use Rattle.std.specs.Prelude.{◌≡◌, ◌≢◌, ◌≤◌, ℕ, List, 
 ghost use Rattle.std.specs.Io.KnownBytes.{Appends, Keeps};
 ghost use Rattle.razor_base.specs.Faults.{Rose};
 ghost use Rattle.razor_base.specs.Output.{AppendsFront};
+ghost use Rattle.razor_base.specs.declared.limits.TheConstants.{MOST_TRACE_BYTES};
 ghost use Rattle.trace_run.specs.Answers.{HaveNames, answers_text};
 ghost use Rattle.trace_run.specs.Outcome.{Begun, Outcome, Written};
 ghost use Rattle.trace_run.specs.Progress.{OnWriteFault, UnlessWriteFault, is_lost};
@@ -11,15 +12,13 @@ ghost use Rattle.trace_run.specs.declared.error.TraceError.TheVariants.{ReadFaul
 use crate::error::TraceError;
 use crate::progress::Progress;
 use field_boxes::Decisions;
+use razor_base::limits::MOST_TRACE_BYTES;
 use razor_base::{Desk, Pending, Sink};
 use std::alloc::Global;
 use tcam_sim::Device;
 
 /// As many bytes as are asked for at once.
 const PIECE: usize = 65_536;
-
-/// As many bytes as a trace may have.
-const LIMIT: usize = 67_108_864;
 
 /// Puts the answers to the headers of a trace, and answers how many there are.
 fn put_answers<V: Device, D: Desk, K: Sink>(
@@ -33,7 +32,7 @@ fn put_answers<V: Device, D: Desk, K: Sink>(
 ) -> Result<u64, TraceError>
     requires { HaveNames names.now (V.held device.now) }
     ensures outcome { Outcome (Written K.written out.old out.new pending.old pending.new) (Begun K.written out.old out.new pending.old)
-        (answers_text names.now (V.held device.now)) 67108864 (D.remaining desk.old name.now) (D.remaining desk.new name.now) result }
+        (answers_text names.now (V.held device.now)) MOST_TRACE_BYTES (D.remaining desk.old name.now) (D.remaining desk.new name.now) result }
     ensures write_fault { OnWriteFault result (Rose (K.faults out.old) (K.faults out.new)) }
     ensures calm { UnlessWriteFault result (K.faults out.new ≡ K.faults out.old) }
     ensures written { K.faults out.old ≤ K.faults out.new }
@@ -43,7 +42,7 @@ fn put_answers<V: Device, D: Desk, K: Sink>(
 {
     let mut progress = Progress::new(alloc);
     let mut piece = [0; PIECE];
-    let mut room = LIMIT;
+    let mut room = MOST_TRACE_BYTES as usize;
     'pieces: loop {
         let Ok(count) = desk.read(name, &mut piece) else {
             return Err(TraceError::ReadFault);
@@ -90,7 +89,7 @@ pub fn run<V: Device, D: Desk, K: Sink>(
 ) -> Result<u64, TraceError>
     requires { HaveNames names.now (V.held device.now) }
     ensures outcome { Outcome (Appends (K.written out.old) (K.written out.new)) (AppendsFront (K.written out.old) (K.written out.new))
-        (answers_text names.now (V.held device.now)) 67108864 (D.remaining desk.old name.now) (D.remaining desk.new name.now) result }
+        (answers_text names.now (V.held device.now)) MOST_TRACE_BYTES (D.remaining desk.old name.now) (D.remaining desk.new name.now) result }
 
     // A fault comes only where its count rose, and no count falls.
     ensures read_fault { IsErrOf result ReadFault → Rose (D.faults desk.old name.now) (D.faults desk.new name.now) }

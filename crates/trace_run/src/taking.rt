@@ -1,7 +1,6 @@
 //! Answering the lines of a piece.
 ghost use Rattle.std.specs.Prelude.{◌≡◌, ◌+◌, ◌<◌, ◌≤◌, ◌^◌, length, IfNone, IfOk};
-ghost use Rattle.filter_reader.specs.FilterList.{text_lines};
-ghost use Rattle.filter_reader.specs.Lines.{without_return};
+ghost use Rattle.text_lines.specs.Lines.{text_lines, without_return};
 ghost use Rattle.razor_base.specs.Output.{Puts};
 ghost use Rattle.trace_run.specs.Answers.{HaveNames, answers_text};
 ghost use Rattle.trace_run.specs.Taking.{count_in, stopped_at, text_for};
@@ -11,9 +10,9 @@ use crate::answering::put_answer;
 use crate::line::line_header;
 use crate::reason::TraceReason;
 use field_boxes::Decisions;
-use filter_reader::next_whole_line;
 use razor_base::{Failed, Pending, Sink};
 use tcam_sim::Device;
+use text_lines::next_whole_line;
 
 /// What lines came to: how many were taken, how many headers they had, and why the last one is bad, if it is.
 #[derive(Clone, Copy)]

@@ -1,5 +1,6 @@
 //! `arrange`: the table of a list's least cost in an order of the fields.
 ghost use Rattle.std.specs.Prelude.{◌≡◌, ◌≤◌, ℕ, IfOk, MatchResult};
+ghost use Rattle.razor_base.specs.declared.limits.TheConstants.{MOST_ENTRIES};
 ghost use Rattle.command_words.specs.Command.{Arrange};
 ghost use Rattle.command_words.specs.Views.{wanted_seen};
 ghost use Rattle.filter_reader.specs.Lists.{filter_list};
@@ -11,7 +12,8 @@ ghost use Rattle.razor_core.specs.Make.{IsNeeded, IsNotMade, IsOrderOf};
 use crate::commands::made::Made;
 use crate::ending::Ending;
 use command_words::Wanted;
-use field_order::{Order, best_order};
+use field_boxes::Order;
+use field_order::best_order;
 use filter_reader::RuleList;
 use razor_base::Memory;
 use rule_compilation::compile_in;
@@ -48,7 +50,7 @@ pub fn arrange_list<'a>(
     limit: u32,
     slot: u16,
 ) -> Result<Made, Ending<'a>>
-    requires limit { limit ≤ 262144 }
+    requires limit { limit ≤ MOST_ENTRIES }
     requires slot { ∥ IsSlotWidth slot ∥₁ }
     ensures made { MatchResult result
         (λ made. IsOrderOf (Arrange (wanted_seen wanted)) (filter_list list.now).rules made.order × IsCompiledIn made.order (filter_list list.now).rules slot (table_of made.table))

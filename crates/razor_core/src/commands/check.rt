@@ -15,12 +15,10 @@ use command_words::ThreeFiles;
 use filter_reader::RuleList;
 use partition_check::laws::equal_lists_have_one_verdict;
 use partition_check::{Checker, Stop, Why, Wrong, check_stream};
+use razor_base::limits::MOST_CERTIFICATE_BYTES;
 use razor_base::{Desk, Failed, Part, Sink, write_parts};
 use std::alloc::Global;
 use ternary_words::Table;
-
-/// The greatest number of bytes of a certificate.
-const MOST_CERTIFICATE_BYTES: u64 = 268_435_456;
 
 /// As many bytes of a certificate as are read at once.
 const PIECE: usize = 65_536;

@@ -1,5 +1,6 @@
 //! `compile`: the table of a list's field-by-field least cost.
 ghost use Rattle.std.specs.Prelude.{◌≡◌, ◌≤◌, ℕ, IfOk, MatchResult};
+ghost use Rattle.razor_base.specs.declared.limits.TheConstants.{MOST_ENTRIES};
 ghost use Rattle.field_boxes.specs.Fields.{stated};
 ghost use Rattle.filter_reader.specs.Lists.{filter_list};
 ghost use Rattle.rule_compilation.specs.Compiled.{IsCompiled};
@@ -26,7 +27,7 @@ pub fn compile_list<'a>(
     limit: u32,
     slot: u16,
 ) -> Result<Made, Ending<'a>>
-    requires limit { limit ≤ 262144 }
+    requires limit { limit ≤ MOST_ENTRIES }
     requires slot { ∥ IsSlotWidth slot ∥₁ }
     ensures made { MatchResult result
         (λ made. (made.order ≡ stated) × IsCompiled (filter_list list.now).rules slot (table_of made.table))

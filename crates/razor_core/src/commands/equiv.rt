@@ -3,7 +3,7 @@ ghost use Rattle.std.specs.Prelude.{◌≢◌, ℕ, List};
 ghost use Rattle.std.specs.Io.KnownBytes.{Keeps};
 ghost use Rattle.command_words.specs.Command.{Equiv};
 ghost use Rattle.filter_reader.specs.Lists.{filter_list};
-ghost use Rattle.list_equiv.specs.Verdict.{IsVerdict};
+ghost use Rattle.list_equiv.specs.Verdict.{IsListVerdict};
 ghost use Rattle.razor_base.specs.Output.{Writes};
 ghost use Rattle.razor_core.specs.Ending.{Ends};
 ghost use Rattle.razor_core.specs.Equiv.{verdict_text, IsAnswer};
@@ -57,7 +57,7 @@ fn write_verdict<'a, K: Sink>(
     right: &'a RuleList,
     out: &mut K,
 ) -> Result<(), Failed>
-    requires { IsVerdict left.now right.now verdict }
+    requires { IsListVerdict left.now right.now verdict }
     ensures { Writes K.written K.faults out.old out.new (verdict_text verdict (filter_list left.now).rules (filter_list right.now).rules) result }
 {
     match verdict {

@@ -1,5 +1,6 @@
 //! `expand`: the direct expansion of a list.
 ghost use Rattle.std.specs.Prelude.{◌≡◌, ◌≤◌, IfOk, MatchResult};
+ghost use Rattle.razor_base.specs.declared.limits.TheConstants.{MOST_ENTRIES};
 ghost use Rattle.field_boxes.specs.Fields.{stated};
 ghost use Rattle.filter_reader.specs.Lists.{filter_list};
 ghost use Rattle.rule_expansion.specs.Expansion.{expanded_count};
@@ -24,7 +25,7 @@ pub fn expand_list<'a>(
     limit: u32,
     slot: u16,
 ) -> Result<Made, Ending<'a>>
-    requires limit { limit ≤ 262144 }
+    requires limit { limit ≤ MOST_ENTRIES }
     requires slot { ∥ IsSlotWidth slot ∥₁ }
     ensures made { MatchResult result
         (λ made. (made.order ≡ stated) × IsExpansion (filter_list list.now).rules slot (table_of made.table))

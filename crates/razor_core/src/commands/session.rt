@@ -1,6 +1,7 @@
 //! `session`: a list that is edited, and whose tables are swapped into a memory.
 ghost use Rattle.std.specs.Prelude.{◌≡◌, ◌≢◌, ◌≤◌, ◌*◌, ℕ, List, count_by};
 ghost use Rattle.std.specs.Io.KnownBytes.{Keeps};
+ghost use Rattle.razor_base.specs.declared.limits.TheConstants.{MOST_SCRIPT_BYTES};
 ghost use Rattle.filter_reader.specs.FirstSeen.{first_seen};
 ghost use Rattle.filter_reader.specs.Lists.{filter_list};
 ghost use Rattle.command_words.specs.Command.{Session};
@@ -30,7 +31,7 @@ fn run_over<'a, K: Sink>(
     list: RuleList,
     out: &mut K,
 ) -> Ending<'a>
-    requires few { 40 * count_by is_add session.now ≤ 1048576 }
+    requires few { 40 * count_by is_add session.now ≤ MOST_SCRIPT_BYTES }
     requires names { list.names ≡ first_seen (filter_list list).rules }
     ensures { IsEndOfSession slots.count (sizes_of sizes) (filter_list list).rules session.now (K.written out.old) (K.written out.new) (K.faults out.old) (K.faults out.new) result }
 {

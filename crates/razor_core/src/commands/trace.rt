@@ -11,14 +11,12 @@ use crate::line_reason::LineReason;
 use crate::taking::take;
 use crate::texts::TableText;
 use command_words::TwoFiles;
+use razor_base::limits::MOST_TRACE_BYTES;
 use razor_base::{Desk, Sink};
 use std::alloc::Global;
 use tcam_sim::loaded;
 use trace_run::laws::{loaded_entries_answer, loaded_entries_have_names};
 use trace_run::{TraceError, run};
-
-/// The greatest number of bytes of a trace.
-const MOST_TRACE_BYTES: u64 = 67_108_864;
 
 /// The ending of a command whose run over the trace ended so.
 fn run_ended(file: &str, ended: Result<u64, TraceError>) -> Ending<'_>

@@ -1,5 +1,4 @@
-use Rattle.std.proofs.Common.{◌≡◌, Some, subst}
-use Rattle.std.specs.Prelude.{OnOk}
+use Rattle.std.proofs.Common.{◌≡◌, Some, subst, OnOk}
 use Rattle.bit_merge.specs.Slots.{Slots, LeadTo, at}
 use Rattle.bit_merge.proofs.merging.finish.Goals as goal
 use Rattle.bit_merge.proofs.Held.{done-first, done-taken, put-back}

@@ -1,5 +1,4 @@
-use Rattle.std.proofs.Common.{◌≡◌, ◌+◌, ◌∙◌, arith, subst}
-use Rattle.std.specs.Prelude.{suc}
+use Rattle.std.proofs.Common.{◌≡◌, ◌+◌, ◌∙◌, arith, subst, suc}
 use Rattle.bit_merge.specs.Slots.{AreDone}
 use Rattle.bit_merge.proofs.SlotSteps.{lead-both}
 use Rattle.bit_merge.proofs.Held.{done-fewer}

@@ -1,5 +1,4 @@
-use Rattle.std.proofs.Common.{ap, subst, sym, ◌∙◌}
-use Rattle.std.specs.Prelude.{bit_and, bit_xor}
+use Rattle.std.proofs.Common.{ap, subst, sym, ◌∙◌, bit_and, bit_xor}
 use Rattle.bit_merge.specs.Slots.{IsLeast, IsWord}
 use Rattle.bit_merge.proofs.Nearness.{has-bit}
 use Rattle.bit_merge.proofs.Leasts.{least-skip, least-next}

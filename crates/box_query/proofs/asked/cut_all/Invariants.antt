@@ -1,5 +1,4 @@
-use Rattle.std.proofs.Common.{◌≡◌, ℕ, List, cond, None, take}
-use Rattle.std.specs.Prelude.{option_map}
+use Rattle.std.proofs.Common.{◌≡◌, ℕ, List, cond, None, take, option_map}
 use Rattle.field_boxes.specs.Boxes.{box_of, box_holds}
 use Rattle.field_boxes.specs.Fields.{IsHeader}
 use Rattle.box_query.specs.Asked.{label, number_decided}

@@ -1,4 +1,4 @@
-use Rattle.std.proofs.Common.{◌≡◌, ◌∙◌, List, ap, length, rules}
+use Rattle.std.proofs.Common.{◌≡◌, ◌∙◌, List, ap, length, rules, cond}
 use Rattle.field_boxes.specs.declared.rule.Rule.{Rule}
 use Rattle.field_boxes.specs.Boxes.{box_of, box_holds}
 use Rattle.field_boxes.specs.Fields.{stated}
@@ -8,7 +8,6 @@ use Rattle.filter_reader.specs.Lists.{filter_list}
 use Rattle.fdd_build.specs.Rules.{decided}
 use Rattle.box_query.specs.Asked.{label}
 use Rattle.box_query.specs.NodeBoxes.{node_boxes}
-use Rattle.std.specs.Prelude.{cond}
 use Rattle.box_query.proofs.Ended.{refused, cut-off, all-written}
 use Rattle.box_query.proofs.Meant.{boxes-of}
 use Rattle.box_query.proofs.boxes.query.Goals as goal

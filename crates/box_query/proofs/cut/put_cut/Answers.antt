@@ -1,10 +1,10 @@
-use Rattle.std.proofs.Common.{◌≡◌, ◌<◌, ◌∙◌, ◌∷◌, [], Result, Ok, Err, arith, ap, get_or, length, rules}
-use Rattle.std.specs.Prelude.{IfOk}
+use Rattle.std.proofs.Common.{◌≡◌, ◌<◌, ◌∙◌, ◌∷◌, [], Result, Ok, Err, arith, ap, get_or, length, rules, IfOk}
 use Rattle.field_boxes.specs.Spans.{interval_of}
 use Rattle.box_query.specs.Asked.{number_decided, then_decided}
 use Rattle.box_query.specs.Cut.{port_set, span_set}
 use Rattle.box_query.proofs.Asking.{put-kept}
-use Rattle.box_query.proofs.Cutting.{cut-match, five-spans, ports-there}
+use Rattle.box_query.proofs.Cutting.{cut-match, ports-there}
+use Rattle.field_boxes.proofs.FieldByField.{five_items}
 use Rattle.box_query.proofs.cut.put_cut.Goals as goal
 
 if-ok : {T E : Type 0} {P Q : T → Type 0} (r : Result T E) → ((x : T) → P x → Q x) → IfOk r P → IfOk r Q
@@ -24,7 +24,7 @@ returns c =
     ∙ cut-match (span_set c.common.result) (span_set c.common-2.result) (port_set c.in_ok-source_ports.source_ports) (port_set c.in_ok-destination_ports.destination_ports) (span_set c.common-3.result)
     rule spans (get_or spans 0 c.index-spans-0.result) (get_or spans 1 c.index-spans-1.result) (get_or spans 2 c.index-spans-2.result) (get_or spans 3 c.index-spans-3.result)
     (get_or spans 4 c.index-spans-4.result) header
-    (five-spans spans c.index-spans-0.result c.index-spans-1.result c.index-spans-2.result c.index-spans-3.result c.index-spans-4.result five)
+    (five_items spans c.index-spans-0.result c.index-spans-1.result c.index-spans-2.result c.index-spans-3.result c.index-spans-4.result five)
     c.common.ensures.values c.common-2.ensures.values
     (ports-there rule 0 c.index-rule-0.result (port_set c.in_ok-source_ports.source_ports) (interval_of (get_or spans 2 c.index-spans-2.result) ∷ []) first c.in_ok-source_ports.ensures)
     (ports-there rule 1 c.index-rule-1.result (port_set c.in_ok-destination_ports.destination_ports) (interval_of (get_or spans 3 c.index-spans-3.result) ∷ []) second c.in_ok-destination_ports.ensures)

@@ -1,5 +1,4 @@
-use Rattle.std.proofs.Common.{◌∙◌, ap, map, sym}
-use Rattle.std.specs.Prelude.{◌&&◌, not}
+use Rattle.std.proofs.Common.{◌∙◌, ap, map, sym, ◌&&◌, not}
 use Rattle.command_words.specs.Naming.{all_differ}
 use Rattle.command_words.proofs.Fitting.{first_differs}
 use Rattle.command_words.proofs.Taking.{behind}

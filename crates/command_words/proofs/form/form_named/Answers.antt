@@ -1,7 +1,4 @@
-use Rattle.std.proofs.Common.{◌∙◌, ap, sym}
-use Rattle.std.specs.Prelude.{find}
-use Rattle.std.specs.Option.{option_map}
-use Rattle.std.specs.Str.{bytes_eq}
+use Rattle.std.proofs.Common.{◌∙◌, ap, sym, find, option_map, bytes_eq}
 use Rattle.command_words.specs.Views.{form_seen}
 use Rattle.command_words.proofs.Fitting.{named}
 use Rattle.command_words.proofs.form.form_named.Goals as goal

@@ -1,6 +1,4 @@
-use Rattle.std.proofs.Common.{◌∙◌, ap, arith, map, sym}
-use Rattle.std.specs.String.{string_bytes}
-use Rattle.std.proofs.lemmas.Bool.{eqb-true}
+use Rattle.std.proofs.Common.{◌∙◌, ap, arith, map, sym, string_bytes, eqb-true}
 use Rattle.command_words.specs.Parts.{found_seen, with_words}
 use Rattle.command_words.proofs.Taking.{all_words, at_end, few_seen, none_behind}
 use Rattle.command_words.proofs.parts.parted.Goals as goal

@@ -1,5 +1,4 @@
-use Rattle.std.proofs.Common.{◌≡◌, length, map}
-use Rattle.std.specs.String.{string_bytes}
+use Rattle.std.proofs.Common.{◌≡◌, length, map, string_bytes}
 use Rattle.command_words.specs.Parts.{found_seen, nothing_found, with_words}
 use Rattle.command_words.proofs.parts.parted.Given as goal
 

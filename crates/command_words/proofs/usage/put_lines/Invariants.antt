@@ -1,5 +1,4 @@
-use Rattle.std.proofs.Common.{take}
-use Rattle.std.specs.List.{flat_map}
+use Rattle.std.proofs.Common.{take, flat_map}
 use Rattle.razor_base.proofs.Writing.{HasPut}
 use Rattle.command_words.specs.Usage.{usage_line}
 use Rattle.command_words.specs.Views.{form_seen}

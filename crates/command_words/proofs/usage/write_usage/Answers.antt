@@ -1,6 +1,5 @@
 use Rattle.razor_base.proofs.Writing.{puts-is, puts-then, puts-more, puts-written, puts-unwritten}
-use Rattle.std.proofs.Common.{ap}
-use Rattle.std.specs.List.{flat_map}
+use Rattle.std.proofs.Common.{ap, flat_map}
 use Rattle.command_words.specs.Usage.{usage_line}
 use Rattle.command_words.proofs.usage.write_usage.Goals as goal
 

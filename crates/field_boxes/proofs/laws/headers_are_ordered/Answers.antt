@@ -1,4 +1,4 @@
-use Rattle.field_boxes.proofs.Order.{ordered}
+use Rattle.field_boxes.proofs.Ordered.{ordered}
 use Rattle.field_boxes.proofs.laws.headers_are_ordered.Goals as goal
 
 pub returns : goal.returns

@@ -1,9 +1,8 @@
-use Rattle.std.proofs.Common.{◌≡◌, arith, subst, sym, ap, ◌∙◌, refl}
+use Rattle.std.proofs.Common.{◌≡◌, arith, subst, ap, ◌∙◌}
 use Rattle.field_boxes.specs.NamedRules.{named_rules}
-use Rattle.node_store.specs.Levels.{IsLevel}
 use Rattle.table_compose.specs.Diagrams.{IsCostOf}
 use Rattle.field_order.specs.Order.{place_of}
-use Rattle.field_order.specs.Search.{IsBestSoFar, usual}
+use Rattle.field_order.specs.Search.{IsBestSoFar}
 use Rattle.field_order.proofs.RuleCosts.{cost_of_rules, AnswersRules}
 use Rattle.field_order.proofs.Roots as roots
 use Rattle.field_order.proofs.Trials.{begun, done}
@@ -13,7 +12,7 @@ pub loop-place-init : goal.loop-place-init
 loop-place-init c =
     let n = c.build.new.store in
     let root = c.in_ok-root.root in
-    let level = c.fields.ensures.fields ∙ c.usual-order.ensures.fields in
+    let level = c.as_level.ensures.fields ∙ c.usual-order.ensures.fields in
     let at = c.in_ok-root.ensures.level ∙ level in
     let answers = subst (λ l. AnswersRules n l root.0 c.args.rules.now) level c.in_ok-root.ensures.answers in record {
       root = at;
@@ -23,8 +22,8 @@ loop-place-init c =
       best = λ names are.
           begun (named_rules names c.args.rules.now) c.usual-order.result 2642 c.in_ok-cost.cost c.usual-order.ensures.order (ap place_of c.usual-order.ensures.fields)
           (cost_of_rules n c.usual-order.result root.0 c.in_ok-cost.cost c.args.rules.now names are
-          (subst (λ l. AnswersRules n l root.0 c.args.rules.now) c.fields.ensures.fields c.in_ok-root.ensures.answers)
-          (subst (λ l. IsCostOf n l root.0 c.in_ok-cost.cost) (c.in_ok-root.ensures.level ∙ c.fields.ensures.fields) c.in_ok-cost.ensures));
+          (subst (λ l. AnswersRules n l root.0 c.args.rules.now) c.as_level.ensures.fields c.in_ok-root.ensures.answers)
+          (subst (λ l. IsCostOf n l root.0 c.in_ok-cost.cost) (c.in_ok-root.ensures.level ∙ c.as_level.ensures.fields) c.in_ok-cost.ensures));
     }
 
 pub loop-place-preserved : goal.loop-place-preserved

@@ -13,7 +13,7 @@ returns-in_err-root-clause-costs c =
 
 pub of-requires-clause-root : goal.of-requires-clause-root
 of-requires-clause-root c =
-    c.levels.ensures.in_use c.build.new.store c.in_ok-root.root.0 (subst IsLevel (sym c.in_ok-root.ensures.level) c.fields.ensures.level)
+    c.levels.ensures.in_use c.build.new.store c.in_ok-root.root.0 (subst IsLevel (sym c.in_ok-root.ensures.level) c.as_level.ensures.level)
 
 pub of-requires-clause-costs : goal.of-requires-clause-costs
 of-requires-clause-costs c =
@@ -25,6 +25,6 @@ returns-clause-cost c = λ names are.
     let root = c.in_ok-root.root.0 in
     let n = c.in_ok-cost.cost in
     let rules = c.args.rules.now in
-    let fields = c.fields.result.now in
-    subst (λ order. IsLeastCost order (named_rules names rules) n) c.fields.ensures.fields
+    let fields = c.as_level.result.now in
+    subst (λ order. IsLeastCost order (named_rules names rules) n) c.as_level.ensures.fields
     (cost_of_rules nodes fields root n rules names are c.in_ok-root.ensures.answers (subst (λ level. IsCostOf nodes level root n) c.in_ok-root.ensures.level c.in_ok-cost.ensures.cost))

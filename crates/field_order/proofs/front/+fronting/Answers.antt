@@ -10,10 +10,10 @@ use Rattle.node_store.specs.Diagram.{edges_of, answer}
 use Rattle.node_store.specs.Store.{LeadTo}
 use Rattle.node_store.proofs.Canonical.{is_next}
 use Rattle.node_store.proofs.Values.{rest_is}
-use Rattle.table_compose.specs.Composed.{AreDistinct}
+use Rattle.field_boxes.specs.Orders.{AreDistinct, Has}
 use Rattle.node_store.proofs.Growth as growth
 use Rattle.table_compose.proofs.Children.{next}
-use Rattle.field_order.specs.Fronts.{Has, IsFrontEdge, without}
+use Rattle.field_order.specs.Fronts.{IsFrontEdge, without}
 use Rattle.field_order.proofs.Fronted.{edge_level, ready, front_made, next_distinct, some_field, upper_is, own, first_is, in_rest, has_field}
 use Rattle.field_order.proofs.Stays as stays
 use Rattle.field_order.proofs.front.+fronting.Goals as goal
@@ -22,19 +22,9 @@ pub front_edges-front-requires : goal.front_edges-front-requires
 front_edges-front-requires t c =
     let l = c.loop-edge in
     let d : Edge = record { hi = 0; to = record { 0 = 0 } } in
-    let same = c.as_slice-edge-items.ensures ∙ c.in_ok-edges.ensures ∙ c.edges.ensures.edges in (
-      omega (arith, c.decreases),
-      (
-        c.requires.level,
-        (
-          c.requires.apart,
-          (
-            edge_level c.args.store.now l.store c.args.id.0 l.edge-index c.args.level.now c.as_slice-edge-items.result.now d c.same_answers.ensures.store c.requires.inner c.requires.at c.requires.level same l.invariant.grows c.loop-edge-test.true,
-            (c.requires.has, l.invariant.fronts),
-          ),
-        ),
-      ),
-    )
+    let same = c.as_slice-edge-items.ensures ∙ c.in_ok-edges.ensures ∙ c.edges.ensures.edges in
+    let at = edge_level c.args.store.now l.store c.args.id.0 l.edge-index c.args.level.now c.as_slice-edge-items.result.now d c.same_answers.ensures.store c.requires.inner c.requires.at c.requires.level same l.invariant.grows c.loop-edge-test.true in
+    (omega (arith, c.decreases), (c.requires.level, (c.requires.apart, (at, (c.requires.has, l.invariant.fronts)))))
 
 pub front_edges-loop-edge-preserved : goal.front_edges-loop-edge-preserved
 front_edges-loop-edge-preserved t c =
@@ -65,62 +55,32 @@ pub crossed-front_edges-requires : goal.crossed-front_edges-requires
 crossed-front_edges-requires t c =
     let level = c.args.level.now in
     let tail = sym (rest_is level) in
-    let at = c.requires.at in (
-      omega (arith, c.decreases, some_field level c.requires.other),
-      (
-        subst IsLevel tail (is_next level c.requires.other),
-        (
-          subst AreDistinct tail (next_distinct level c.requires.apart),
-          (
-            subst HasField (sym at) c.requires.other,
-            (ap next_level at ∙ tail, (subst (Has c.args.field) tail c.requires.has, c.requires.fronts)),
-          ),
-        ),
-      ),
-    )
+    let at = c.requires.at in
+    let is = subst IsLevel tail (is_next level c.requires.other) in
+    let apart = subst AreDistinct tail (next_distinct level c.requires.apart) in
+    let has = subst (Has c.args.field) tail c.requires.has in
+    (omega (arith, c.decreases, some_field level c.requires.other), (is, (apart, (subst HasField (sym at) c.requires.other, (ap next_level at ∙ tail, (has, c.requires.fronts))))))
 
-pub crossed-rows-requires-clause-level : goal.crossed-rows-requires-clause-level
-crossed-rows-requires-clause-level t c =
-    let r = ready c.args.store.now c.front_edges.new.store c.args.level.now c.args.id.0 c.args.field c.in_ok-edges.edges.items c.same_answers.ensures.store c.requires.at c.requires.level c.requires.apart c.requires.other c.requires.has
-    c.in_ok-edges.ensures.grows c.in_ok-edges.ensures.edges in
-    subst HasField (sym (c.as_slice-2.ensures ∙ c.in_ok-lower.ensures)) r.field
+pub crossed-rows-requires : goal.crossed-rows-requires
+crossed-rows-requires t c =
+    let r = ready c.args.store.now c.front_edges.new.store c.args.level.now c.as_slice-2.result.now c.args.id.0 c.args.field c.in_ok-edges.edges.items c.as_slice-3.result.now c.same_answers.ensures.store c.requires.at c.requires.level c.requires.apart
+    c.requires.other c.requires.has c.in_ok-edges.ensures.grows c.in_ok-edges.ensures.edges (c.as_slice-2.ensures ∙ c.in_ok-lower.ensures) c.as_slice-3.ensures in
+    record { level = r.field; field = r.side; full = r.full; nodes = r.nodes }
 
-pub crossed-rows-requires-clause-field : goal.crossed-rows-requires-clause-field
-crossed-rows-requires-clause-field t c =
-    let r = ready c.args.store.now c.front_edges.new.store c.args.level.now c.args.id.0 c.args.field c.in_ok-edges.edges.items c.same_answers.ensures.store c.requires.at c.requires.level c.requires.apart c.requires.other c.requires.has
-    c.in_ok-edges.ensures.grows c.in_ok-edges.ensures.edges in
-    subst (λ l. HasField (c.args.field ∷ next_level l)) (sym (c.as_slice-2.ensures ∙ c.in_ok-lower.ensures)) r.side
-
-pub crossed-rows-requires-clause-full : goal.crossed-rows-requires-clause-full
-crossed-rows-requires-clause-full t c =
-    let r = ready c.args.store.now c.front_edges.new.store c.args.level.now c.args.id.0 c.args.field c.in_ok-edges.edges.items c.same_answers.ensures.store c.requires.at c.requires.level c.requires.apart c.requires.other c.requires.has
-    c.in_ok-edges.ensures.grows c.in_ok-edges.ensures.edges in
-    subst (λ l. AreFull (top_of l) c.as_slice-3.result.now) (sym (c.as_slice-2.ensures ∙ c.in_ok-lower.ensures)) (subst (AreFull (top_of (without c.args.field c.args.level.now))) (sym c.as_slice-3.ensures) r.full)
-
-pub crossed-rows-requires-clause-nodes : goal.crossed-rows-requires-clause-nodes
-crossed-rows-requires-clause-nodes t c =
-    let r = ready c.args.store.now c.front_edges.new.store c.args.level.now c.args.id.0 c.args.field c.in_ok-edges.edges.items c.same_answers.ensures.store c.requires.at c.requires.level c.requires.apart c.requires.other c.requires.has
-    c.in_ok-edges.ensures.grows c.in_ok-edges.ensures.edges in
-    subst (λ l. LeadTo c.front_edges.new.store (c.args.field ∷ next_level l) c.as_slice-3.result.now) (sym (c.as_slice-2.ensures ∙ c.in_ok-lower.ensures))
-    (subst (LeadTo c.front_edges.new.store (c.args.field ∷ next_level (without c.args.field c.args.level.now))) (sym c.as_slice-3.ensures) r.nodes)
-
-pub crossed-make-requires-clause-field : goal.crossed-make-requires-clause-field
-crossed-make-requires-clause-field t c =
-    let r = ready c.args.store.now c.front_edges.new.store c.args.level.now c.args.id.0 c.args.field c.in_ok-edges.edges.items c.same_answers.ensures.store c.requires.at c.requires.level c.requires.apart c.requires.other c.requires.has
-    c.in_ok-edges.ensures.grows c.in_ok-edges.ensures.edges in
-    subst HasField (sym (upper_is c.args.field (without c.args.field c.args.level.now) c.as_slice.result.now c.in_ok-upper.upper.items c.as_slice-4.result.now (c.as_slice.ensures ∙ c.in_ok-lower.ensures) c.in_ok-upper.ensures c.as_slice-4.ensures)) r.upper
-
-pub crossed-make-requires-clause-full : goal.crossed-make-requires-clause-full
-crossed-make-requires-clause-full t c =
-    let upper = upper_is c.args.field (without c.args.field c.args.level.now) c.as_slice.result.now c.in_ok-upper.upper.items c.as_slice-4.result.now (c.as_slice.ensures ∙ c.in_ok-lower.ensures) c.in_ok-upper.ensures c.as_slice-4.ensures in
-    subst (λ l. AreFull (top_of l) c.as_slice-5.result.now) (sym upper) (subst (AreFull (greatest_of c.args.field)) (sym c.as_slice-5.ensures) c.in_ok-rows.ensures.full)
-
-pub crossed-make-requires-clause-children : goal.crossed-make-requires-clause-children
-crossed-make-requires-clause-children t c =
-    let upper = upper_is c.args.field (without c.args.field c.args.level.now) c.as_slice.result.now c.in_ok-upper.upper.items c.as_slice-4.result.now (c.as_slice.ensures ∙ c.in_ok-lower.ensures) c.in_ok-upper.ensures c.as_slice-4.ensures in
-    subst (λ l. LeadTo c.rows.new.store (next_level l) c.as_slice-5.result.now) (sym upper)
-    (subst (LeadTo c.rows.new.store (without c.args.field c.args.level.now)) (sym c.as_slice-5.ensures)
-    (subst (λ l. LeadTo c.rows.new.store l c.in_ok-rows.rows.items) (c.as_slice-2.ensures ∙ c.in_ok-lower.ensures) c.in_ok-rows.ensures.nodes))
+pub crossed-make-requires : goal.crossed-make-requires
+crossed-make-requires t c =
+    let f = c.args.field in
+    let lower = without f c.args.level.now in
+    let rows = c.as_slice-5.result.now in
+    let made = sym c.as_slice-5.ensures in
+    let upper = sym (upper_is f lower c.as_slice.result.now c.in_ok-upper.upper.items c.as_slice-4.result.now (c.as_slice.ensures ∙ c.in_ok-lower.ensures) c.in_ok-upper.ensures c.as_slice-4.ensures) in
+    let r = ready c.args.store.now c.front_edges.new.store c.args.level.now lower c.args.id.0 f c.in_ok-edges.edges.items c.in_ok-edges.edges.items c.same_answers.ensures.store c.requires.at c.requires.level c.requires.apart c.requires.other c.requires.has
+    c.in_ok-edges.ensures.grows c.in_ok-edges.ensures.edges refl refl in record {
+      field = subst HasField upper r.upper;
+      full = subst (λ l. AreFull (top_of l) rows) upper (subst (AreFull (greatest_of f)) made c.in_ok-rows.ensures.full);
+      children = subst (λ l. LeadTo c.rows.new.store (next_level l) rows) upper
+          (subst (LeadTo c.rows.new.store lower) made (subst (λ l. LeadTo c.rows.new.store l c.in_ok-rows.rows.items) (c.as_slice-2.ensures ∙ c.in_ok-lower.ensures) c.in_ok-rows.ensures.nodes));
+    }
 
 pub crossed-returns-clause-front : goal.crossed-returns-clause-front
 crossed-returns-clause-front t c =

@@ -1,7 +1,6 @@
-use Rattle.std.proofs.Common.{◌≡◌, ℕ, List, ◌+◌, ◌∷◌, ◌<◌, ◌≤◌, [], ap, refl, sym, subst, arith, get_or, ◌∙◌}
+use Rattle.std.proofs.Common.{◌≡◌, ℕ, List, ◌+◌, ◌∷◌, ◌≤◌, sym, subst, arith, get_or}
 use Rattle.std.specs.Prelude.{suc}
 use Rattle.std.proofs.lemmas.List.Elements.{All-push}
-use Rattle.field_boxes.specs.Fields.{greatest_of}
 use Rattle.node_store.specs.declared.edge.Edge.{Edge}
 use Rattle.node_store.specs.Edges.{AreFull, child_of}
 use Rattle.node_store.specs.Diagram.{level_of, answer}

@@ -1,4 +1,4 @@
-use Rattle.std.proofs.Common.{◌∙◌, ◌++◌, ◌∷◌, [], ap, sym, get_or, length}
+use Rattle.std.proofs.Common.{◌∙◌, ◌++◌, ◌∷◌, [], ap, sym, get_or}
 use Rattle.field_order.proofs.Without.{more_kept, more_left}
 use Rattle.field_order.proofs.front.without.Goals as goal
 use Rattle.field_order.proofs.front.without.Goals.{then-other-field+in_ok-push, else-other-field}

@@ -1,7 +1,7 @@
 use Rattle.std.proofs.Common.{◌≡◌, ◌+◌, ◌∷◌, ◌++◌, ◌≤◌, [], ap, refl, sym, subst, arith, take, get_or, ◌∙◌, List}
 use Rattle.std.specs.Prelude.{suc}
 use Rattle.std.specs.List.{AllZip}
-use Rattle.std.proofs.lemmas.List.{take_all}
+use Rattle.std.proofs.lemmas.List.{take_all, get_or_default}
 use Rattle.field_boxes.specs.Fields.{greatest_of}
 use Rattle.node_store.specs.declared.edge.Edge.{Edge}
 use Rattle.node_store.specs.Levels.{HasField, top_of}
@@ -9,7 +9,7 @@ use Rattle.node_store.specs.Edges.{AreFull, child_of}
 use Rattle.node_store.specs.Diagram.{edges_of}
 use Rattle.table_compose.proofs.Children.{next}
 use Rattle.field_order.specs.Fronts.{ArePassed, IsCell}
-use Rattle.field_order.proofs.Passed.{any_default, moved}
+use Rattle.field_order.proofs.Passed.{moved}
 use Rattle.field_order.proofs.Rows.{narrowed, row_nodes}
 use Rattle.field_order.proofs.row.fill_row.Goals as goal
 
@@ -40,7 +40,7 @@ loop-index-preserved c =
       cells = subst (λ es. AllZip (IsCell store c.args.lo hi) (take (l.index + 1) items) es) (sym c.in_ok-push.ensures.ok)
           (subst (λ k. AllZip (IsCell store c.args.lo hi) (take k items) (l.cells.items ++ new ∷ [])) one more);
       places = moved store items l.places c.args.lo l.invariant.places l.index place inside (λ e.
-          subst (λ (x : Edge). ArePassed (edges_of store x.to.0) place c.args.lo) (any_default items l.index d e inside)
+          subst (λ (x : Edge). ArePassed (edges_of store x.to.0) place c.args.lo) (get_or_default items l.index d e inside)
           (subst (λ (es : List Edge). ArePassed es place c.args.lo) c.edges-under.ensures.edges c.place_from-place.ensures.passed));
     }
 

@@ -1,4 +1,4 @@
-use Rattle.std.proofs.Common.{arith, rules}
+use Rattle.std.proofs.Common.{rules}
 use Rattle.field_order.proofs.Passed.{edge_at, ends_above, ends_below, inside, one_more}
 use Rattle.field_order.proofs.row.place_from.Goals as goal
 

@@ -1,4 +1,4 @@
-use Rattle.std.proofs.Common.{◌≡◌, ◌+◌, ◌-◌, ◌∷◌, ◌++◌, ◌<◌, ◌≤◌, ◌^◌, ◌/◌, ◌%◌, [], ap, refl, sym, subst, arith, take, get_or, length, ◌∙◌}
+use Rattle.std.proofs.Common.{◌≡◌, ◌+◌, ◌-◌, ◌∷◌, ◌++◌, ◌≤◌, ◌^◌, ◌/◌, ◌%◌, [], ap, sym, subst, arith, take, get_or, length, ◌∙◌}
 use Rattle.std.specs.Prelude.{suc}
 use Rattle.std.specs.List.{All, AllZip}
 use Rattle.std.proofs.lemmas.List.{take_all}
@@ -16,7 +16,7 @@ use Rattle.table_compose.proofs.Children.{next}
 use Rattle.field_order.specs.Worth.{IsExact, IsWorth, Settles, AreFields, AreWeights, digits}
 use Rattle.field_order.proofs.Fronted.{some_field}
 use Rattle.field_order.proofs.Without.{five, parted}
-use Rattle.field_order.proofs.Steps.{step, small, front_field, children, beyond, follows_by, lights_by, wholes, exact_by, leaf, to_keep, kept_is}
+use Rattle.field_order.proofs.Steps.{step, small, front_field, children, beyond, asked, leaf, to_keep, kept_is}
 use Rattle.field_order.proofs.Stays as stays
 use Rattle.field_order.proofs.Weighed as weighed
 use Rattle.field_order.proofs.search.+costing.Goals as goal
@@ -25,16 +25,10 @@ pub weights-worth-requires : goal.weights-worth-requires
 weights-worth-requires t c =
     let l = c.loop-node in
     let d : NodeId = record { 0 = 0 } in
-    let order = digits (length c.args.level.now) c.args.order in (
-      omega (arith, c.decreases),
-      (
-        c.requires.level,
-        (
-          stays.fields c.args.store.now l.store l.invariant.grows c.args.level.now order (get_or c.args.nodes.now l.node-index d).0 c.requires.level (c.requires.fields l.node-index d c.loop-node-test.true),
-          (l.invariant.fronts, l.invariant.worths),
-        ),
-      ),
-    )
+    let level = c.args.level.now in
+    let node = (get_or c.args.nodes.now l.node-index d).0 in
+    let fields = stays.fields c.args.store.now l.store l.invariant.grows level (digits (length level) c.args.order) node c.requires.level (c.requires.fields l.node-index d c.loop-node-test.true) in
+    (omega (arith, c.decreases), (c.requires.level, (fields, (l.invariant.fronts, l.invariant.worths))))
 
 pub weights-loop-node-preserved : goal.weights-loop-node-preserved
 weights-loop-node-preserved t c =
@@ -96,18 +90,19 @@ worked_out-unit-unit-requires t c = omega (arith, some_field c.args.level.now c.
 
 pub worked_out-overflow_cast-field : goal.worked_out-overflow_cast-field
 worked_out-overflow_cast-field t c =
-    let st = step c.args.store.now c.args.level.now c.args.order c.args.id.0 c.unit-unit.result (c.args.order / c.unit-unit.result) (c.args.order % c.unit-unit.result) c.requires.level c.requires.some c.requires.fields c.unit-unit.ensures.value refl refl in
-    omega (arith, small c.args.level.now c.args.order (c.args.order / c.unit-unit.result) (c.args.order % c.unit-unit.result) c.requires.level c.requires.fields.apart st)
+    let f = c.args.order / c.unit-unit.result in
+    let st = step c.args.store.now c.args.level.now c.args.order c.args.id.0 c.unit-unit.result c.requires.level c.requires.some c.requires.fields c.unit-unit.ensures.value in
+    omega (arith, small c.args.level.now c.args.order f (c.args.order % c.unit-unit.result) c.requires.level c.requires.fields.apart st)
 
 pub worked_out-front-requires-clause-has : goal.worked_out-front-requires-clause-has
 worked_out-front-requires-clause-has t c =
-    (step c.args.store.now c.args.level.now c.args.order c.args.id.0 c.unit-unit.result (c.args.order / c.unit-unit.result) (c.args.order % c.unit-unit.result) c.requires.level c.requires.some c.requires.fields c.unit-unit.ensures.value refl refl).has
+    (step c.args.store.now c.args.level.now c.args.order c.args.id.0 c.unit-unit.result c.requires.level c.requires.some c.requires.fields c.unit-unit.ensures.value).has
 
 pub worked_out-edges-requires : goal.worked_out-edges-requires
 worked_out-edges-requires t c =
     let f = c.args.order / c.unit-unit.result in
     let next = c.args.order % c.unit-unit.result in
-    let st = step c.args.store.now c.args.level.now c.args.order c.args.id.0 c.unit-unit.result f next c.requires.level c.requires.some c.requires.fields c.unit-unit.ensures.value refl refl in
+    let st = step c.args.store.now c.args.level.now c.args.order c.args.id.0 c.unit-unit.result c.requires.level c.requires.some c.requires.fields c.unit-unit.ensures.value in
     let n1 = c.front.new.store in
     let F = c.in_ok-front.front.0 in
     within n1 F (is_level (level_of n1 F) (front_field c.args.store.now n1 c.args.level.now c.args.id.0 f F c.args.order next c.same_answers.ensures.store c.requires.level c.requires.fields st c.in_ok-front.ensures.front c.in_ok-front.ensures.grows))
@@ -116,7 +111,7 @@ pub worked_out-of-requires : goal.worked_out-of-requires
 worked_out-of-requires t c =
     let f = c.args.order / c.unit-unit.result in
     let next = c.args.order % c.unit-unit.result in
-    let st = step c.args.store.now c.args.level.now c.args.order c.args.id.0 c.unit-unit.result f next c.requires.level c.requires.some c.requires.fields c.unit-unit.ensures.value refl refl in
+    let st = step c.args.store.now c.args.level.now c.args.order c.args.id.0 c.unit-unit.result c.requires.level c.requires.some c.requires.fields c.unit-unit.ensures.value in
     let n1 = c.front.new.store in
     let F = c.in_ok-front.front.0 in
     let has = front_field c.args.store.now n1 c.args.level.now c.args.id.0 f F c.args.order next c.same_answers.ensures.store c.requires.level c.requires.fields st c.in_ok-front.ensures.front c.in_ok-front.ensures.grows in
@@ -126,113 +121,73 @@ pub worked_out-weights-requires : goal.worked_out-weights-requires
 worked_out-weights-requires t c =
     let f = c.args.order / c.unit-unit.result in
     let next = c.args.order % c.unit-unit.result in
-    let level = c.args.level.now in
-    let st = step c.args.store.now level c.args.order c.args.id.0 c.unit-unit.result f next c.requires.level c.requires.some c.requires.fields c.unit-unit.ensures.value refl refl in
+    let st = step c.args.store.now c.args.level.now c.args.order c.args.id.0 c.unit-unit.result c.requires.level c.requires.some c.requires.fields c.unit-unit.ensures.value in
     let n1 = c.front.new.store in
     let F = c.in_ok-front.front.0 in
+    let level = c.args.level.now in
+    let rest = c.as_slice.result.now in
     let slice = c.as_slice.ensures ∙ c.in_ok-rest.ensures in
     let ids = c.as_slice-2.ensures.keys ∙ c.in_ok-labels.ensures.children ∙ ap children_of c.edges.ensures.edges in
-    let p = parted f level st.has c.requires.fields.apart c.requires.level in (
-      omega (arith, c.decreases, p.count, ap length slice),
-      (
-        subst IsLevel (sym slice) p.others,
-        (
-          subst (λ xs. All (λ (k : NodeId). AreFields n1 c.as_slice.result.now (digits (length c.as_slice.result.now) next) k.0) xs) (sym ids)
-              (subst (λ l. All (λ (k : NodeId). AreFields n1 l (digits (length l) next) k.0) (children_of (edges_of n1 F))) (sym slice)
-              (children c.args.store.now n1 level c.args.id.0 f F c.args.order next c.same_answers.ensures.store c.requires.level c.requires.fields st c.in_ok-front.ensures.front c.in_ok-front.ensures.grows)),
-          (c.in_ok-front.ensures.fronts, stays.worths c.args.store.now n1 c.in_ok-front.ensures.grows c.args.worths.now c.requires.worths),
-        ),
-      ),
-    )
+    let p = parted f level st.has c.requires.fields.apart c.requires.level in
+    let all = children c.args.store.now n1 level c.args.id.0 f F c.args.order next c.same_answers.ensures.store c.requires.level c.requires.fields st c.in_ok-front.ensures.front c.in_ok-front.ensures.grows in
+    let fields = subst (All (λ (k : NodeId). AreFields n1 rest (digits (length rest) next) k.0)) (sym ids) (subst (λ l. All (λ (k : NodeId). AreFields n1 l (digits (length l) next) k.0) (children_of (edges_of n1 F))) (sym slice) all) in
+    let worths = stays.worths c.args.store.now n1 c.in_ok-front.ensures.grows c.args.worths.now c.requires.worths in
+    (omega (arith, c.decreases, p.count, ap length slice), (subst IsLevel (sym slice) p.others, (fields, (c.in_ok-front.ensures.fronts, worths))))
 
 pub worked_out-returns-in-None-clause-worth : goal.worked_out-returns-in-None-clause-worth
 worked_out-returns-in-None-clause-worth t c =
     let f = c.args.order / c.unit-unit.result in
     let next = c.args.order % c.unit-unit.result in
-    let level = c.args.level.now in
-    let st = step c.args.store.now level c.args.order c.args.id.0 c.unit-unit.result f next c.requires.level c.requires.some c.requires.fields c.unit-unit.ensures.value refl refl in
+    let st = step c.args.store.now c.args.level.now c.args.order c.args.id.0 c.unit-unit.result c.requires.level c.requires.some c.requires.fields c.unit-unit.ensures.value in
     let n1 = c.front.new.store in
-    let n2 = c.weights.new.store in
     let F = c.in_ok-front.front.0 in
+    let level = c.args.level.now in
+    let n2 = c.weights.new.store in
     let slice = c.as_slice.ensures ∙ c.in_ok-rest.ensures in
     let ids = c.as_slice-2.ensures.keys ∙ c.in_ok-labels.ensures.children ∙ ap children_of c.edges.ensures.edges in
     let are = subst (λ es. ArePieces (children_of es) es c.in_ok-labels.labels.pieces.items) c.edges.ensures.edges c.in_ok-labels.ensures.pieces in
     beyond c.args.store.now n1 level c.args.id.0 f F c.args.order next c.same_answers.ensures.store c.requires.level c.requires.fields st c.in_ok-front.ensures.front c.in_ok-front.ensures.grows n2 c.same_answers-2.ensures.store c.in_ok-weights.ensures.grows c.in_ok-labels.labels.pieces.items are c.as_slice.result.now c.as_slice-2.result.now slice ids c.args.cap
     (subst (λ o. AreWeights n2 (digits (length c.as_slice.result.now) next) c.as_slice-2.result.now c.args.cap o) c.in-None.is c.in_ok-weights.ensures.weights)
 
-pub worked_out-minimum-requires-clause-follow : goal.worked_out-minimum-requires-clause-follow
-worked_out-minimum-requires-clause-follow t c =
+pub worked_out-minimum-requires : goal.worked_out-minimum-requires
+worked_out-minimum-requires t c =
     let f = c.args.order / c.unit-unit.result in
     let next = c.args.order % c.unit-unit.result in
-    let level = c.args.level.now in
-    let st = step c.args.store.now level c.args.order c.args.id.0 c.unit-unit.result f next c.requires.level c.requires.some c.requires.fields c.unit-unit.ensures.value refl refl in
+    let st = step c.args.store.now c.args.level.now c.args.order c.args.id.0 c.unit-unit.result c.requires.level c.requires.some c.requires.fields c.unit-unit.ensures.value in
     let n1 = c.front.new.store in
-    let n2 = c.weights.new.store in
     let F = c.in_ok-front.front.0 in
+    let level = c.args.level.now in
+    let n2 = c.weights.new.store in
     let slice = c.as_slice.ensures ∙ c.in_ok-rest.ensures in
     let ids = c.as_slice-2.ensures.keys ∙ c.in_ok-labels.ensures.children ∙ ap children_of c.edges.ensures.edges in
     let are = subst (λ es. ArePieces (children_of es) es c.in_ok-labels.labels.pieces.items) c.edges.ensures.edges c.in_ok-labels.ensures.pieces in
     let now = subst (λ ps. ArePieces (children_of (edges_of n1 F)) (edges_of n1 F) ps) (sym c.as_slice-pieces.ensures.value) are in
     let known = subst (λ o. AreWeights n2 (digits (length c.as_slice.result.now) next) c.as_slice-2.result.now c.args.cap o) c.in-Some.is c.in_ok-weights.ensures.weights in
     let ws = subst (λ xs. AllZip (λ (k : NodeId) m. IsExact n2 (digits (length c.as_slice.result.now) next) k.0 m) c.as_slice-2.result.now xs) (sym c.as_slice-in-Some.ensures.value) known in
-    follows_by c.args.store.now n1 level c.args.id.0 f F c.args.order next c.same_answers.ensures.store c.requires.level c.requires.fields st c.in_ok-front.ensures.front c.in_ok-front.ensures.grows n2 c.same_answers-2.ensures.store c.in_ok-weights.ensures.grows c.as_slice-pieces.result.now now c.as_slice.result.now c.as_slice-2.result.now slice ids c.as_slice-in-Some.result.now ws
-
-pub worked_out-minimum-requires-clause-light : goal.worked_out-minimum-requires-clause-light
-worked_out-minimum-requires-clause-light t c =
-    let f = c.args.order / c.unit-unit.result in
-    let next = c.args.order % c.unit-unit.result in
-    let level = c.args.level.now in
-    let st = step c.args.store.now level c.args.order c.args.id.0 c.unit-unit.result f next c.requires.level c.requires.some c.requires.fields c.unit-unit.ensures.value refl refl in
-    let n1 = c.front.new.store in
-    let n2 = c.weights.new.store in
-    let F = c.in_ok-front.front.0 in
-    let slice = c.as_slice.ensures ∙ c.in_ok-rest.ensures in
-    let ids = c.as_slice-2.ensures.keys ∙ c.in_ok-labels.ensures.children ∙ ap children_of c.edges.ensures.edges in
-    let are = subst (λ es. ArePieces (children_of es) es c.in_ok-labels.labels.pieces.items) c.edges.ensures.edges c.in_ok-labels.ensures.pieces in
-    let now = subst (λ ps. ArePieces (children_of (edges_of n1 F)) (edges_of n1 F) ps) (sym c.as_slice-pieces.ensures.value) are in
-    let known = subst (λ o. AreWeights n2 (digits (length c.as_slice.result.now) next) c.as_slice-2.result.now c.args.cap o) c.in-Some.is c.in_ok-weights.ensures.weights in
-    let ws = subst (λ xs. AllZip (λ (k : NodeId) m. IsExact n2 (digits (length c.as_slice.result.now) next) k.0 m) c.as_slice-2.result.now xs) (sym c.as_slice-in-Some.ensures.value) known in
-    lights_by c.args.store.now n1 level c.args.id.0 f F c.args.order next c.same_answers.ensures.store c.requires.level c.requires.fields st c.in_ok-front.ensures.front c.in_ok-front.ensures.grows n2 c.same_answers-2.ensures.store c.in_ok-weights.ensures.grows c.as_slice-pieces.result.now now c.as_slice.result.now c.as_slice-2.result.now slice ids c.as_slice-in-Some.result.now ws
-
-pub worked_out-minimum-requires-clause-whole : goal.worked_out-minimum-requires-clause-whole
-worked_out-minimum-requires-clause-whole t c =
-    let f = c.args.order / c.unit-unit.result in
-    let next = c.args.order % c.unit-unit.result in
-    let level = c.args.level.now in
-    let st = step c.args.store.now level c.args.order c.args.id.0 c.unit-unit.result f next c.requires.level c.requires.some c.requires.fields c.unit-unit.ensures.value refl refl in
-    let n1 = c.front.new.store in
-    let n2 = c.weights.new.store in
-    let F = c.in_ok-front.front.0 in
-    let slice = c.as_slice.ensures ∙ c.in_ok-rest.ensures in
-    let ids = c.as_slice-2.ensures.keys ∙ c.in_ok-labels.ensures.children ∙ ap children_of c.edges.ensures.edges in
-    let are = subst (λ es. ArePieces (children_of es) es c.in_ok-labels.labels.pieces.items) c.edges.ensures.edges c.in_ok-labels.ensures.pieces in
-    let now = subst (λ ps. ArePieces (children_of (edges_of n1 F)) (edges_of n1 F) ps) (sym c.as_slice-pieces.ensures.value) are in
-    let known = subst (λ o. AreWeights n2 (digits (length c.as_slice.result.now) next) c.as_slice-2.result.now c.args.cap o) c.in-Some.is c.in_ok-weights.ensures.weights in
-    let ws = subst (λ xs. AllZip (λ (k : NodeId) m. IsExact n2 (digits (length c.as_slice.result.now) next) k.0 m) c.as_slice-2.result.now xs) (sym c.as_slice-in-Some.ensures.value) known in
-    wholes c.args.store.now n1 level c.args.id.0 f F c.args.order next c.same_answers.ensures.store c.requires.level c.requires.fields st c.in_ok-front.ensures.front c.in_ok-front.ensures.grows n2 c.same_answers-2.ensures.store c.in_ok-weights.ensures.grows c.as_slice-pieces.result.now now ∙ ap (λ w. 2 ^ w) (sym (c.width-bits.ensures ∙ ap width c.from.ensures))
+    let a = asked c.args.store.now n1 level c.args.id.0 f F c.args.order next c.same_answers.ensures.store c.requires.level c.requires.fields st c.in_ok-front.ensures.front c.in_ok-front.ensures.grows n2 c.same_answers-2.ensures.store c.in_ok-weights.ensures.grows c.as_slice-pieces.result.now now c.as_slice.result.now c.as_slice-2.result.now slice ids c.as_slice-in-Some.result.now ws in
+    let bits = c.width-bits.ensures ∙ ap width c.from.ensures in
+    record { wide = subst (λ w. w ≤ 32) (sym bits) (narrow f); follow = a.follow; whole = a.whole ∙ ap (λ w. 2 ^ w) (sym bits); light = a.light }
 
 pub worked_out-returns-clause-worth : goal.worked_out-returns-clause-worth
 worked_out-returns-clause-worth t c =
     let f = c.args.order / c.unit-unit.result in
     let next = c.args.order % c.unit-unit.result in
-    let level = c.args.level.now in
-    let st = step c.args.store.now level c.args.order c.args.id.0 c.unit-unit.result f next c.requires.level c.requires.some c.requires.fields c.unit-unit.ensures.value refl refl in
+    let st = step c.args.store.now c.args.level.now c.args.order c.args.id.0 c.unit-unit.result c.requires.level c.requires.some c.requires.fields c.unit-unit.ensures.value in
     let n1 = c.front.new.store in
-    let n2 = c.weights.new.store in
     let F = c.in_ok-front.front.0 in
+    let level = c.args.level.now in
+    let n2 = c.weights.new.store in
     let slice = c.as_slice.ensures ∙ c.in_ok-rest.ensures in
     let ids = c.as_slice-2.ensures.keys ∙ c.in_ok-labels.ensures.children ∙ ap children_of c.edges.ensures.edges in
     let are = subst (λ es. ArePieces (children_of es) es c.in_ok-labels.labels.pieces.items) c.edges.ensures.edges c.in_ok-labels.ensures.pieces in
     let now = subst (λ ps. ArePieces (children_of (edges_of n1 F)) (edges_of n1 F) ps) (sym c.as_slice-pieces.ensures.value) are in
     let known = subst (λ o. AreWeights n2 (digits (length c.as_slice.result.now) next) c.as_slice-2.result.now c.args.cap o) c.in-Some.is c.in_ok-weights.ensures.weights in
     let ws = subst (λ xs. AllZip (λ (k : NodeId) m. IsExact n2 (digits (length c.as_slice.result.now) next) k.0 m) c.as_slice-2.result.now xs) (sym c.as_slice-in-Some.ensures.value) known in
+    let a = asked c.args.store.now n1 level c.args.id.0 f F c.args.order next c.same_answers.ensures.store c.requires.level c.requires.fields st c.in_ok-front.ensures.front c.in_ok-front.ensures.grows n2 c.same_answers-2.ensures.store c.in_ok-weights.ensures.grows c.as_slice-pieces.result.now now c.as_slice.result.now c.as_slice-2.result.now slice ids c.as_slice-in-Some.result.now ws in
+    let bits = c.width-bits.ensures ∙ ap width c.from.ensures in
     let e = c.in_ok-least-in-Some.ensures in
-    exact_by c.args.store.now n1 level c.args.id.0 f F c.args.order next c.same_answers.ensures.store c.requires.level c.requires.fields st c.in_ok-front.ensures.front c.in_ok-front.ensures.grows n2 c.same_answers-2.ensures.store c.in_ok-weights.ensures.grows c.as_slice-pieces.result.now now c.as_slice.result.now c.as_slice-2.result.now slice ids c.as_slice-in-Some.result.now ws e.rows c.in_ok-least-in-Some.least
-    (minimal c.width-bits.result (width f) (c.width-bits.ensures ∙ ap width c.from.ensures) c.as_slice-pieces.result.now c.as_slice-in-Some.result.now e.rows c.in_ok-least-in-Some.least
-    e.right e.labels e.weighs e.least)
-
-pub worked_out-minimum-requires-clause-wide : goal.worked_out-minimum-requires-clause-wide
-worked_out-minimum-requires-clause-wide t c = subst (λ w. w ≤ 32) (sym (c.width-bits.ensures ∙ ap width c.from.ensures)) (narrow (c.args.order / c.unit-unit.result))
+    let least = c.in_ok-least-in-Some.least in
+    a.exact e.rows least (minimal c.width-bits.result (width f) bits c.as_slice-pieces.result.now c.as_slice-in-Some.result.now e.rows least e.right e.labels e.weighs e.least)
 
 pub worth-returns-then-is_empty-clause-worth : goal.worth-returns-then-is_empty-clause-worth
 worth-returns-then-is_empty-clause-worth t c = leaf c.args.store.now c.args.level.now c.args.order c.args.id.0 c.requires.fields.at (no_fields c.args.level.now (sym c.if-is_empty.ensures))

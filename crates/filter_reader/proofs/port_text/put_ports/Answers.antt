@@ -1,5 +1,4 @@
-use Rattle.std.proofs.Common.{◌≡◌, ◌∷◌, ◌++◌, ◌≤◌, List, ◌∙◌, sym, ap, arith, length, get_or, drop}
-use Rattle.std.specs.List.{flat_map}
+use Rattle.std.proofs.Common.{◌≡◌, ◌∷◌, ◌++◌, ◌≤◌, List, ◌∙◌, sym, ap, arith, length, get_or, drop, flat_map}
 use Rattle.std.proofs.lemmas.List.{take_rest}
 use Rattle.field_boxes.specs.declared.span.Span.{Span}
 use Rattle.field_boxes.specs.Classifier.{Interval}

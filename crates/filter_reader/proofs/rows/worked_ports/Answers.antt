@@ -1,5 +1,5 @@
 use Rattle.std.proofs.Common.{refl}
-use Rattle.filter_reader.specs.Numbers.{number_within, short_number}
+use Rattle.text_lines.specs.Numbers.{number_within, short_number}
 use Rattle.filter_reader.specs.Addresses.{address_of, length_of}
 use Rattle.filter_reader.specs.Masks.{hex_number, value_and_mask}
 use Rattle.filter_reader.specs.Ports.{range_of, ports_of}

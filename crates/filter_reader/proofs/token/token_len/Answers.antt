@@ -1,11 +1,11 @@
-use Rattle.std.proofs.Common.{◌≡◌, ◌∷◌, ℕ, List, [], refl, sym, subst, true, false, get_or}
-use Rattle.std.specs.Prelude.{IsTrue}
+use Rattle.std.proofs.Common.{◌≡◌, ◌∷◌, ℕ, List, [], refl, sym, subst, true, false, get_or, IsTrue}
 use Rattle.std.proofs.Math.Seq.{take-length, drop-length}
-use Rattle.filter_reader.specs.Tokens.{begins_token, is_mark, goes_on}
+use Rattle.filter_reader.specs.Tokens.{is_mark, goes_on}
+use Rattle.text_lines.specs.Columns.{begins_column}
 use Rattle.filter_reader.proofs.Words.{EndsAt, ends_at}
 use Rattle.filter_reader.proofs.token.token_len.Goals as goal
 
-word_goes_on : (text : List ℕ) → IsTrue (begins_token text) → is_mark (get_or text 0 0) ≡ false → goes_on text ≡ true
+word_goes_on : (text : List ℕ) → IsTrue (begins_column text) → is_mark (get_or text 0 0) ≡ false → goes_on text ≡ true
 word_goes_on [] h e = h
 word_goes_on (b ∷ text) h e = rw (h, e) refl
 

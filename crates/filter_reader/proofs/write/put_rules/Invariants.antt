@@ -1,5 +1,4 @@
-use Rattle.std.proofs.Common.{take}
-use Rattle.std.specs.List.{flat_map}
+use Rattle.std.proofs.Common.{take, flat_map}
 use Rattle.field_boxes.specs.NamedRules.{named_rule}
 use Rattle.razor_base.proofs.Writing.{HasPut}
 use Rattle.filter_reader.specs.ListText.{rule_text}

@@ -1,5 +1,5 @@
 use Rattle.std.proofs.Common.{◌≡◌, min, take}
-use Rattle.filter_reader.specs.Numbers.{number_of}
+use Rattle.text_lines.specs.Numbers.{number_of}
 use Rattle.partition_check.proofs.number.capped.Given as goal
 
 abbrev pub invariant-loop-byte : goal.invariant-loop-byte

@@ -1,17 +1,16 @@
-use Rattle.std.proofs.Common.{◌∙◌, ◌+◌, [], take, ap, sym, subst, refl, arith, rules}
-use Rattle.std.specs.Prelude.{IfSome}
-use Rattle.std.proofs.lemmas.List.{length-take}
+use Rattle.std.proofs.Common.{◌∙◌, ◌+◌, [], take, ap, sym, subst, refl, arith, rules, IfSome, length-take}
 use Rattle.partition_check.specs.declared.row.Wrong.{Wrong}
 use Rattle.partition_check.specs.Agreement.{HaveNames}
 use Rattle.partition_check.specs.Streams.{ReadsWrong}
 use Rattle.partition_check.proofs.NamedReasons.{end-named, wrong-named}
 use Rattle.partition_check.proofs.Buffers.{piece-length, cut-behind, all-behind}
-use Rattle.partition_check.proofs.Streaming.{rows-read, end-well, agree-before, faulted, end-valid, end-wrong, cut-wrong, cut-past, whole-wrong, whole-read, told-wrong, rose-since}
+use Rattle.partition_check.proofs.Streaming.{rows-read, end-well, agree-before, faulted, end-valid, end-wrong, cut-wrong, cut-past, whole-wrong, whole-read, told-wrong}
+use Rattle.razor_base.proofs.Writing.{rose-later}
 use Rattle.partition_check.proofs.stream.check_stream.Goals as goal
 
 pub returns-in_err-count-clause-fault : goal.returns-in_err-count-clause-fault
 returns-in_err-count-clause-fault g c = λ is. (
-  rose-since _ _ _ (c.pieces.invariant.counts c.args.name.now) c.in_err-count.ensures.failed.0,
+  rose-later _ _ _ (c.pieces.invariant.counts c.args.name.now) c.in_err-count.ensures.failed.0,
   faulted _ _ _ _ _ _ _ c.pieces.invariant.read _ c.in_err-count.ensures.failed.1,
 )
 
@@ -37,10 +36,8 @@ returns-then-count-eq0-clause-agree g c = agree-before _ _ _ _ _ _ _ c.pieces.in
 
 pub take_lines-requires : goal.take_lines-requires
 take_lines-requires g c =
-    let few = rows-read _ _ _ _ _ _ _ c.pieces.invariant.read c.requires.rows in
     let cut = length-take (c.pieces.kept + c.pieces.room) c.read_behind.new.buffer in
-    let kept = c.pieces.invariant.few in
-    omega (arith, few, cut, kept)
+    omega (arith, rows-read _ _ _ _ _ _ _ c.pieces.invariant.read c.requires.rows, cut, c.pieces.invariant.few)
 
 pub returns-in_err-_rest-clause-wrong : goal.returns-in_err-_rest-clause-wrong
 returns-in_err-_rest-clause-wrong g c = λ w e.
@@ -59,10 +56,8 @@ returns-then-count-room-clause-too_long g c = λ is.
 
 pub take_lines-requires-in-pieces : goal.take_lines-requires-in-pieces
 take_lines-requires-in-pieces g c =
-    let few = rows-read _ _ _ _ _ _ _ c.pieces.invariant.read c.requires.rows in
     let cut = length-take (c.pieces.kept + c.in_ok-count.count) c.read_behind.new.buffer in
-    let kept = c.pieces.invariant.few in
-    omega (arith, few, cut, kept, c.if-count-room.false)
+    omega (arith, rows-read _ _ _ _ _ _ _ c.pieces.invariant.read c.requires.rows, cut, c.pieces.invariant.few, c.if-count-room.false)
 
 pub returns-in_err-start-clause-wrong : goal.returns-in_err-start-clause-wrong
 returns-in_err-start-clause-wrong g c = λ w e.

@@ -1,5 +1,4 @@
-use Rattle.std.proofs.Common.{ℕ, arith, subst, below_more}
-use Rattle.std.specs.Prelude.{slice_index_or, IsTrue, IsFalse}
+use Rattle.std.proofs.Common.{ℕ, arith, subst, below_more, slice_index_or, IsTrue, IsFalse}
 use Rattle.std.proofs.lemmas.List.{get_or_default}
 use Rattle.field_boxes.specs.declared.span.Span.{Span}
 use Rattle.field_boxes.specs.SpanLists.{filling}

@@ -1,5 +1,5 @@
 use Rattle.std.proofs.Common.{subst, sym}
-use Rattle.redundancy_laws.specs.Orders.{IsOrder}
+use Rattle.field_boxes.specs.Orders.{IsOrder}
 use Rattle.razor_bench.proofs.compile.tight.Goals as goal
 
 pub compose_tight-requires-clause-order : goal.compose_tight-requires-clause-order

@@ -41,39 +41,31 @@ cost-requires t c =
     let lists = rows_at c.args.plans.now.lists.items in
     let costs = c.args.plans.now.costs.items in
     let level = c.args.level.now in
-    let has = not_empty level c.requires.level (sym c.if-is_empty.ensures) in
-    let l = c.loop-row in
+    let items = c.rows-rows.result.now in
+    let i = c.loop-row.row-index in
     let d : Row = record { prefix = record { value = 0; len = 0 }; to = record { 0 = 0 } } in
-    costs_room nodes lists costs (next_level level) (slice_index_or c.rows-rows.result.now l.row-index d).to.0
-    (costs_at nodes lists costs level c.args.id.0 c.rows-rows.result.now l.row-index d has c.requires.costs c.rows-rows.ensures c.loop-row-test.true)
+    costs_room nodes lists costs (next_level level) (slice_index_or items i d).to.0
+    (costs_at nodes lists costs level c.args.id.0 items i d (not_empty level c.requires.level (sym c.if-is_empty.ensures)) c.requires.costs c.rows-rows.ensures c.loop-row-test.true)
 
 pub add_kept-requires : goal.add_kept-requires
 add_kept-requires t c =
     let nodes = c.args.store.now in
-    let lists = rows_at c.args.plans.now.lists.items in
-    let costs = c.args.plans.now.costs.items in
+    let plans = c.args.plans.now in
+    let lists = rows_at plans.lists.items in
     let level = c.args.level.now in
     let id = c.args.id.0 in
     let items = c.rows-rows.result.now in
-    let has = not_empty level c.requires.level (sym c.if-is_empty.ensures) in
-    let l = c.loop-row in
+    let i = c.loop-row.row-index in
     let d : Row = record { prefix = record { value = 0; len = 0 }; to = record { 0 = 0 } } in
-    let r = slice_index_or items l.row-index d in
-    let next = next_of nodes lists level id c.args.prefixes items l.row-index d c.same_answers.ensures.store has c.requires.at c.requires.lists c.rows-rows.ensures c.loop-row-test.true c.requires.fit in
-    let cost = costs_at nodes lists costs level id items l.row-index d has c.requires.costs c.rows-rows.ensures c.loop-row-test.true in
-    let tail = sym c.after-below.ensures in (
-      omega (arith, c.decreases, one_less level has, ap length c.after-below.ensures),
-      (
-        subst IsLevel tail (is_next level has),
-        (
-          subst (λ k. level_of nodes r.to.0 ≡ k) tail next.at,
-          (
-            subst (λ k. HaveLists nodes lists k r.to.0) tail next.have,
-            (subst (λ k. HaveCosts nodes lists costs k r.to.0) tail cost, subst (λ k. FitFields stated (set c.args.prefixes k r.prefix)) (sym c.from.ensures) next.fit),
-          ),
-        ),
-      ),
-    )
+    let r = slice_index_or items i d in
+    let has = not_empty level c.requires.level (sym c.if-is_empty.ensures) in
+    let next = next_of nodes lists level id c.args.prefixes items i d c.same_answers.ensures.store has c.requires.at c.requires.lists c.rows-rows.ensures c.loop-row-test.true c.requires.fit in
+    let tail = sym c.after-below.ensures in
+    let at = subst (λ k. level_of nodes r.to.0 ≡ k) tail next.at in
+    let have = subst (λ k. HaveLists nodes lists k r.to.0) tail next.have in
+    let cost = subst (λ k. HaveCosts nodes lists plans.costs.items k r.to.0) tail (costs_at nodes lists plans.costs.items level id items i d has c.requires.costs c.rows-rows.ensures c.loop-row-test.true) in
+    let fit = subst (λ k. FitFields stated (set c.args.prefixes k r.prefix)) (sym c.from.ensures) next.fit in
+    (omega (arith, c.decreases, one_less level has, ap length c.after-below.ensures), (subst IsLevel tail (is_next level has), (at, (have, (cost, fit)))))
 
 pub loop-row-preserved : goal.loop-row-preserved
 loop-row-preserved t c =

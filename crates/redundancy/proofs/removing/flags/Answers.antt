@@ -1,7 +1,11 @@
 use Rattle.std.proofs.lemmas.Result.{IfOk-weaker}
 use Rattle.redundancy.specs.Blocks.{rows_of}
 use Rattle.redundancy.proofs.WholeFlags.{flags_are}
+use Rattle.node_store.proofs.Orders.{order_level}
 use Rattle.redundancy.proofs.removing.flags.Goals as goal
+
+pub of-requires-clause-level : goal.of-requires-clause-level
+of-requires-clause-level c = order_level c.args.order.now c.requires.order
 
 pub of-requires-clause-blocks : goal.of-requires-clause-blocks
 of-requires-clause-blocks c = c.new-blocks.ensures c.new-sets.result

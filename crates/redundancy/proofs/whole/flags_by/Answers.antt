@@ -4,12 +4,16 @@ use Rattle.field_boxes.specs.Fields.{AreValues}
 use Rattle.node_store.specs.Diagram.{answer}
 use Rattle.node_store.proofs.Canonical.{in_use}
 use Rattle.node_store.proofs.Growth.{twice}
+use Rattle.node_store.proofs.Orders.{order_level}
 use Rattle.redundancy.specs.Blocks.{cover_at, rows_of}
 use Rattle.redundancy.specs.Remembered.{same_asked}
 use Rattle.redundancy.proofs.BlocksStay.{blocks_stay}
 use Rattle.redundancy.proofs.Recalled.{memo_stays}
 use Rattle.redundancy.proofs.WholeFlags.{flags_of_pair}
 use Rattle.redundancy.proofs.whole.flags_by.Goals as goal
+
+pub none-requires : goal.none-requires
+none-requires c = order_level c.args.order.now c.requires.order
 
 pub sift-requires-clause-blocks : goal.sift-requires-clause-blocks
 sift-requires-clause-blocks c = blocks_stay c.args.sets.now c.none.new.self c.args.blocks.now.blocks.items c.args.blocks.now.covers.items c.in_ok-none.ensures.grows c.requires.blocks
@@ -24,7 +28,7 @@ returns-clause-flags c =
     let block = c.args.block in
     let none = c.in_ok-none.none in
     let nothing : (values : List ℕ) → AreValues order values → answer c.sift.new.sets none.0 values ≡ 0 = λ values are.
-    c.in_ok-sifted.ensures.grows.answers none.0 values (in_use c.none.new.self none.0 order c.requires.order.level c.in_ok-none.ensures.level) ∙ c.in_ok-none.ensures.empty values are in
+    c.in_ok-sifted.ensures.grows.answers none.0 values (in_use c.none.new.self none.0 order (order_level order c.requires.order) c.in_ok-none.ensures.level) ∙ c.in_ok-none.ensures.empty values are in
     flags_of_pair c.sift.new.sets order (cover_at blocks.covers.items block).level.now (rows_of blocks.blocks.items block) (record { after = none; met = none }) c.in_ok-sifted.sifted
     c.requires.level nothing nothing c.in_ok-sifted.ensures.sifted
 

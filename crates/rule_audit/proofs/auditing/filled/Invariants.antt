@@ -1,5 +1,4 @@
-use Rattle.std.proofs.Common.{◌≡◌, ◌<◌, ℕ, length}
-use Rattle.std.specs.Prelude.{None, slice_index_or, unwrap_or}
+use Rattle.std.proofs.Common.{◌≡◌, ◌<◌, ℕ, length, None, slice_index_or, unwrap_or}
 use Rattle.rule_audit.specs.declared.state.RuleState.TheVariants.{Never}
 use Rattle.rule_audit.proofs.auditing.filled.Given as goal
 

@@ -1,5 +1,4 @@
-use Rattle.std.proofs.Common.{◌≡◌, ◌<◌, ◌∙◌, List, Bool, true, ap, sym, subst, length, get_or, arith}
-use Rattle.std.specs.Prelude.{Option, None, is_none, map, unwrap_or}
+use Rattle.std.proofs.Common.{◌≡◌, ◌<◌, ◌∙◌, List, Bool, true, ap, sym, subst, length, get_or, arith, Option, None, is_none, map, unwrap_or}
 use Rattle.field_boxes.specs.Fields.{IsHeader}
 use Rattle.rule_audit.specs.declared.state.RuleState.{RuleState}
 use Rattle.rule_audit.specs.declared.state.RuleState.TheVariants.{Never}
@@ -11,14 +10,13 @@ use Rattle.rule_audit.proofs.auditing.told.Goals as goal
 pub returns-clause-each : goal.returns-clause-each
 returns-clause-each c = λ k d less.
     let known = c.in_ok-known.known.items in
-    let found = c.in_ok-found.found.items in
     let states = c.in_ok-states.states.items in
     let rules = c.args.rules.now in
     let long : length known ≡ length rules = omega (arith, c.in_ok-known.ensures.count) in
     let inside : k < length known = omega (arith, less, long) in
     let same : length c.deref-3.result.now ≡ length known = ap (λ (xs : List (Option RuleState)). length xs) c.deref-3.ensures.value in
     let count : length states ≡ length known = omega (arith, c.in_ok-states.ensures.count, same) in
-    chosen_at (IsStateSoFar IsHeader (next_behind rules k)) known found states c.in_ok-left_open.left_open.items k d Never inside count
+    chosen_at (IsStateSoFar IsHeader (next_behind rules k)) known c.in_ok-found.found.items states c.in_ok-left_open.left_open.items k d Never inside count
     (c.in_ok-left_open.ensures ∙ ap (λ (xs : List (Option RuleState)). map is_none xs) c.deref.ensures.value)
     (c.in_ok-states.ensures.each k (omega (arith, inside, same))
     ∙ ap (λ (xs : List (Option RuleState)). unwrap_or (get_or xs k None) (get_or c.deref-4.result.now k Never)) c.deref-3.ensures.value

@@ -1,5 +1,4 @@
-use Rattle.std.proofs.Common.{◌≡◌, map, take}
-use Rattle.std.specs.Prelude.{is_none}
+use Rattle.std.proofs.Common.{◌≡◌, map, take, is_none}
 use Rattle.rule_audit.proofs.auditing.unknown.Given as goal
 
 abbrev pub invariant-loop-state : goal.invariant-loop-state

@@ -10,7 +10,7 @@ use Rattle.rule_audit.specs.Parts.{IsPart}
 use Rattle.rule_audit.proofs.InHalves as halves
 use Rattle.rule_audit.proofs.Joining.{closed}
 use Rattle.rule_audit.proofs.Parts.{part_size, part_stays}
-use Rattle.rule_audit.proofs.Stated.{is_level}
+use Rattle.node_store.proofs.Stated.{is_level}
 use Rattle.rule_audit.proofs.halving.+halved.Goals as goal
 
 pub returns-then-not-has_open-clause-answers : goal.returns-then-not-has_open-clause-answers
@@ -22,58 +22,29 @@ pub halved-requires : goal.halved-requires
 halved-requires t c =
     let all = c.args.rules.now in
     let front = c.split_at.result.0.now in
-    let back = c.split_at.result.1.now in
     let e = c.split_at.ensures in
-    let m = length all / 2 in
-    let whole = subst (IsPart c.args.store.now all) c.in-Halves.is c.requires.part in (
-      (let less = ap part_size c.in-Halves.is in let same = ap part_size c.deref.ensures in omega (arith, c.decreases, less, same)),
-      (
-        c.requires.nothing,
-        (
-          subst (IsPart c.args.store.now front) (sym c.deref.ensures) (subst (λ (rs : List code.Rule). IsPart c.args.store.now rs c.in-Halves.first.value) (sym e.front) whole.1),
-          (
-            omega (arith, c.requires.within, e.front_len),
-            (
-              halves.stand_first all front back m e.front e.back c.args.labels.now.rules.now c.args.from c.requires.stand,
-              (
-                halves.decide_first all front back m e.front e.back c.requires.decide,
-                halves.below_first all front back m e.front e.back c.args.labels.now.first c.requires.below,
-              ),
-            ),
-          ),
-        ),
-      ),
-    )
+    let whole = subst (IsPart c.args.store.now all) c.in-Halves.is c.requires.part in
+    let part = subst (IsPart c.args.store.now front) (sym c.deref.ensures) (subst (λ (rs : List code.Rule). IsPart c.args.store.now rs c.in-Halves.first.value) (sym e.front) whole.1) in
+    let rest = halves.first_half all front c.split_at.result.1.now (length all / 2) e.front e.back c.args.labels.now.first c.args.labels.now.rules.now c.args.from c.requires.stand c.requires.decide c.requires.below in
+    let same = ap part_size c.deref.ensures in
+    (omega (arith, c.decreases, ap part_size c.in-Halves.is, same), (c.requires.nothing, (part, (omega (arith, c.requires.within, e.front_len), rest))))
 
 pub halved-requires-in-Halves : goal.halved-requires-in-Halves
 halved-requires-in-Halves t c =
     let all = c.args.rules.now in
-    let front = c.split_at.result.0.now in
     let back = c.split_at.result.1.now in
     let e = c.split_at.ensures in
     let m = length all / 2 in
     let old = c.args.store.now in
     let new = c.halved.new.store in
-    let whole = subst (IsPart old all) c.in-Halves.is c.requires.part in (
-      (let less = ap part_size c.in-Halves.is in let same = ap part_size c.deref-in-Halves.ensures in omega (arith, c.decreases, less, same)),
-      (
-        zeros_last old new c.args.labels.now.nothing.nodes.items c.in_ok-upper-in-Halves.ensures.grows c.requires.nothing,
-        (
-          subst (IsPart new back) (sym c.deref-in-Halves.ensures)
-              (subst (λ (rs : List code.Rule). IsPart new rs c.in-Halves.second.value) (sym e.back) (part_stays old new (drop m all) c.in-Halves.second.value c.in_ok-upper-in-Halves.ensures.grows whole.2)),
-          (
-            omega (arith, c.requires.within, e.front_len, e.back_len),
-            (
-              halves.stand_second all front back m e.front e.back c.args.labels.now.rules.now c.args.from c.requires.stand,
-              (
-                halves.decide_second all front back m e.front e.back c.requires.decide,
-                halves.below_second all front back m e.front e.back c.args.labels.now.first c.requires.below,
-              ),
-            ),
-          ),
-        ),
-      ),
-    )
+    let grows = c.in_ok-upper-in-Halves.ensures.grows in
+    let whole = subst (IsPart old all) c.in-Halves.is c.requires.part in
+    let nothing = zeros_last old new c.args.labels.now.nothing.nodes.items grows c.requires.nothing in
+    let part = subst (IsPart new back) (sym c.deref-in-Halves.ensures)
+    (subst (λ (rs : List code.Rule). IsPart new rs c.in-Halves.second.value) (sym e.back) (part_stays old new (drop m all) c.in-Halves.second.value grows whole.2)) in
+    let rest = halves.second_half all c.split_at.result.0.now back m e.front e.back c.args.labels.now.first c.args.labels.now.rules.now c.args.from c.requires.stand c.requires.decide c.requires.below in
+    let same = ap part_size c.deref-in-Halves.ensures in
+    (omega (arith, c.decreases, ap part_size c.in-Halves.is, same), (nothing, (part, (omega (arith, c.requires.within, e.front_len, e.back_len), rest))))
 
 pub lay-requires-clause-nothing : goal.lay-requires-clause-nothing
 lay-requires-clause-nothing t c =
@@ -91,7 +62,6 @@ lay-requires-clause-upper t c =
 pub returns-in_ok-id-in-Halves-clause-answers : goal.returns-in_ok-id-in-Halves-clause-answers
 returns-in_ok-id-in-Halves-clause-answers t c = λ values h.
     let mid = c.halved.new.store in
-    let new = c.halved-in-Halves.new.store in
     let upper = c.in_ok-upper-in-Halves in
     let lower = c.in_ok-lower-in-Halves in
     let all = c.args.labels.now.rules.now in
@@ -103,7 +73,7 @@ returns-in_ok-id-in-Halves-clause-answers t c = λ values h.
     let back = c.split_at.result.1.now in
     let e = c.split_at.ensures in
     c.in_ok-id-in-Halves.ensures.answers values h
-    ∙ ap (λ n. joined first all n (answer new lower.lower.0 values))
+    ∙ ap (λ n. joined first all n (answer c.halved-in-Halves.new.store lower.lower.0 values))
     (lower.ensures.grows.answers upper.upper.0 values (in_use mid upper.upper.0 _ (is_level 0) upper.ensures.level) ∙ upper.ensures.answers values h)
     ∙ ap (λ n. joined first all (labelled first left_open from front values) n) (lower.ensures.answers values h)
-    ∙ sym (halves.halves_joined rules front back (length rules / 2) e.front e.back first all left_open values from c.requires.stand c.requires.decide c.requires.below)
+    ∙ sym (halves.halves_joined rules front back (length rules / 2) e.front e.back first all from c.requires.stand c.requires.decide c.requires.below left_open values)

@@ -1,16 +1,8 @@
-use Rattle.std.proofs.Common.{◌≡◌, ◌∙◌, [], ap, get_or, refl, sym}
-use Rattle.std.specs.Prelude.{unwrap_or}
-use Rattle.node_store.specs.declared.edge.NodeId.{NodeId}
+use Rattle.std.proofs.Common.{◌≡◌, ◌∙◌, [], ap, get_or, sym, unwrap_or}
 use Rattle.node_store.specs.Diagram.{answer}
 use Rattle.rule_audit.proofs.FirstAnswers.{first_end, first_here, first_later}
-use Rattle.rule_audit.proofs.Rows.{used}
+use Rattle.rule_audit.proofs.Rows.{no_id, used}
 use Rattle.rule_audit.proofs.leaves.first_of.Goals as goal
-
-abbrev no_id : NodeId
-no_id = record { 0 = 0 }
-
-pub loop-id-init : goal.loop-id-init
-loop-id-init c = refl
 
 pub decision-requires : goal.decision-requires
 decision-requires c = let l = c.loop-id in used c.args.store.now (get_or c.args.leaves.now l.id-index no_id).0 5 (c.requires l.id-index no_id c.loop-id-test.true)

@@ -1,5 +1,4 @@
-use Rattle.std.proofs.Common.{◌≡◌, ◌∙◌, [], List, ap, subst, sym}
-use Rattle.std.specs.Prelude.{unwrap_or}
+use Rattle.std.proofs.Common.{◌≡◌, ◌∙◌, [], List, ap, subst, sym, unwrap_or}
 use Rattle.node_store.specs.declared.edge.NodeId.{NodeId}
 use Rattle.node_store.specs.Diagram.{answer}
 use Rattle.rule_audit.specs.Around.{StandAtLevel, first_answer}
@@ -17,13 +16,11 @@ first_of-behind-requires c = subst (StandAtLevel c.args.store.now []) (sym c.as_
 
 pub returns-then-here-eq0-clause-no : goal.returns-then-here-eq0-clause-no
 returns-then-here-eq0-clause-no c =
-    let told : c.unwrap_or-here.result ≡ answer c.args.store.now c.args.around.now.here.0 [] = c.unwrap_or-here.ensures ∙ ap (λ o. unwrap_or o 0) c.decision.ensures.decision in
-    λ wanted. wanted.matched (sym told ∙ c.if-here-eq0.true)
+    λ wanted. wanted.matched (ap (λ o. unwrap_or o 0) (sym c.decision.ensures.decision) ∙ sym c.unwrap_or-here.ensures ∙ c.if-here-eq0.true)
 
 pub returns-then-before-ne0-clause-no : goal.returns-then-before-ne0-clause-no
 returns-then-before-ne0-clause-no c =
-    let before = c.first_of-before.ensures ∙ ap (λ (ids : List NodeId). first_answer c.args.store.now ids []) c.as_slice.ensures in
-    λ wanted. c.if-before-ne0.true (before ∙ wanted.first)
+    λ wanted. c.if-before-ne0.true (c.first_of-before.ensures ∙ ap (λ (ids : List NodeId). first_answer c.args.store.now ids []) c.as_slice.ensures ∙ wanted.first)
 
 pub returns-then-behind-here-clause-no : goal.returns-then-behind-here-clause-no
 returns-then-behind-here-clause-no c =
@@ -34,10 +31,9 @@ returns-then-behind-here-clause-no c =
 pub returns-clause-yes : goal.returns-clause-yes
 returns-clause-yes c =
     let told : c.unwrap_or-here.result ≡ answer c.args.store.now c.args.around.now.here.0 [] = c.unwrap_or-here.ensures ∙ ap (λ o. unwrap_or o 0) c.decision.ensures.decision in
-    let before = c.first_of-before.ensures ∙ ap (λ (ids : List NodeId). first_answer c.args.store.now ids []) c.as_slice.ensures in
     let behind = c.first_of-behind.ensures ∙ ap (λ (ids : List NodeId). first_answer c.args.store.now ids []) c.as_slice-2.ensures in
     record {
       matched = λ e. c.if-here-eq0.false (told ∙ e);
-      first = sym before ∙ c.if-before-ne0.false;
+      first = sym (c.first_of-before.ensures ∙ ap (λ (ids : List NodeId). first_answer c.args.store.now ids []) c.as_slice.ensures) ∙ c.if-before-ne0.false;
       otherwise = λ e. c.if-behind-here.false (behind ∙ e ∙ sym told);
     }

@@ -1,5 +1,4 @@
-use Rattle.std.proofs.Common.{sym, ◌∙◌}
-use Rattle.std.proofs.lemmas.Bool.{eqb-true}
+use Rattle.std.proofs.Common.{sym, ◌∙◌, eqb-true}
 use Rattle.rule_audit.proofs.Sights.{sight_left, sight_right}
 use Rattle.rule_audit.proofs.nothing.other.Goals as goal
 

@@ -1,18 +1,18 @@
 use Rattle.std.proofs.lemmas.List.Elements.{recursion_from_All}
 use Rattle.field_boxes.specs.NamedRules.{IsNumberedBy}
-use Rattle.redundancy.proofs.Fields.{distinct}
+use Rattle.node_store.proofs.Orders.{order_level}
 use Rattle.rule_compilation.proofs.Composed.{IsBuiltOf}
 use Rattle.rule_compilation.proofs.Whole.{whole}
 use Rattle.rule_compilation.proofs.compiling.compose_in.Goals as goal
 
 pub build-requires : goal.build-requires
-build-requires c = c.requires.order.level
+build-requires c = order_level c.args.order.now c.requires.order
 
 pub compose-requires-clause-order : goal.compose-requires-clause-order
-compose-requires-clause-order c = c.requires.order.level
+compose-requires-clause-order c = order_level c.args.order.now c.requires.order
 
 pub compose-requires-clause-apart : goal.compose-requires-clause-apart
-compose-requires-clause-apart c = distinct c.args.order.now c.requires.order.apart
+compose-requires-clause-apart c = c.requires.order.distinct
 
 pub returns : goal.returns
 returns c =

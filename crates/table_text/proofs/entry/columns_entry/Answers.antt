@@ -1,5 +1,4 @@
-use Rattle.std.proofs.Common.{◌≡◌, Ok, Err, sym, subst}
-use Rattle.std.specs.Prelude.{MatchResult}
+use Rattle.std.proofs.Common.{◌≡◌, Ok, Err, sym, subst, MatchResult}
 use Rattle.ternary_words.specs.Views.{word_of}
 use Rattle.table_text.specs.ColumnViews.{columns_view, fields_view}
 use Rattle.table_text.specs.EntryViews.{line_of, spelled_view}

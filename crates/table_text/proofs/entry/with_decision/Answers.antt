@@ -1,5 +1,4 @@
-use Rattle.std.proofs.Common.{ap}
-use Rattle.std.specs.Option.{option_map}
+use Rattle.std.proofs.Common.{ap, option_map}
 use Rattle.ternary_words.specs.Views.{word_of}
 use Rattle.table_text.proofs.Spelled.{decided-ok, decided-not}
 use Rattle.table_text.proofs.entry.with_decision.Goals as goal

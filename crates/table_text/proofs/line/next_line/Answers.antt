@@ -1,6 +1,7 @@
 use Rattle.std.proofs.Common.{◌≡◌, [], ◌-◌, ℕ, List, length, take, drop, subst, sym, arith}
 use Rattle.std.proofs.lemmas.Grind.{common_steps}
-use Rattle.table_text.proofs.Cuts.{CutsLine, cuts_line, has_byte}
+use Rattle.table_text.proofs.Cuts.{CutsLine, cuts_line}
+use Rattle.text_lines.proofs.Cuts.{has_byte}
 use Rattle.table_text.proofs.line.next_line.Goals as goal
 
 nothing_after : (text : List ℕ) → take (length text - length text) (drop (length text) text) ≡ []

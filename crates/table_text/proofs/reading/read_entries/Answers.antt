@@ -12,10 +12,9 @@ returns-in-Err c =
     let h = heading_view c.args.heading.now in
     let l = c.loop-place in
     let lines = lines_of c.args.lines.now in
-    let read = entries_of h 2 (take h.entries lines) in
     let line = line_of c.in-Some.line.now c.in-Some.ended in
     refused c.in-Err.error (c.from-in-loop-place.result + 2) (entry_of h line) _ c.in-Err.ensures.read
-    (λ reason is. counted_bad h (length lines) read (bad_at (c.from-in-loop-place.result + 2) reason)
+    (λ reason is. counted_bad h (length lines) (entries_of h 2 (take h.entries lines)) (bad_at (c.from-in-loop-place.result + 2) reason)
     (sym l.invariant.reads ∙ ap (resumed h (entries_view l.entries) l.place) c.in-Some.ensures.line
     ∙ resumed-bad h (entries_view l.entries) l.place line (lines_of c.in-Some.after.now) reason c.loop-place-test.true is
     ∙ ap (λ n. err_at (n + 2) reason) (sym c.from-in-loop-place.ensures)))

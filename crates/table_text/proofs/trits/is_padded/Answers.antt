@@ -1,7 +1,5 @@
-use Rattle.std.proofs.Common.{◌≤◌, ◌-◌, length, length-drop, drop, ap, ◌∙◌, arith}
-use Rattle.std.specs.Prelude.{◌==◌}
+use Rattle.std.proofs.Common.{◌≤◌, ◌-◌, length, length-drop, drop, ap, ◌∙◌, arith, ◌==◌, take_all}
 use Rattle.std.specs.List.{list_all}
-use Rattle.std.proofs.lemmas.List.{take_all}
 use Rattle.table_text.proofs.trits.is_padded.Goals as goal
 
 pub returns : goal.returns

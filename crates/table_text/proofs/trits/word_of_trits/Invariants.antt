@@ -1,5 +1,4 @@
-use Rattle.std.proofs.Common.{◌≡◌, ◌<◌, ◌^◌, length, map, take}
-use Rattle.std.specs.Prelude.{bit_and}
+use Rattle.std.proofs.Common.{◌≡◌, ◌<◌, ◌^◌, length, map, take, bit_and}
 use Rattle.field_boxes.specs.Bits.{bits}
 use Rattle.ternary_words.specs.Word.{trits}
 use Rattle.table_text.specs.Trits.{trit_of}

@@ -1,15 +1,8 @@
-use Rattle.std.proofs.Common.{◌≡◌, ◌-◌, ◌*◌, ◌/◌, ◌%◌, ◌^◌, ◌≤◌, refl, ap, sym, ◌∙◌, arith, ℕ}
+use Rattle.std.proofs.Common.{◌-◌, ◌≤◌, refl, arith}
 use Rattle.std.specs.Prelude.{bit_and}
 use Rattle.std.proofs.lemmas.Nat.{and_le_r}
-use Rattle.std.proofs.lemmas.Nat.Bits.{and_high}
-use Rattle.std.proofs.Math.Nat.{mul-mod_left}
-use Rattle.ternary_words.proofs.OnesInFront.{between}
+use Rattle.ternary_words.proofs.OnesInFront.{low_zero}
 use Rattle.ternary_words.proofs.parts.part.Goals as goal
-
-low_zero : (l k v m : ℕ) → bit_and v m ≡ v → m ≡ (2 ^ l - 1) * 2 ^ k → v % 2 ^ k ≡ 0
-low_zero l k v m e is =
-    let whole : v ≡ v / 2 ^ k % 2 ^ l * 2 ^ k = sym e ∙ ap (bit_and v) (is ∙ between l k) ∙ and_high v l k in
-    ap (λ n. n % 2 ^ k) whole ∙ mul-mod_left (v / 2 ^ k % 2 ^ l) (2 ^ k)
 
 pub returns : goal.returns
 returns c =

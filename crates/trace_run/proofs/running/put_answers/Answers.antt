@@ -1,9 +1,8 @@
-use Rattle.std.proofs.Common.{◌≡◌, ℕ, ◌-◌, ◌<◌, ◌≤◌, List, ◌++◌, length, take, drop, take-append-drop, length-drop, ap, sym, subst, ◌∙◌, arith, rules}
+use Rattle.std.proofs.Common.{◌≡◌, ℕ, ◌-◌, ◌<◌, ◌≤◌, List, ◌++◌, length, take, drop, take-append-drop, length-drop, ap, sym, subst, ◌∙◌, arith, rules, length-take-le, take-take}
 use Rattle.std.specs.Io.KnownBytes.{Consumes, prepend_known}
-use Rattle.std.proofs.lemmas.List.{length-take-le, take-take}
 use Rattle.trace_run.proofs.PutLines.{handed_on}
 use Rattle.trace_run.proofs.Standing.{so_far-next}
-use Rattle.trace_run.proofs.Ending.{so_far-few, ends_fault, ends_whole, ends_at_last_as, ends_in_piece_as, ends_long, consumes-first}
+use Rattle.trace_run.proofs.Ending.{so_far-few, ends_fault, ends_whole, ends_at_last, ends_in_piece, ends_long, consumes-first}
 use Rattle.trace_run.proofs.running.put_answers.Goals as goal
 
 pub returns-in_default-clause-outcome : goal.returns-in_default-clause-outcome
@@ -22,7 +21,8 @@ returns-in_err-take_kept-clause-outcome g c =
     let long : 0 < length buffer = search rules in
     let none = subst (λ n. Consumes (g.D.Desk.remaining c.pieces.desk c.args.name.now) left (take n buffer)) c.if-count-eq0.true c.in-Ok.ensures.bytes.0 in
     let error = c.in_err-take_kept.field-0.0 in
-    ends_at_last_as left error c.from_residual.result (handed_on error c.from_residual.result c.from_residual.ensures.1) c.pieces.invariant.stands none (c.in-Ok.ensures.bytes.1 c.if-count-eq0.true long) c.in_err-take_kept.ensures.puts c.in_err-take_kept.ensures.stops
+    rw (handed_on error c.from_residual.result c.from_residual.ensures.1)
+    (ends_at_last left error c.pieces.invariant.stands none (c.in-Ok.ensures.bytes.1 c.if-count-eq0.true long) c.in_err-take_kept.ensures.puts c.in_err-take_kept.ensures.stops)
 
 pub returns-then-count-eq0-clause-outcome : goal.returns-then-count-eq0-clause-outcome
 returns-then-count-eq0-clause-outcome g c =
@@ -35,9 +35,8 @@ returns-then-count-eq0-clause-outcome g c =
 
 pub take_piece-requires-clause-lines : goal.take_piece-requires-clause-lines
 take_piece-requires-clause-lines g c =
-    let few = so_far-few c.pieces.invariant.stands in
     let taken = length-take-le c.min-taken.result c.read.new.piece (omega (arith, c.min-taken.ensures, c.in-Ok.ensures.within)) in
-    omega (arith, few.0, taken, c.min-taken.ensures)
+    omega (arith, (so_far-few c.pieces.invariant.stands).0, taken, c.min-taken.ensures)
 
 pub take_piece-requires-clause-headers : goal.take_piece-requires-clause-headers
 take_piece-requires-clause-headers g c = let few = so_far-few c.pieces.invariant.stands in omega (arith, few.1)
@@ -57,8 +56,9 @@ returns-in_err-take_piece-clause-outcome g c =
     let long = length-take-le taken buffer (omega (arith, c.min-taken.ensures, c.in-Ok.ensures.within)) in
     let error = c.in_err-take_piece.field-0.0 in
     let residual = c.from_residual-in_err-take_piece in
-    ends_in_piece_as (take taken buffer) (drop taken (take count buffer)) left error residual.result (handed_on error residual.result residual.ensures.1) c.pieces.invariant.stands (subst (Consumes middle left) parts c.in-Ok.ensures.bytes.0) (omega (arith, long, c.min-taken.ensures))
-    c.in_err-take_piece.ensures.puts c.in_err-take_piece.ensures.stops
+    rw (handed_on error residual.result residual.ensures.1)
+    (ends_in_piece (take taken buffer) (drop taken (take count buffer)) left error c.pieces.invariant.stands (subst (Consumes middle left) parts c.in-Ok.ensures.bytes.0) (omega (arith, long, c.min-taken.ensures))
+    c.in_err-take_piece.ensures.puts c.in_err-take_piece.ensures.stops)
 
 pub returns-then-count-taken-clause-outcome : goal.returns-then-count-taken-clause-outcome
 returns-then-count-taken-clause-outcome g c =
@@ -70,23 +70,20 @@ returns-then-count-taken-clause-outcome g c =
     let extra = drop taken (take count buffer) in
     let parts = parted buffer count taken (omega (arith, c.min-taken.ensures)) in
     let long = length-take-le taken buffer (omega (arith, c.min-taken.ensures, c.in-Ok.ensures.within)) in
-    let whole = length-take-le count buffer c.in-Ok.ensures.within in
-    let rest = length-drop taken (take count buffer) in
     let consumed = consumes-first middle left (take taken buffer) extra (subst (Consumes middle left) parts c.in-Ok.ensures.bytes.0) in
     let ensured = c.in_ok-take_piece.ensures in
     ends_long (g.D.Desk.remaining c.args.desk.now c.args.name.now) left extra
     (so_far-next c.take_piece.new.self (prepend_known extra left) (take taken buffer) 0 c.pieces.invariant.stands consumed (omega (arith, long, c.min-taken.ensures, c.if-count-taken.true))
     ensured.puts ensured.moved ensured.rest ensured.unfinished)
-    (omega (arith, rest, whole, c.if-count-taken.true))
+    (omega (arith, length-drop taken (take count buffer), length-take-le count buffer c.in-Ok.ensures.within, c.if-count-taken.true))
 
 pub pieces-preserved : goal.pieces-preserved
 pieces-preserved g c =
     let middle = g.D.Desk.remaining c.pieces.desk c.args.name.now in
     let left = g.D.Desk.remaining c.read.new.self c.args.name.now in
     let buffer = c.read.new.piece in
-    let count = c.in-Ok.count in
     let taken = c.min-taken.result in
-    let same : count ≡ taken = omega (arith, c.min-taken.ensures, c.if-count-taken.false) in
+    let same : c.in-Ok.count ≡ taken = omega (arith, c.min-taken.ensures, c.if-count-taken.false) in
     let long = length-take-le taken buffer (omega (arith, c.min-taken.ensures, c.in-Ok.ensures.within)) in
     let consumed = subst (λ n. Consumes middle left (take n buffer)) same c.in-Ok.ensures.bytes.0 in
     let ensured = c.in_ok-take_piece.ensures in

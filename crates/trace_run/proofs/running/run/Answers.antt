@@ -1,7 +1,8 @@
 use Rattle.std.proofs.Common.{sym}
 use Rattle.trace_run.specs.Answers.{answers_text}
+use Rattle.trace_run.specs.declared.error.TraceError.TheVariants as errors
 use Rattle.trace_run.proofs.PutLines.{handed_on}
-use Rattle.trace_run.proofs.Flushing.{flushed, unflushed, unflushed_as}
+use Rattle.trace_run.proofs.Flushing.{flushed, unflushed}
 use Rattle.trace_run.proofs.running.run.Goals as goal
 
 pub returns-in_err-flush-clause-outcome : goal.returns-in_err-flush-clause-outcome
@@ -10,7 +11,7 @@ returns-in_err-flush-clause-outcome g c =
     let slots = g.V.Device.held c.args.device.now in
     let before = g.D.Desk.remaining c.args.desk.now c.args.name.now in
     let left = g.D.Desk.remaining c.put_answers-ended.new.desk c.args.name.now in
-    unflushed_as g.K.Sink.written c.args.out.now c.flush.new.sink (answers_text names slots) 67108864 before left c.from_residual.result (handed_on _ c.from_residual.result c.from_residual.ensures.1)
+    rw (handed_on errors.WriteFault c.from_residual.result c.from_residual.ensures.1)
     (unflushed g.K.Sink.written c.args.out.now c.put_answers-ended.new.out c.flush.new.sink c.new-pending.result c.put_answers-ended.new.pending names slots 67108864 before left c.put_answers-ended.result
     c.new-pending.ensures (sym c.if-is_lost.ensures) c.in_err-flush.ensures.whole.err c.put_answers-ended.ensures.outcome)
 

@@ -1,6 +1,5 @@
 use Rattle.std.proofs.Common.{◌+◌, map, ap, sym, ◌∙◌, length, arith}
-use Rattle.filter_reader.specs.FilterList.{text_lines}
-use Rattle.filter_reader.specs.Lines.{without_return}
+use Rattle.text_lines.specs.Lines.{text_lines, without_return}
 use Rattle.trace_run.specs.Trace.{header_of_line, trace_from}
 use Rattle.trace_run.proofs.SoFar.{taken-is, taken-next, taken-cut, taken-bad, count-few}
 use Rattle.trace_run.proofs.taking.take_lines.Goals as goal
@@ -23,10 +22,9 @@ lines-preserved g c =
     let n = c.lines.lines + 1 in
     let line = ap (λ ls. trace_from n (map without_return ls)) c.in-Some.ensures.line in
     let count = c.in_ok-count.ensures.count in let i = c.in-Ok.is in
-    let more = ap (λ ls. length (map without_return ls)) c.in-Some.ensures.line in
     record {
       taken = taken-next n c.in-Ok.count (header_of_line (without_return c.in-Some.line.now)) (sym count ∙ i) (taken-is c.lines.invariant.taken line) c.in_ok-count.ensures.puts;
       few = omega (arith, count-few (header_of_line (without_return c.in-Some.line.now)) c.in-Ok.count (sym count ∙ i), c.in-Some.ensures.shorter, c.lines.invariant.few);
-      counted = omega (arith, more, c.lines.invariant.counted);
+      counted = omega (arith, ap (λ ls. length (map without_return ls)) c.in-Some.ensures.line, c.lines.invariant.counted);
       within = omega (arith, c.in-Some.ensures.shorter, c.lines.invariant.within);
     }

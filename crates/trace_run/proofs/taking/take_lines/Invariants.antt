@@ -1,5 +1,5 @@
 use Rattle.std.proofs.Common.{◌≡◌, ◌≤◌, ◌+◌, length}
-use Rattle.filter_reader.specs.FilterList.{text_lines}
+use Rattle.text_lines.specs.Lines.{text_lines}
 use Rattle.trace_run.specs.Trace.{trace_from}
 use Rattle.trace_run.proofs.SoFar.{HasTaken}
 use Rattle.trace_run.proofs.taking.take_lines.Given as goal

@@ -1,5 +1,4 @@
-use Rattle.std.proofs.Common.{◌≡◌, ◌-◌, ◌∙◌, ap, arith, set, sym, Some}
-use Rattle.std.specs.Prelude.{suc}
+use Rattle.std.proofs.Common.{◌≡◌, ◌-◌, ◌∙◌, ap, arith, set, sym, Some, suc}
 use Rattle.ternary_words.specs.declared.entry.Entry.{Entry}
 use Rattle.bit_merge.proofs.Filled.{filled-next, filled-end}
 use Rattle.bit_merge.proofs.places.Places.of.Goals as goal

@@ -1,5 +1,4 @@
-use Rattle.std.proofs.Common.{◌≡◌, ◌<◌, Option, None, Some, length, set, subst, sym}
-use Rattle.std.specs.Prelude.{ℕ}
+use Rattle.std.proofs.Common.{◌≡◌, ◌<◌, Option, None, Some, length, set, subst, sym, ℕ}
 use Rattle.std.specs.HashMap.{get}
 use Rattle.bit_merge.specs.Index.{same_key, IsIndexed}
 use Rattle.bit_merge.specs.Slots.{Slots, at}

@@ -1,5 +1,4 @@
-use Rattle.std.proofs.Common.{◌≡◌, ◌<◌, ◌∙◌, Option, None, Some, length, ap, arith, subst, sym}
-use Rattle.std.specs.Prelude.{ℕ, cond, slice_index_or}
+use Rattle.std.proofs.Common.{◌≡◌, ◌<◌, ◌∙◌, Option, None, Some, length, ap, arith, subst, sym, ℕ, cond, slice_index_or}
 use Rattle.std.specs.HashMap.{get}
 use Rattle.bit_merge.specs.Index.{same_key}
 use Rattle.bit_merge.specs.Slots.{Slots, at, IsFirstOfItsWord}

@@ -1,5 +1,4 @@
-use Rattle.std.proofs.Common.{◌≡◌, ◌≤◌, ◌<◌, ◌+◌, ◌∙◌, List, [], length, get_or, drop, take, ap, sym, subst, refl, add-one, arith, rules}
-use Rattle.std.specs.Prelude.{suc, map}
+use Rattle.std.proofs.Common.{◌≡◌, ◌≤◌, ◌<◌, ◌+◌, ◌∙◌, List, [], length, get_or, drop, take, ap, sym, subst, refl, add-one, arith, rules, suc, map}
 use Rattle.std.proofs.lemmas.List.{get_or_default}
 use Rattle.field_boxes.specs.Fields.{stated, greatest_of}
 use Rattle.field_boxes.specs.Spans.{intervals_of}
@@ -15,7 +14,7 @@ use Rattle.box_partition.specs.Output.{PutsUntil}
 use Rattle.box_partition.specs.Rows.{AreRowsOf, group_text, headers_from, rows_text}
 use Rattle.box_partition.proofs.Texts.{count-next}
 use Rattle.box_partition.proofs.Until.{until-is, until-ok, until-next, until-next_cut, until-refused, until-stop}
-use Rattle.box_partition.proofs.Stated.{has_field}
+use Rattle.node_store.proofs.Stated.{has_field}
 use Rattle.box_partition.proofs.Walking as walking
 use Rattle.box_partition.proofs.walk.Walk.+walk.Goals as goal
 
@@ -28,9 +27,8 @@ no_group = record { first = record { lo = 0; hi = 0 }; rest = [] }
 pub parts-invariant_of-spans : goal.parts-invariant_of-spans
 parts-invariant_of-spans g t c =
     let l = c.loop-part in
-    let begins = l.invariant.lo c.loop-part-test.true in
     let ends = walking.part-ends (greatest_of c.args.level) c.args.parts.now c.requires.full l.part-index nothing c.loop-part-test.true in
-    record { ordered = omega (arith, begins, ends.0) }
+    record { ordered = omega (arith, l.invariant.lo c.loop-part-test.true, ends.0) }
 
 pub parts-rows-requires : goal.parts-rows-requires
 parts-rows-requires g t c κs within =
@@ -117,16 +115,14 @@ rows-returns-in_err-rows-clause-rows g t c = λ rows is.
     let split = c.in_ok-parts.ensures in
     let h = walking.groups-of c.args.self.now.store.now c.args.level c.args.left.0 c.args.right.0 rows c.deref.result.now c.in_ok-parts.parts.items (omega (arith, c.requires.level, c.if-level-eq5.false))
     c.requires.left c.same_answers.ensures.same split.split split.left split.right c.deref.ensures.value is in
-    until-is (until-stop c.from_residual-in_err-rows.ensures.1 (c.in_err-rows.ensures.rows h.groups h.paired))
-    (walking.grouped-lines c.args.self.now.store.now (suc c.args.level) rows c.deref.result.now (take c.args.level (intervals_of c.args.spans)) h)
+    until-is (until-stop c.from_residual-in_err-rows.ensures.1 (c.in_err-rows.ensures.rows h.groups h.paired)) (walking.grouped-lines _ _ rows _ _ h)
 
 pub rows-returns-clause-rows : goal.rows-returns-clause-rows
 rows-returns-clause-rows g t c = λ rows is.
     let split = c.in_ok-parts.ensures in
     let h = walking.groups-of c.args.self.now.store.now c.args.level c.args.left.0 c.args.right.0 rows c.deref.result.now c.in_ok-parts.parts.items (omega (arith, c.requires.level, c.if-level-eq5.false))
     c.requires.left c.same_answers.ensures.same split.split split.left split.right c.deref.ensures.value is in
-    until-is (c.in_ok-rows.ensures.rows h.groups h.paired)
-    (walking.grouped-lines c.args.self.now.store.now (suc c.args.level) rows c.deref.result.now (take c.args.level (intervals_of c.args.spans)) h)
+    until-is (c.in_ok-rows.ensures.rows h.groups h.paired) (walking.grouped-lines _ _ rows _ _ h)
 
 pub rows-returns-clause-count : goal.rows-returns-clause-count
 rows-returns-clause-count g t c = λ rows is.

@@ -1,6 +1,4 @@
-use Rattle.std.proofs.Common.{◌≡◌, ◌≤◌, ◌<◌, ◌-◌, ◌*◌, List, length, take}
-use Rattle.std.specs.Prelude.{suc}
-use Rattle.std.specs.List.{flat_map}
+use Rattle.std.proofs.Common.{◌≡◌, ◌≤◌, ◌<◌, ◌-◌, ◌*◌, List, length, take, suc, flat_map}
 use Rattle.field_boxes.specs.Spans.{intervals_of}
 use Rattle.partition_check.specs.Checking.{Statement}
 use Rattle.partition_check.specs.Partition.{Group}

@@ -1,12 +1,8 @@
 use Rattle.std.proofs.Common.{sym, subst}
-use Rattle.node_store.specs.declared.edge.Edge.{Edge}
 use Rattle.node_store.specs.Levels.{HasField}
 use Rattle.node_store.proofs.Canonical.{in_use, not_empty}
-use Rattle.box_query.proofs.Walking.{empty-level, leaf-empty, single-empty}
+use Rattle.box_query.proofs.Walking.{empty-level, leaf-empty, no_edge, single-empty}
 use Rattle.box_query.proofs.walk.Walk.+is_empty.Goals as goal
-
-abbrev no_edge : Edge
-no_edge = record { hi = 0; to = record { 0 = 0 } }
 
 pub returns-then-is_empty : goal.returns-then-is_empty
 returns-then-is_empty t c =

@@ -1,5 +1,4 @@
-use Rattle.std.proofs.Common.{◌≡◌, ◌≤◌, ◌<◌, ◌+◌, ◌^◌, ◌∙◌, ℕ, List, length, get_or, take, ap, sym, subst, arith}
-use Rattle.std.specs.List.{flat_map}
+use Rattle.std.proofs.Common.{◌≡◌, ◌≤◌, ◌<◌, ◌+◌, ◌^◌, ◌∙◌, ℕ, List, length, get_or, take, ap, sym, subst, arith, flat_map}
 use Rattle.std.proofs.lemmas.List.{get_or_default, take_all}
 use Rattle.razor_base.proofs.Writing.{puts-each, puts-is, puts-next, puts-next_cut}
 use Rattle.node_store.specs.declared.edge.Edge.{Edge}
@@ -10,11 +9,8 @@ use Rattle.node_store.proofs.Edges as edges
 use Rattle.box_query.specs.NodeBoxes.{Branch, branch, branches, branch_boxes, front_text, node_boxes}
 use Rattle.box_query.proofs.Few.{few-headers}
 use Rattle.box_query.proofs.Texts.{branch-at, branch-count, front-count, lines-flat, more-count, next-begins}
-use Rattle.box_query.proofs.Walking.{below-text, boxes-by, empty-level, few-sum, puts-ok, top-small}
+use Rattle.box_query.proofs.Walking.{below-text, boxes-by, empty-level, few-sum, no_edge, puts-ok, top-small}
 use Rattle.box_query.proofs.walk.Walk.+walk.Goals as goal
-
-abbrev no_edge : Edge
-no_edge = record { hi = 0; to = record { 0 = 0 } }
 
 abbrev no_branch : Branch
 no_branch = record { first = record { lo = 0; hi = 0 }; to = 0 }

@@ -1,5 +1,4 @@
-use Rattle.std.proofs.Common.{◌≡◌, ◌+◌, ◌*◌, ◌<◌, length, take}
-use Rattle.std.specs.List.{flat_map}
+use Rattle.std.proofs.Common.{◌≡◌, ◌+◌, ◌*◌, ◌<◌, length, take, flat_map}
 use Rattle.razor_base.proofs.Writing.{HasPut}
 use Rattle.box_query.specs.NodeBoxes.{branches, branch_boxes, front_text, node_boxes}
 use Rattle.box_query.proofs.Texts.{begins}

@@ -1,5 +1,4 @@
-use Rattle.std.proofs.Common.{◌≡◌, ◌++◌, map, take}
-use Rattle.std.specs.String.{string_bytes}
+use Rattle.std.proofs.Common.{◌≡◌, ◌++◌, map, take, string_bytes}
 use Rattle.command_words.specs.PlainWords.{plain_seen}
 use Rattle.command_words.proofs.plain.PlainWords.push_all.Given as goal
 

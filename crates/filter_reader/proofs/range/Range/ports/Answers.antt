@@ -1,6 +1,4 @@
-use Rattle.std.proofs.Common.{◌∷◌, [], arith}
-use Rattle.std.specs.Prelude.{nat_lt}
-use Rattle.std.proofs.lemmas.Bool.{le-ltb, lt-ltb}
+use Rattle.std.proofs.Common.{◌∷◌, [], arith, nat_lt, le-ltb, lt-ltb}
 use Rattle.filter_reader.specs.Ports.{union_of}
 use Rattle.filter_reader.proofs.KeptRanges.{alone, one_kept, ranges_above, ranges_reversed, ranges_united}
 use Rattle.filter_reader.proofs.range.Range.ports.Goals as goal

@@ -3,11 +3,8 @@ use Rattle.command_words.specs.Command.{Arrange}
 use Rattle.command_words.specs.Views.{wanted_seen}
 use Rattle.filter_reader.specs.Lists.{filter_list}
 use Rattle.razor_core.specs.Make.{IsOrderOf}
-use Rattle.razor_core.proofs.FieldOrders.{reads_all, room_in}
+use Rattle.razor_core.proofs.FieldOrders.{room_in}
 use Rattle.razor_core.proofs.commands.arrange.arrange_list.Goals as goal
-
-pub compile_in-requires-clause-order : goal.compile_in-requires-clause-order
-compile_in-requires-clause-order c = reads_all c.fields.result.now c.fields.ensures.level c.fields.ensures.order
 
 pub returns-in-Ok-compile_in-clause-room : goal.returns-in-Ok-compile_in-clause-room
 returns-in-Ok-compile_in-clause-room c =

@@ -5,7 +5,8 @@ use Rattle.razor_core.specs.Outside.{seen}
 use Rattle.razor_core.specs.Taking.{table_value_of, value_of}
 use Rattle.razor_core.proofs.CheckEnding.{Checked, check_ends}
 use Rattle.razor_core.proofs.Ended.{ends_later, turn_ends}
-use Rattle.razor_core.proofs.Turns.{keeps_trans, kept, passed_taken, taken_before, taken_later}
+use Rattle.razor_core.proofs.Turns.{kept, passed_taken, taken_before, taken_later}
+use Rattle.std.proofs.KnownBytes.{Keeps-trans}
 use Rattle.razor_core.proofs.commands.check.check_certificate.Goals as goal
 
 pub returns-in-Err-clause-ends : goal.returns-in-Err-clause-ends
@@ -38,7 +39,7 @@ returns-in-Err-take-clause-ends g c =
     (record {
       inputs_are = refl;
       passed = (passed_taken (list_input first) (before.remaining first) (g.D.Desk.remaining between first) (value_of list) c.in-Ok.ensures.turn, tt);
-      kept = (keeps_trans (before.remaining third) (g.D.Desk.remaining between third) (after.remaining third) (c.in-Ok.ensures.others third (λ e. c.args.files.ends (sym e))) (c.in-Err-take.ensures.others third (λ e. c.args.files.back (sym e))), tt);
+      kept = (Keeps-trans (before.remaining third) (g.D.Desk.remaining between third) (after.remaining third) (c.in-Ok.ensures.others third (λ e. c.args.files.ends (sym e))) (c.in-Err-take.ensures.others third (λ e. c.args.files.back (sym e))), tt);
     })
     (record { keeps = still; cut = λ file e. (still, λ tells same. absurd (c.args.files.back (sym e ∙ same))); calm = refl; short = still })
     (ends_later (table_input second) (before.remaining second) (g.D.Desk.remaining between second) (after.remaining second) (before.read_faults second) (g.D.Desk.faults between second) (after.read_faults second) c.in-Err-take.ending
@@ -69,7 +70,7 @@ returns-clause-ends g c =
             (taken_later (table_input second) (start second) (one second) (two second) (table_value_of table) (c.in-Ok.ensures.others second (λ e. c.args.files.front (sym e))) c.in-Ok-take.ensures.turn)
             (c.check_rows.ensures.others second c.args.files.back);
       };
-      kept = keeps_trans (start third) (one third) (two third) (c.in-Ok.ensures.others third (λ e. c.args.files.ends (sym e))) (c.in-Ok-take.ensures.others third (λ e. c.args.files.back (sym e)));
+      kept = Keeps-trans (start third) (one third) (two third) (c.in-Ok.ensures.others third (λ e. c.args.files.ends (sym e))) (c.in-Ok-take.ensures.others third (λ e. c.args.files.back (sym e)));
       counts = omega (arith, counted, counted_later);
     } in
     check_ends first second third before after list table two faults checked c.equal_lists_have_one_verdict.ensures c.check_rows.result c.check_rows.ensures.ends

@@ -17,7 +17,8 @@ use Rattle.razor_core.specs.Ending.{Ends}
 use Rattle.razor_core.proofs.DriveEnding.{Driven, drive_ends}
 use Rattle.razor_core.proofs.Ended.{turn_ends}
 use Rattle.razor_core.proofs.Tables.{NoneOf, all_fail_later, all_stay, all_taken_later, among_ends, first_text, later_words, none_later, none_of_inputs, stay_kept, taken_length, texts, words_parted}
-use Rattle.razor_core.proofs.Turns.{keeps_trans, kept, passed_taken, taken_before}
+use Rattle.razor_core.proofs.Turns.{kept, passed_taken, taken_before}
+use Rattle.std.proofs.KnownBytes.{Keeps-trans}
 use Rattle.razor_core.proofs.commands.drive.run_script.Goals as goal
 
 pub returns-in-Err-clause-ends : goal.returns-in-Err-clause-ends
@@ -72,7 +73,7 @@ returns-in-Err-take_tables-clause-others g c =
     let slots = c.args.slots.count in
     let seen_is = words_parted words c.in-len1-up.len_at_least in
     subst (λ (ws : List (List ℕ)). (other : List ℕ) → NoneOf other (inputs (driving slots ws)) → Keeps (g.D.Desk.remaining c.args.desk.now other) (g.D.Desk.remaining c.take_tables.new.desk other)) (sym seen_is)
-    (λ other none. keeps_trans (g.D.Desk.remaining c.args.desk.now other) (g.D.Desk.remaining c.take.new.desk other) (g.D.Desk.remaining c.take_tables.new.desk other) (c.in-Ok.ensures.others other none.0)
+    (λ other none. Keeps-trans (g.D.Desk.remaining c.args.desk.now other) (g.D.Desk.remaining c.take.new.desk other) (g.D.Desk.remaining c.take_tables.new.desk other) (c.in-Ok.ensures.others other none.0)
     (c.take_tables.ensures.others other (none_of_inputs other files none.1)))
 
 pub returns-in-Err-new-clause-others : goal.returns-in-Err-new-clause-others
@@ -82,7 +83,7 @@ returns-in-Err-new-clause-others g c =
     let slots = c.args.slots.count in
     let seen_is = words_parted words c.in-len1-up.len_at_least in
     subst (λ (ws : List (List ℕ)). (other : List ℕ) → NoneOf other (inputs (driving slots ws)) → Keeps (g.D.Desk.remaining c.args.desk.now other) (g.D.Desk.remaining c.take_tables.new.desk other)) (sym seen_is)
-    (λ other none. keeps_trans (g.D.Desk.remaining c.args.desk.now other) (g.D.Desk.remaining c.take.new.desk other) (g.D.Desk.remaining c.take_tables.new.desk other) (c.in-Ok.ensures.others other none.0)
+    (λ other none. Keeps-trans (g.D.Desk.remaining c.args.desk.now other) (g.D.Desk.remaining c.take.new.desk other) (g.D.Desk.remaining c.take_tables.new.desk other) (c.in-Ok.ensures.others other none.0)
     (c.take_tables.ensures.others other (none_of_inputs other files none.1)))
 
 pub drive_on-ended-requires : goal.drive_on-ended-requires
@@ -136,5 +137,5 @@ returns-clause-others g c =
     let slots = c.args.slots.count in
     let seen_is = words_parted words c.in-len1-up.len_at_least in
     subst (λ (ws : List (List ℕ)). (other : List ℕ) → NoneOf other (inputs (driving slots ws)) → Keeps (g.D.Desk.remaining c.args.desk.now other) (g.D.Desk.remaining c.take_tables.new.desk other)) (sym seen_is)
-    (λ other none. keeps_trans (g.D.Desk.remaining c.args.desk.now other) (g.D.Desk.remaining c.take.new.desk other) (g.D.Desk.remaining c.take_tables.new.desk other) (c.in-Ok.ensures.others other none.0)
+    (λ other none. Keeps-trans (g.D.Desk.remaining c.args.desk.now other) (g.D.Desk.remaining c.take.new.desk other) (g.D.Desk.remaining c.take_tables.new.desk other) (c.in-Ok.ensures.others other none.0)
     (c.take_tables.ensures.others other (none_of_inputs other files none.1)))

@@ -11,4 +11,4 @@ returns-in-Differ g c =
     let is = rw c.in-Differ.is at c.requires in
     let left = source stated header (filter_list c.args.left.now).rules in
     let right = source stated header (filter_list c.args.right.now).rules in
-    rw c.in-Differ.is (c.write_difference.ensures left right (c.name.ensures ∙ ap text_of is.left_decision.name) (c.name-in-Differ.ensures ∙ ap text_of is.right_decision.name))
+    rw c.in-Differ.is (c.write_difference.ensures left right (c.name.ensures ∙ ap text_of is.left_number.is) (c.name-in-Differ.ensures ∙ ap text_of is.right_number.is))

@@ -49,27 +49,17 @@ of_rows-loop-row-init t c =
 pub of_rows-of_node-requires : goal.of_rows-of_node-requires
 of_rows-of_node-requires t c =
     let l = c.loop-row in
-    let nodes = c.args.store.now in
-    let lists = rows_at c.args.plans.now.lists.items in
+    let plans = c.args.plans.now in
+    let level = c.args.level.now in
     let d : Row = record { prefix = record { value = 0; len = 0 }; to = record { 0 = 0 } } in
-    let r = slice_index_or c.rows-rows.result.now l.row-index d in
-    let below = below_of nodes c.args.plans.now c.args.level.now c.args.id.0 c.rows-rows.result.now l.row-index d c.same_answers.ensures.store c.requires.within c.requires.at c.requires.lists c.requires.planned c.rows-rows.ensures c.loop-row-test.true in
-    let tail = sym c.after-below.ensures in (
-      omega (arith, c.decreases, one_less c.args.level.now c.requires.within, ap length c.after-below.ensures),
-      (
-        l.invariant.blocks.blocks,
-        (
-          l.invariant.known,
-          (
-            subst IsLevel tail (is_next c.args.level.now c.requires.within),
-            (
-              subst (λ k. level_of nodes r.to.0 ≡ k) tail below.at,
-              (subst (λ k. HaveLists nodes lists k r.to.0) tail below.have, subst (λ k. HasPlans c.args.plans.now k r.to.0) tail below.planned),
-            ),
-          ),
-        ),
-      ),
-    )
+    let node = (slice_index_or c.rows-rows.result.now l.row-index d).to.0 in
+    let below = below_of c.args.store.now plans level c.args.id.0 c.rows-rows.result.now l.row-index d c.same_answers.ensures.store c.requires.within c.requires.at c.requires.lists c.requires.planned c.rows-rows.ensures c.loop-row-test.true in
+    let tail = sym c.after-below.ensures in
+    let at = subst (λ k. level_of c.args.store.now node ≡ k) tail below.at in
+    let have = subst (λ k. HaveLists c.args.store.now (rows_at plans.lists.items) k node) tail below.have in
+    let planned = subst (λ k. HasPlans plans k node) tail below.planned in
+    let falls = one_less level c.requires.within in
+    (omega (arith, c.decreases, falls, ap length c.after-below.ensures), (l.invariant.blocks.blocks, (l.invariant.known, (subst IsLevel tail (is_next level c.requires.within), (at, (have, planned))))))
 
 pub of_rows-span-span-requires : goal.of_rows-span-span-requires
 of_rows-span-span-requires t c =

@@ -1,4 +1,4 @@
-use Rattle.std.proofs.Common.{◌≡◌, ◌∷◌, ◌++◌, [], ap, arith, refl, sym, ◌∙◌, subst, take, length}
+use Rattle.std.proofs.Common.{◌≡◌, ◌<◌, ◌∷◌, ◌++◌, [], ap, arith, refl, sym, ◌∙◌, subst, take, length}
 use Rattle.std.specs.HashMap.{get}
 use Rattle.std.specs.Prelude.{All, Some, map, IfSome}
 use Rattle.std.proofs.lemmas.Option.{slice_get-get_or}
@@ -30,43 +30,22 @@ sift-last-requires t c =
 
 pub sift-sift_layer-requires : goal.sift-sift_layer-requires
 sift-sift_layer-requires t c =
-    let covers = c.args.self.now.covers.items in
     let e = sym c.cover.ensures in
-    let f = c.requires.blocks.fits c.args.number (Layer c.in-Layer.runs) (c.block.ensures.found ∙ ap Some c.in-Layer.is) in (
-      omega (arith, c.decreases),
-      (
-        c.requires.blocks,
-        (
-          c.requires.memo,
-          (
-            subst (λ (r : Cover). HasField r.level.now) e f.0,
-            (
-              c.requires.number,
-              (
-                subst (All (FitsRun covers c.args.number c.cover.result.level.now)) (sym c.as_slice.ensures.value) (subst (λ (r : Cover). All (FitsRun covers c.args.number r.level.now) c.in-Layer.runs.items) e f.1),
-                (subst RiseApart (sym c.as_slice.ensures.value) f.2, subst (λ (r : Cover). AreContexts c.args.sets.now r.level.now c.args.contexts.now) e c.requires.contexts),
-              ),
-            ),
-          ),
-        ),
-      ),
-    )
+    let s = sym c.as_slice.ensures.value in
+    let f = c.requires.blocks.fits c.args.number (Layer c.in-Layer.runs) (c.block.ensures.found ∙ ap Some c.in-Layer.is) in
+    let has = subst (λ (r : Cover). HasField r.level.now) e f.0 in
+    let Fit = λ (r : Cover). All (FitsRun c.args.self.now.covers.items c.args.number r.level.now) in
+    let fit = subst (Fit c.cover.result) s (subst (λ (r : Cover). Fit r c.in-Layer.runs.items) e f.1) in
+    let contexts = subst (λ (r : Cover). AreContexts c.args.sets.now r.level.now c.args.contexts.now) e c.requires.contexts in
+    (omega (arith, c.decreases), (c.requires.blocks, (c.requires.memo, (has, (c.requires.number, (fit, (subst RiseApart s f.2, contexts)))))))
 
 pub sift-sift_two-requires : goal.sift-sift_two-requires
 sift-sift_two-requires t c =
-    let f = c.requires.blocks.fits c.args.number (Two c.in-Two.first c.in-Two.second) (c.block.ensures.found ∙ ap Some c.in-Two.is) in (
-      omega (arith, c.decreases, f.0, f.1),
-      (
-        c.requires.blocks,
-        (
-          c.requires.memo,
-          (
-            omega (arith, f.0, c.requires.number),
-            (omega (arith, f.1, c.requires.number), (f.3 ∙ sym f.2, subst (λ l. AreContexts c.args.sets.now l c.args.contexts.now) (sym f.2) c.requires.contexts)),
-          ),
-        ),
-      ),
-    )
+    let f = c.requires.blocks.fits c.args.number (Two c.in-Two.first c.in-Two.second) (c.block.ensures.found ∙ ap Some c.in-Two.is) in
+    let first : c.in-Two.first < length c.args.self.now.blocks.items = omega (arith, f.0, c.requires.number) in
+    let second : c.in-Two.second < length c.args.self.now.blocks.items = omega (arith, f.1, c.requires.number) in
+    let contexts = subst (λ l. AreContexts c.args.sets.now l c.args.contexts.now) (sym f.2) c.requires.contexts in
+    (omega (arith, c.decreases, f.0, f.1), (c.requires.blocks, (c.requires.memo, (first, (second, (f.3 ∙ sym f.2, contexts))))))
 
 pub sift-returns-in_ok-sifted-in-Last-clause-sifted : goal.sift-returns-in_ok-sifted-in-Last-clause-sifted
 sift-returns-in_ok-sifted-in-Last-clause-sifted t c =
@@ -109,22 +88,10 @@ sift_layer-sift_run-requires t c =
     let i = c.loop-run.invariant in
     let covers = c.args.self.now.covers.items in
     let fit = subst (FitsRun covers c.args.number c.args.level.now) (sym c.run-item.is) (c.requires.fit c.loop-run.run-index c.run-item.result (omega (arith, c.loop-run-test.true))) in
-    let older = fit.older in (
-      omega (arith, c.decreases, older),
-      (
-        blocks_stay c.args.sets.now c.loop-run.sets c.args.self.now.blocks.items covers i.grows c.requires.blocks,
-        (
-          i.memo,
-          (
-            c.requires.level,
-            (
-              omega (arith, older, c.requires.number),
-              (fit.level, (fit.inside, pairs-stay c.args.sets.now c.loop-run.sets c.args.level.now c.args.contexts.now (is_level c.args.level.now c.requires.level) i.grows c.requires.contexts)),
-            ),
-          ),
-        ),
-      ),
-    )
+    let older = fit.older in
+    let blocks = blocks_stay c.args.sets.now c.loop-run.sets c.args.self.now.blocks.items covers i.grows c.requires.blocks in
+    let contexts = pairs-stay c.args.sets.now c.loop-run.sets c.args.level.now c.args.contexts.now (is_level c.args.level.now c.requires.level) i.grows c.requires.contexts in
+    (omega (arith, c.decreases, older), (blocks, (i.memo, (c.requires.level, (omega (arith, older, c.requires.number), (fit.level, (fit.inside, contexts)))))))
 
 pub sift_layer-loop-run-preserved : goal.sift_layer-loop-run-preserved
 sift_layer-loop-run-preserved t c =
@@ -141,25 +108,19 @@ sift_layer-loop-run-preserved t c =
           (apart_front rows runs k r c.requires.apart found) i.draft);
     }
 
-pub sift_layer-finished-requires-clause-contexts : goal.sift_layer-finished-requires-clause-contexts
-sift_layer-finished-requires-clause-contexts t c =
-    pairs-stay c.args.sets.now c.loop-run.sets c.args.level.now c.args.contexts.now (is_level c.args.level.now c.requires.level) c.loop-run.invariant.grows c.requires.contexts
-
-pub sift_layer-finished-requires-clause-changes : goal.sift_layer-finished-requires-clause-changes
-sift_layer-finished-requires-clause-changes t c =
+pub sift_layer-finished-requires : goal.sift_layer-finished-requires
+sift_layer-finished-requires t c =
     let rows = rows_of c.args.self.now.blocks.items in
     let runs = c.args.runs.now in
-    let full = draft_full rows runs c.loop-run.run-index c.args.sets.now c.loop-run.sets c.args.level.now c.args.contexts.now c.loop-run.draft (omega arith) c.loop-run.invariant.draft in
-    changes_now c.args.sets.now c.loop-run.sets c.args.level.now c.args.contexts.now c.as_slice.result.now (rows_of_runs (map (run_by rows) runs)) c.loop-run.draft (end_of 0 (map (run_by rows) runs))
-    (end_inside c.args.self.now.covers.items c.args.number c.args.level.now 0 rows runs (omega arith) c.requires.fit) (sym c.as_slice.ensures.value) full
-
-pub sift_layer-finished-requires-clause-numbers : goal.sift_layer-finished-requires-clause-numbers
-sift_layer-finished-requires-clause-numbers t c =
-    let rows = rows_of c.args.self.now.blocks.items in
-    let runs = c.args.runs.now in
-    let full = draft_full rows runs c.loop-run.run-index c.args.sets.now c.loop-run.sets c.args.level.now c.args.contexts.now c.loop-run.draft (omega arith) c.loop-run.invariant.draft in
-    numbers_now c.args.sets.now c.loop-run.sets c.args.level.now c.args.contexts.now c.as_slice.result.now (rows_of_runs (map (run_by rows) runs)) c.loop-run.draft (end_of 0 (map (run_by rows) runs))
-    c.requires.level c.loop-run.invariant.grows c.requires.contexts (sym c.as_slice.ensures.value) full
+    let seen = sym c.as_slice.ensures.value in
+    let full = draft_full rows runs c.loop-run.run-index c.args.sets.now c.loop-run.sets c.args.level.now c.args.contexts.now c.loop-run.draft (omega arith) c.loop-run.invariant.draft in record {
+      level = c.requires.level;
+      contexts = pairs-stay c.args.sets.now c.loop-run.sets c.args.level.now c.args.contexts.now (is_level c.args.level.now c.requires.level) c.loop-run.invariant.grows c.requires.contexts;
+      changes = changes_now c.args.sets.now c.loop-run.sets c.args.level.now c.args.contexts.now c.as_slice.result.now (rows_of_runs (map (run_by rows) runs)) c.loop-run.draft (end_of 0 (map (run_by rows) runs))
+          (end_inside c.args.self.now.covers.items c.args.number c.args.level.now 0 rows runs (omega arith) c.requires.fit) seen full;
+      numbers = numbers_now c.args.sets.now c.loop-run.sets c.args.level.now c.args.contexts.now c.as_slice.result.now (rows_of_runs (map (run_by rows) runs)) c.loop-run.draft (end_of 0 (map (run_by rows) runs))
+          c.requires.level c.loop-run.invariant.grows c.requires.contexts seen full;
+    }
 
 pub sift_layer-returns-clause-sifted : goal.sift_layer-returns-clause-sifted
 sift_layer-returns-clause-sifted t c =
@@ -175,32 +136,20 @@ sift_layer-returns-clause-memo t c =
     memo_stays c.loop-run.sets c.finished.new.sets c.args.self.now (λ q. get same_asked c.loop-run.memo.done q) c.in_ok-after.ensures.grows c.loop-run.invariant.memo
 
 pub sift_run-sift-requires : goal.sift_run-sift-requires
-sift_run-sift-requires t c = (
-  omega (arith, c.decreases),
-  (
-    c.requires.blocks,
-    (
-      c.requires.memo,
-      (
-        c.requires.block,
-        keys_pairs c.args.sets.now c.args.level.now (cover_at c.args.self.now.covers.items c.args.run.block).level.now c.args.run.span c.args.contexts.now c.in_ok-below.below.pairs.items c.as_slice.result.now
-            c.in_ok-distinct.distinct.pairs.items c.as_slice-2.result.now c.in_ok-below.below.stretches.items c.in_ok-distinct.distinct.places.items c.is_store.ensures c.requires.level c.requires.next c.requires.contexts
-            c.requires.inside c.in_ok-below.ensures c.as_slice.ensures c.in_ok-distinct.ensures c.as_slice-2.ensures,
-      ),
-    ),
-  ),
-)
+sift_run-sift-requires t c =
+    let contexts = keys_pairs c.args.sets.now c.args.level.now (cover_at c.args.self.now.covers.items c.args.run.block).level.now c.args.run.span c.args.contexts.now c.in_ok-below.below.pairs.items c.as_slice.result.now
+    c.in_ok-distinct.distinct.pairs.items c.as_slice-2.result.now c.in_ok-below.below.stretches.items c.in_ok-distinct.distinct.places.items c.is_store.ensures c.requires.level c.requires.next c.requires.contexts
+    c.requires.inside c.in_ok-below.ensures c.as_slice.ensures c.in_ok-distinct.ensures c.as_slice-2.ensures in
+    (omega (arith, c.decreases), (c.requires.blocks, (c.requires.memo, (c.requires.block, contexts))))
 
-pub sift_run-take_in-requires-clause-stretches : goal.sift_run-take_in-requires-clause-stretches
-sift_run-take_in-requires-clause-stretches t c =
-    lists_room c.args.sets.now c.args.run.span c.args.contexts.now c.in_ok-below.below.pairs.items c.as_slice.result.now c.in_ok-distinct.distinct.pairs.items c.in_ok-below.below.stretches.items c.as_slice-stretches.result.now
-    c.in_ok-distinct.distinct.places.items c.as_slice-in-Some.result.now c.as_slice.ensures c.as_slice-stretches.ensures c.as_slice-in-Some.ensures c.in_ok-below.ensures c.in_ok-distinct.ensures
-
-pub sift_run-take_in-requires-clause-places : goal.sift_run-take_in-requires-clause-places
-sift_run-take_in-requires-clause-places t c =
-    let found = subst (λ k. IfSome k (λ s. IsAnswered c.args.sets.now c.args.self.now c.args.run.block c.in_ok-distinct.distinct.pairs.items s.now)) c.in-Some.is (c.get.ensures c.args.sets.now c.args.self.now c.requires.memo) in
-    answers_room c.args.sets.now (cover_at c.args.self.now.covers.items c.args.run.block).level.now (rows_of c.args.self.now.blocks.items c.args.run.block) c.as_slice.result.now c.in_ok-distinct.distinct.pairs.items
-    c.in_ok-distinct.distinct.pairs.items c.in_ok-distinct.distinct.places.items c.as_slice-in-Some.result.now c.in-Some.known.now refl c.as_slice-in-Some.ensures c.in_ok-distinct.ensures found.sifted
+pub sift_run-take_in-requires : goal.sift_run-take_in-requires
+sift_run-take_in-requires t c =
+    let found = subst (λ k. IfSome k (λ s. IsAnswered c.args.sets.now c.args.self.now c.args.run.block c.in_ok-distinct.distinct.pairs.items s.now)) c.in-Some.is (c.get.ensures c.args.sets.now c.args.self.now c.requires.memo) in record {
+      stretches = lists_room c.args.sets.now c.args.run.span c.args.contexts.now c.in_ok-below.below.pairs.items c.as_slice.result.now c.in_ok-distinct.distinct.pairs.items c.in_ok-below.below.stretches.items c.as_slice-stretches.result.now
+          c.in_ok-distinct.distinct.places.items c.as_slice-in-Some.result.now c.as_slice.ensures c.as_slice-stretches.ensures c.as_slice-in-Some.ensures c.in_ok-below.ensures c.in_ok-distinct.ensures;
+      places = answers_room c.args.sets.now (cover_at c.args.self.now.covers.items c.args.run.block).level.now (rows_of c.args.self.now.blocks.items c.args.run.block) c.as_slice.result.now c.in_ok-distinct.distinct.pairs.items
+          c.in_ok-distinct.distinct.pairs.items c.in_ok-distinct.distinct.places.items c.as_slice-in-Some.result.now c.in-Some.known.now refl c.as_slice-in-Some.ensures c.in_ok-distinct.ensures found.sifted;
+    }
 
 pub sift_run-returns-in-Some-clause-draft : goal.sift_run-returns-in-Some-clause-draft
 sift_run-returns-in-Some-clause-draft t c = λ base rows next above apart draft.
@@ -213,15 +162,13 @@ sift_run-returns-in-Some-clause-draft t c = λ base rows next above apart draft.
     c.as_slice-in-Some.ensures c.requires.level (stays c.args.sets.now) c.requires.contexts c.requires.inside c.in_ok-below.ensures c.in_ok-distinct.ensures found.sifted above apart draft taken)
     c.take_in.ensures
 
-pub sift_run-take_in-requires-2-clause-stretches : goal.sift_run-take_in-requires-2-clause-stretches
-sift_run-take_in-requires-2-clause-stretches t c =
-    lists_room c.args.sets.now c.args.run.span c.args.contexts.now c.in_ok-below.below.pairs.items c.as_slice.result.now c.in_ok-distinct.distinct.pairs.items c.in_ok-below.below.stretches.items c.as_slice-stretches.result.now
-    c.in_ok-distinct.distinct.places.items c.as_slice-3.result.now c.as_slice.ensures c.as_slice-stretches.ensures c.as_slice-3.ensures c.in_ok-below.ensures c.in_ok-distinct.ensures
-
-pub sift_run-take_in-requires-2-clause-places : goal.sift_run-take_in-requires-2-clause-places
-sift_run-take_in-requires-2-clause-places t c =
-    answers_room c.sift.new.sets (cover_at c.args.self.now.covers.items c.args.run.block).level.now (rows_of c.args.self.now.blocks.items c.args.run.block) c.as_slice.result.now c.in_ok-distinct.distinct.pairs.items
-    c.as_slice-2.result.now c.in_ok-distinct.distinct.places.items c.as_slice-3.result.now c.in_ok-inner.inner c.as_slice-2.ensures c.as_slice-3.ensures c.in_ok-distinct.ensures c.in_ok-inner.ensures.sifted
+pub sift_run-take_in-requires-2 : goal.sift_run-take_in-requires-2
+sift_run-take_in-requires-2 t c = record {
+  stretches = lists_room c.args.sets.now c.args.run.span c.args.contexts.now c.in_ok-below.below.pairs.items c.as_slice.result.now c.in_ok-distinct.distinct.pairs.items c.in_ok-below.below.stretches.items c.as_slice-stretches.result.now
+      c.in_ok-distinct.distinct.places.items c.as_slice-3.result.now c.as_slice.ensures c.as_slice-stretches.ensures c.as_slice-3.ensures c.in_ok-below.ensures c.in_ok-distinct.ensures;
+  places = answers_room c.sift.new.sets (cover_at c.args.self.now.covers.items c.args.run.block).level.now (rows_of c.args.self.now.blocks.items c.args.run.block) c.as_slice.result.now c.in_ok-distinct.distinct.pairs.items
+      c.as_slice-2.result.now c.in_ok-distinct.distinct.places.items c.as_slice-3.result.now c.in_ok-inner.inner c.as_slice-2.ensures c.as_slice-3.ensures c.in_ok-distinct.ensures c.in_ok-inner.ensures.sifted;
+}
 
 pub sift_run-returns-clause-draft : goal.sift_run-returns-clause-draft
 sift_run-returns-clause-draft t c = λ base rows next above apart draft.
@@ -248,33 +195,24 @@ sift_run-returns-clause-memo t c =
       sifted = subst (λ ps. IsSifted c.sift.new.sets level rows ps c.in_ok-inner.inner) c.as_slice-2.ensures c.in_ok-inner.ensures.sifted;
     })
 
-pub sift_two-behind_cover-requires-clause-within : goal.sift_two-behind_cover-requires-clause-within
-sift_two-behind_cover-requires-clause-within t c = subst (λ (r : Cover). IsLevel r.level.now) (sym c.cover.ensures) (c.requires.blocks.covered c.args.first c.requires.first).within
-
-pub sift_two-behind_cover-requires-clause-cover : goal.sift_two-behind_cover-requires-clause-cover
-sift_two-behind_cover-requires-clause-cover t c =
-    subst (λ (r : Cover). level_of c.args.sets.now r.set.0 ≡ r.level.now) (sym c.cover.ensures) (c.requires.blocks.covered c.args.first c.requires.first).level
-
-pub sift_two-behind_cover-requires-clause-contexts : goal.sift_two-behind_cover-requires-clause-contexts
-sift_two-behind_cover-requires-clause-contexts t c = subst (λ (r : Cover). AreContexts c.args.sets.now r.level.now c.args.contexts.now) (sym c.cover.ensures) c.requires.contexts
+pub sift_two-behind_cover-requires : goal.sift_two-behind_cover-requires
+sift_two-behind_cover-requires t c =
+    let e = sym c.cover.ensures in
+    let covered = c.requires.blocks.covered c.args.first c.requires.first in record {
+      within = subst (λ (r : Cover). IsLevel r.level.now) e covered.within;
+      cover = subst (λ (r : Cover). level_of c.args.sets.now r.set.0 ≡ r.level.now) e covered.level;
+      contexts = subst (λ (r : Cover). AreContexts c.args.sets.now r.level.now c.args.contexts.now) e c.requires.contexts;
+    }
 
 pub sift_two-sift-requires : goal.sift_two-sift-requires
 sift_two-sift-requires t c =
     let nodes = c.behind_cover.new.sets in
-    let g = c.in_ok-behind.ensures.grows in (
-      omega (arith, c.decreases),
-      (
-        blocks_stay c.args.sets.now nodes c.args.self.now.blocks.items c.args.self.now.covers.items g c.requires.blocks,
-        (
-          memo_stays c.args.sets.now nodes c.args.self.now (λ q. get same_asked c.args.memo.now.done q) g c.requires.memo,
-          (
-            c.requires.second,
-            subst (AreContexts nodes (cover_at c.args.self.now.covers.items c.args.second).level.now) (sym c.as_slice.ensures)
-                (subst (λ l. AreContexts nodes l c.in_ok-behind.behind.items) (ap (λ (r : Cover). r.level.now) c.cover.ensures ∙ sym c.requires.level) c.in_ok-behind.ensures.level),
-          ),
-        ),
-      ),
-    )
+    let covers = c.args.self.now.covers.items in
+    let behind = c.in_ok-behind.ensures in
+    let blocks = blocks_stay c.args.sets.now nodes c.args.self.now.blocks.items covers behind.grows c.requires.blocks in
+    let memo = memo_stays c.args.sets.now nodes c.args.self.now (λ q. get same_asked c.args.memo.now.done q) behind.grows c.requires.memo in
+    let contexts = subst (λ l. AreContexts nodes l c.in_ok-behind.behind.items) (ap (λ (r : Cover). r.level.now) c.cover.ensures ∙ sym c.requires.level) behind.level in
+    (omega (arith, c.decreases), (blocks, (memo, (c.requires.second, subst (AreContexts nodes (cover_at covers c.args.second).level.now) (sym c.as_slice.ensures) contexts))))
 
 pub sift_two-before_answers-requires : goal.sift_two-before_answers-requires
 sift_two-before_answers-requires t c =
@@ -284,23 +222,13 @@ pub sift_two-sift-requires-2 : goal.sift_two-sift-requires-2
 sift_two-sift-requires-2 t c =
     let nodes = c.sift.new.sets in
     let covers = c.args.self.now.covers.items in
-    let g = twice c.args.sets.now c.behind_cover.new.sets nodes c.in_ok-behind.ensures.grows c.in_ok-later.ensures.grows in
-    let five = (c.requires.blocks.covered c.args.first c.requires.first).within in (
-      omega (arith, c.decreases),
-      (
-        blocks_stay c.args.sets.now nodes c.args.self.now.blocks.items covers g c.requires.blocks,
-        (
-          c.in_ok-later.ensures.memo,
-          (
-            c.requires.first,
-            before_pairs c.args.sets.now nodes (cover_at covers c.args.first).level.now (cover_at covers c.args.second).level.now c.args.contexts.now c.in_ok-before.before.items c.as_slice-3.result.now c.as_slice-2.result.now
-                c.in_ok-later.later five g c.requires.contexts c.requires.level c.in_ok-later.ensures.sifted.numbers
-                (c.in_ok-later.ensures.sifted.count ∙ ap (λ ps. length ps) c.as_slice.ensures ∙ c.in_ok-behind.ensures.count) c.as_slice-2.ensures.value c.in_ok-before.ensures.count c.in_ok-before.ensures.after
-                c.in_ok-before.ensures.met c.as_slice-3.ensures,
-          ),
-        ),
-      ),
-    )
+    let later = c.in_ok-later.ensures in
+    let before = c.in_ok-before.ensures in
+    let g = twice c.args.sets.now c.behind_cover.new.sets nodes c.in_ok-behind.ensures.grows later.grows in
+    let count = later.sifted.count ∙ ap (λ ps. length ps) c.as_slice.ensures ∙ c.in_ok-behind.ensures.count in
+    let contexts = before_pairs c.args.sets.now nodes (cover_at covers c.args.first).level.now (cover_at covers c.args.second).level.now c.args.contexts.now c.in_ok-before.before.items c.as_slice-3.result.now c.as_slice-2.result.now
+    c.in_ok-later.later (c.requires.blocks.covered c.args.first c.requires.first).within g c.requires.contexts c.requires.level later.sifted.numbers count c.as_slice-2.ensures.value before.count before.after before.met c.as_slice-3.ensures in
+    (omega (arith, c.decreases), (blocks_stay c.args.sets.now nodes c.args.self.now.blocks.items covers g c.requires.blocks, (later.memo, (c.requires.first, contexts))))
 
 pub sift_two-returns-clause-sifted : goal.sift_two-returns-clause-sifted
 sift_two-returns-clause-sifted t c =

@@ -2,7 +2,11 @@ use Rattle.std.proofs.lemmas.Result.{IfOk-weaker}
 use Rattle.table_compose.specs.Rows.{rows_at}
 use Rattle.redundancy.specs.NodeRows.{node_rows}
 use Rattle.redundancy.proofs.Removals.{removal_built}
+use Rattle.node_store.proofs.Orders.{order_level}
 use Rattle.redundancy.proofs.removal.Removal.block.Goals as goal
+
+pub of_node-requires-clause-within : goal.of_node-requires-clause-within
+of_node-requires-clause-within c = order_level c.args.order.now c.requires.order
 
 pub of_node-requires-clause-known : goal.of_node-requires-clause-known
 of_node-requires-clause-known c = c.in_ok-make_room.ensures c.args.store.now c.args.plans.now c.args.self.now.blocks c.requires.removal.known

@@ -1,4 +1,5 @@
 use Rattle.std.proofs.Common.{◌∙◌, arith, subst, sym}
+use Rattle.node_store.proofs.Orders.{order_level}
 use Rattle.table_compose.specs.Diagrams.{IsCostOf}
 use Rattle.table_compose.specs.Composed.{IsAnswer}
 use Rattle.ternary_words.specs.Prefixes.{IsPrefixInEach}
@@ -42,9 +43,12 @@ returns-clause-prefixes c =
     let kept = c.in_ok-entries.entries.items in
     all_of_part (λ e. IsPrefixInEach (word_of e.word)) kept k.all (c.one_pass.ensures.part k.all kept k.pass) (table_prefixes c.args.store.now c.args.order.now c.args.root.0 k.all k.composed)
 
+pub learn-requires-clause-order : goal.learn-requires-clause-order
+learn-requires-clause-order c = order_level c.args.order.now c.requires.order
+
 pub entries-requires-clause-planned : goal.entries-requires-clause-planned
 entries-requires-clause-planned c =
-    has_plans c.args.store.now c.learn.new.self c.args.order.now c.args.root.0 c.same_answers.ensures.store c.in_ok-learn.ensures.plans c.requires.order.level c.requires.root c.in_ok-learn.ensures.known
+    has_plans c.args.store.now c.learn.new.self c.args.order.now c.args.root.0 c.same_answers.ensures.store c.in_ok-learn.ensures.plans (order_level c.args.order.now c.requires.order) c.requires.root c.in_ok-learn.ensures.known
 
 pub entries-requires-clause-removal : goal.entries-requires-clause-removal
 entries-requires-clause-removal c = removal_learnt c.args.store.now c.args.plans.now c.learn.new.self c.args.self.now c.in_ok-learn.ensures.earlier c.requires.removal

@@ -1,6 +1,10 @@
 use Rattle.table_compose.specs.Rows.{rows_at}
 use Rattle.redundancy.proofs.Tight.{kept_of}
+use Rattle.node_store.proofs.Orders.{order_level}
 use Rattle.redundancy.proofs.removal.Removal.entries.Goals as goal
+
+pub add_kept-requires-clause-level : goal.add_kept-requires-clause-level
+add_kept-requires-clause-level c = order_level c.args.order.now c.requires.order
 
 pub returns-clause-kept : goal.returns-clause-kept
 returns-clause-kept c =

@@ -1,28 +1,21 @@
-use Rattle.std.proofs.Common.{◌≡◌, ◌<◌, ◌+◌, ◌∙◌, ◌∷◌, ◌++◌, ℕ, List, [], false, Some, length, get_or, drop, take, set, ap, sym, subst, refl, arith, rules}
-use Rattle.std.specs.Prelude.{suc, unwrap_or}
+use Rattle.std.proofs.Common.{◌≡◌, ◌<◌, ◌+◌, ◌∙◌, ◌∷◌, ◌++◌, ℕ, List, [], false, Some, length, get_or, drop, take, set, ap, sym, subst, refl, arith, rules, suc, unwrap_or}
 use Rattle.std.proofs.lemmas.Option.{slice_get-get_or}
+use Rattle.std.proofs.lemmas.List.{length-take-le, take_all, take_more_set}
 use Rattle.field_boxes.specs.Fields.{stated, greatest_of}
 use Rattle.node_store.specs.declared.edge.Edge.{Edge}
-use Rattle.node_store.specs.Diagram.{Node, level_of}
 use Rattle.node_store.specs.Edges.{AreFull, child_of}
-use Rattle.node_store.specs.Levels.{HasField, IsLevel, next, top_of}
-use Rattle.node_store.proofs.Canonical.{within}
+use Rattle.node_store.specs.Levels.{HasField, next, top_of}
+use Rattle.rule_audit.proofs.Rows.{used}
 use Rattle.rule_audit.specs.Meeting.{AreMet, Before, LeadsTo, UpTo, next_shown, state_after}
 use Rattle.rule_audit.proofs.EdgesLeft.{RiseFrom, all_left, next_edge, none_left}
-use Rattle.rule_audit.proofs.Fronts.{all_taken, long, one_more}
 use Rattle.rule_audit.proofs.Meetings as meetings
-use Rattle.rule_audit.proofs.Stated.{field_few, has_field, header_is, is_level, next_is, top_is}
+use Rattle.rule_audit.proofs.Stated.{header_is}
+use Rattle.field_boxes.proofs.Orders.{field_few}
+use Rattle.node_store.proofs.Stated.{has_field, next_is, top_is}
 use Rattle.rule_audit.proofs.meeting.Meeting.+meeting.Goals as goal
 
 abbrev no_edge : Edge
 no_edge = record { hi = 0; to = record { 0 = 0 } }
-
--- a node of a level is in use
-used : (nodes : List Node) (id depth : ℕ) → level_of nodes id ≡ drop depth stated → id < length nodes
-used nodes id depth level = within nodes id (subst IsLevel (sym level) (is_level depth))
-
-pub edge-with_value-header-requires-clause-field : goal.edge-with_value-header-requires-clause-field
-edge-with_value-header-requires-clause-field t c = c.requires.depth
 
 pub edge-with_value-header-requires-clause-value : goal.edge-with_value-header-requires-clause-value
 edge-with_value-header-requires-clause-value t c = omega (arith, c.requires.rises, c.requires.within)
@@ -33,8 +26,7 @@ edge-overflow_add-depth t c = omega (arith, c.requires.depth)
 -- the values with the one that was written
 with_one : (values others : List ℕ) (depth v : ℕ) → length values ≡ 5 → depth < 5 → others ≡ set values depth v → take (depth + 1) others ≡ take depth values ++ v ∷ []
 with_one values others depth v five less is =
-    let one : depth + 1 ≡ suc depth = omega arith in
-    ap (take (depth + 1)) is ∙ ap (λ n. take n (set values depth v)) one ∙ one_more values depth v (omega (arith, five, less))
+    ap (take (depth + 1)) is ∙ take_more_set values depth v (omega (arith, five, less))
 
 pub edge-node-requires : goal.edge-node-requires
 edge-node-requires t c =
@@ -79,15 +71,11 @@ edges-loop-edge-init t c =
       met = meetings.met_first c.args.self.now.first c.args.self.now.store.now c.args.self.now.root.0 (take c.args.depth c.args.header.values) c.args.seen.now c.args.states.now c.requires.met;
     }
 
-pub edges-offset_bounds-edges-edge-index : goal.edges-offset_bounds-edges-edge-index
-edges-offset_bounds-edges-edge-index t c = search rules
-
 pub edges-overflow_cast-lo : goal.edges-overflow_cast-lo
 edges-overflow_cast-lo t c =
     let l = c.loop-edge in
-    let few = field_few c.args.depth c.requires.depth in
     let r = next_edge (greatest_of c.args.depth) l.lo c.edges-edges.result.now l.edge-index no_edge c.loop-edge-test.true l.invariant.rise in
-    omega (arith, r.low, r.high, few)
+    omega (arith, r.low, r.high, field_few c.args.depth c.requires.depth)
 
 pub edges-edge-requires : goal.edges-edge-requires
 edges-edge-requires t c =
@@ -117,12 +105,6 @@ edges-edge-requires t c =
         ),
       ),
     )
-
-pub edges-overflow_add-lo : goal.edges-overflow_add-lo
-edges-overflow_add-lo t c = search rules
-
-pub edges-loop-edge-smaller : goal.edges-loop-edge-smaller
-edges-loop-edge-smaller t c = search rules
 
 pub edges-loop-edge-preserved : goal.edges-loop-edge-preserved
 edges-loop-edge-preserved t c =
@@ -161,7 +143,7 @@ node-returns-then-seen-id t c =
     let five : length c.args.header.values ≡ 5 = search rules in
     let inside : c.args.id.0 < length c.args.seen.now = omega (arith, used c.args.self.now.store.now c.args.id.0 c.args.depth c.requires.level, c.requires.room) in record {
       met = meetings.met_again c.args.self.now.first c.args.self.now.store.now c.args.self.now.root.0 (take c.args.depth c.args.header.values) c.args.depth c.args.id.0
-          (long c.args.header.values c.args.depth (omega (arith, five, c.requires.depth))) c.requires.level c.requires.leads c.args.seen.now c.args.states.now
+          (length-take-le c.args.depth c.args.header.values (omega (arith, five, c.requires.depth))) c.requires.level c.requires.leads c.args.seen.now c.args.states.now
           (slice_get-get_or c.args.seen.now c.args.id.0 false inside ∙ ap Some c.if-seen-id.true) c.requires.met;
     }
 
@@ -175,7 +157,7 @@ pub node-returns : goal.node-returns
 node-returns t c =
     let five : length c.args.header.values ≡ 5 = search rules in record {
       met = meetings.met_marked c.args.self.now.first c.args.self.now.store.now c.args.self.now.root.0 (take c.args.depth c.args.header.values) c.args.depth c.args.id.0
-          (long c.args.header.values c.args.depth (omega (arith, five, c.requires.depth))) c.requires.level c.requires.leads c.args.header.values c.worked_out.new.seen c.worked_out.new.states
+          (length-take-le c.args.depth c.args.header.values (omega (arith, five, c.requires.depth))) c.requires.level c.requires.leads c.args.header.values c.worked_out.new.seen c.worked_out.new.states
           (header_is c.args.header.values five c.args.header.in_fields) refl c.worked_out.ensures.met;
     }
 
@@ -191,8 +173,8 @@ worked_out-returns-then-depth-eq5 t c =
     let five : length c.args.header.values ≡ 5 = search rules in
     let deep : c.args.depth ≡ 5 = omega (arith, c.if-depth-eq5.true) in record {
       met = meetings.met_leaf c.args.self.now.first c.args.self.now.store.now c.args.self.now.root.0 (take c.args.depth c.args.header.values) c.args.depth c.args.id.0
-          (long c.args.header.values c.args.depth (omega (arith, five, c.requires.depth))) c.requires.level c.requires.leads c.args.header deep
-          (all_taken c.args.header.values c.args.depth (five ∙ sym deep)) (header_is c.args.header.values five c.args.header.in_fields)
+          (length-take-le c.args.depth c.args.header.values (omega (arith, five, c.requires.depth))) c.requires.level c.requires.leads c.args.header deep
+          (take_all c.args.depth c.args.header.values (omega (arith, five, deep))) (header_is c.args.header.values five c.args.header.in_fields)
           c.unwrap_or-number.result c.args.seen.now c.args.states.now c.meet.new.states
           (c.unwrap_or-number.ensures ∙ ap (λ o. unwrap_or o 0) c.decision.ensures.decision) (omega arith)
           (λ k d less. c.meet.ensures k d less ∙ ap (λ l. state_after (next_shown k l) c.args.header (get_or c.args.states.now k d)) c.at.ensures)
@@ -203,5 +185,5 @@ pub worked_out-returns-else-depth-eq5 : goal.worked_out-returns-else-depth-eq5
 worked_out-returns-else-depth-eq5 t c =
     let five : length c.args.header.values ≡ 5 = search rules in record {
       met = meetings.met_last c.args.self.now.first c.args.self.now.store.now c.args.self.now.root.0 (take c.args.depth c.args.header.values) c.args.depth (omega (arith, c.requires.depth, c.if-depth-eq5.false))
-          (long c.args.header.values c.args.depth (omega (arith, five, c.requires.depth))) c.edges.new.seen c.edges.new.states c.edges.ensures.met;
+          (length-take-le c.args.depth c.args.header.values (omega (arith, five, c.requires.depth))) c.edges.new.seen c.edges.new.states c.edges.ensures.met;
     }

@@ -1,12 +1,11 @@
-use Rattle.std.proofs.Common.{◌≡◌, ◌∙◌, ◌++◌, ◌/◌, ap, arith, drop, length, subst, sym, take}
-use Rattle.std.specs.Prelude.{List}
-use Rattle.std.proofs.lemmas.List.{take-append-drop}
+use Rattle.std.proofs.Common.{◌≡◌, ◌∙◌, ◌/◌, ap, arith, drop, length, subst, sym, take, List}
 use Rattle.field_boxes.specs.declared.rule.Rule as code
 use Rattle.node_store.specs.Diagram.{Node}
 use Rattle.rule_audit.specs.declared.part.Part.{Part}
 use Rattle.rule_audit.specs.Parts.{IsPart, Shows, shown_of}
 use Rattle.node_store.specs.declared.edge.NodeId.{NodeId}
 use Rattle.rule_audit.proofs.Between.{first_half, second_half}
+use Rattle.rule_audit.proofs.InHalves.{whole}
 use Rattle.rule_audit.proofs.Parts.{part_size}
 use Rattle.rule_audit.proofs.PartsShown.{part_shows}
 use Rattle.rule_audit.proofs.scout.Scout.+part.Goals as goal
@@ -19,63 +18,49 @@ half_shows nodes half rules part id is same h = subst (λ (rs : List code.Rule).
 half_is : (nodes : List Node) (half rules : List code.Rule) (part same : Part) → half ≡ rules → same ≡ part → IsPart nodes rules part → IsPart nodes half same
 half_is nodes half rules part same is e h = subst (λ (rs : List code.Rule). IsPart nodes rs same) (sym is) (subst (IsPart nodes rules) (sym e) h)
 
--- the rules in two
-in_two : (rules upper lower : List code.Rule) → upper ≡ take (length rules / 2) rules → lower ≡ drop (length rules / 2) rules → rules ≡ upper ++ lower
-in_two rules upper lower up low =
-    sym (ap (λ (rs : List code.Rule). rs ++ lower) up ∙ ap (λ (rs : List code.Rule). take (length rules / 2) rules ++ rs) low ∙ take-append-drop (length rules / 2) rules)
-
 pub alone-requires-clause-few : goal.alone-requires-clause-few
 alone-requires-clause-few t c = (subst (IsPart c.args.self.now.store.now c.args.rules.now) c.in-Alone.is c.requires.part).0
 
 pub part-requires : goal.part-requires
 part-requires t c =
     let nodes = c.args.self.now.store.now in
-    let all = c.args.self.now.rules.now in
     let rules = c.args.rules.now in
     let parts = subst (IsPart nodes rules) c.in-Halves.is c.requires.part in
     let upper = c.split_at.result.0.now in
     let lower = c.split_at.result.1.now in
     let front = c.split_at.ensures.front in
     let back = c.split_at.ensures.back in
-    let made = c.in_ok-around_first-in-Halves.ensures in (
-      omega (arith, c.decreases, ap part_size c.in-Halves.is, ap part_size c.deref-in-Halves-2.ensures),
-      (
-        half_is nodes upper (take (length rules / 2) rules) c.in-Halves.first.value c.deref-in-Halves-2.result.now front c.deref-in-Halves-2.ensures parts.1,
-        (
-          first_half nodes all c.requires.decide rules upper lower (length c.args.states.now.items) c.args.around.now c.in_ok-around_first-in-Halves.around_first c.shown.result c.shown-in-Halves.result
-              (in_two rules upper lower front back) c.requires.between
-              (half_shows nodes upper (take (length rules / 2) rules) c.in-Halves.first.value c.shown.result front (c.shown.ensures ∙ ap shown_of c.deref.ensures) parts.1)
-              (half_shows nodes lower (drop (length rules / 2) rules) c.in-Halves.second.value c.shown-in-Halves.result back (c.shown-in-Halves.ensures ∙ ap shown_of c.deref-in-Halves.ensures) parts.2)
-              made.here made.before made.behind,
-          (c.requires.decide, (c.requires.nothing, (c.requires.full, c.requires.told))),
-        ),
-      ),
-    )
+    let made = c.in_ok-around_first-in-Halves.ensures in
+    let part = half_is nodes upper (take (length rules / 2) rules) c.in-Halves.first.value c.deref-in-Halves-2.result.now front c.deref-in-Halves-2.ensures parts.1 in
+    let between = first_half nodes c.args.self.now.rules.now c.requires.decide rules upper lower (length c.args.states.now.items) c.args.around.now c.in_ok-around_first-in-Halves.around_first
+    c.shown.result c.shown-in-Halves.result (sym (whole rules upper lower (length rules / 2) front back)) c.requires.between
+    (half_shows nodes upper (take (length rules / 2) rules) c.in-Halves.first.value c.shown.result front (c.shown.ensures ∙ ap shown_of c.deref.ensures) parts.1)
+    (half_shows nodes lower (drop (length rules / 2) rules) c.in-Halves.second.value c.shown-in-Halves.result back (c.shown-in-Halves.ensures ∙ ap shown_of c.deref-in-Halves.ensures) parts.2)
+    made.here made.before made.behind in
+    let less = ap part_size c.in-Halves.is in
+    let same = ap part_size c.deref-in-Halves-2.ensures in
+    (omega (arith, c.decreases, less, same), (part, (between, (c.requires.decide, (c.requires.nothing, (c.requires.full, c.requires.told))))))
 
 pub part-requires-in-Halves : goal.part-requires-in-Halves
 part-requires-in-Halves t c =
     let nodes = c.args.self.now.store.now in
-    let all = c.args.self.now.rules.now in
     let rules = c.args.rules.now in
     let parts = subst (IsPart nodes rules) c.in-Halves.is c.requires.part in
     let upper = c.split_at.result.0.now in
     let lower = c.split_at.result.1.now in
     let front = c.split_at.ensures.front in
     let back = c.split_at.ensures.back in
-    let made = c.in_ok-around_second-in-Halves.ensures in (
-      omega (arith, c.decreases, ap part_size c.in-Halves.is, ap part_size c.deref-in-Halves-5.ensures),
-      (
-        half_is nodes lower (drop (length rules / 2) rules) c.in-Halves.second.value c.deref-in-Halves-5.result.now back c.deref-in-Halves-5.ensures parts.2,
-        (
-          second_half nodes all c.requires.decide rules upper lower (length c.args.states.now.items) (length c.part.new.states.items) c.args.around.now c.in_ok-around_second-in-Halves.around_second
-              c.shown-in-Halves-2.result c.shown-in-Halves-3.result (in_two rules upper lower front back) c.in_ok-part-in-Halves.ensures.count c.requires.between
-              (half_shows nodes upper (take (length rules / 2) rules) c.in-Halves.first.value c.shown-in-Halves-2.result front (c.shown-in-Halves-2.ensures ∙ ap shown_of c.deref-in-Halves-3.ensures) parts.1)
-              (half_shows nodes lower (drop (length rules / 2) rules) c.in-Halves.second.value c.shown-in-Halves-3.result back (c.shown-in-Halves-3.ensures ∙ ap shown_of c.deref-in-Halves-4.ensures) parts.2)
-              made.here made.before made.behind,
-          (c.requires.decide, (c.requires.nothing, (c.requires.full, c.in_ok-part-in-Halves.ensures.told))),
-        ),
-      ),
-    )
+    let made = c.in_ok-around_second-in-Halves.ensures in
+    let part = half_is nodes lower (drop (length rules / 2) rules) c.in-Halves.second.value c.deref-in-Halves-5.result.now back c.deref-in-Halves-5.ensures parts.2 in
+    let between = second_half nodes c.args.self.now.rules.now c.requires.decide rules upper lower (length c.args.states.now.items) (length c.part.new.states.items) c.args.around.now
+    c.in_ok-around_second-in-Halves.around_second c.shown-in-Halves-2.result c.shown-in-Halves-3.result (sym (whole rules upper lower (length rules / 2) front back))
+    c.in_ok-part-in-Halves.ensures.count c.requires.between
+    (half_shows nodes upper (take (length rules / 2) rules) c.in-Halves.first.value c.shown-in-Halves-2.result front (c.shown-in-Halves-2.ensures ∙ ap shown_of c.deref-in-Halves-3.ensures) parts.1)
+    (half_shows nodes lower (drop (length rules / 2) rules) c.in-Halves.second.value c.shown-in-Halves-3.result back (c.shown-in-Halves-3.ensures ∙ ap shown_of c.deref-in-Halves-4.ensures) parts.2)
+    made.here made.before made.behind in
+    let less = ap part_size c.in-Halves.is in
+    let same = ap part_size c.deref-in-Halves-5.ensures in
+    (omega (arith, c.decreases, less, same), (part, (between, (c.requires.decide, (c.requires.nothing, (c.requires.full, c.in_ok-part-in-Halves.ensures.told))))))
 
 pub returns-in_ok-part-in-Halves-2-clause-count : goal.returns-in_ok-part-in-Halves-2-clause-count
 returns-in_ok-part-in-Halves-2-clause-count t c = omega (arith, c.in_ok-part-in-Halves.ensures.count, c.in_ok-part-in-Halves-2.ensures.count, c.split_at.ensures.front_len, c.split_at.ensures.back_len)

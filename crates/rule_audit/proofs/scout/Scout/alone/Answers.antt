@@ -14,7 +14,6 @@ returns-clause-told c =
     let all = c.args.self.now.rules.now in
     let states = c.args.states.now.items in
     let state = c.in_ok-told.told in
-    let some = eqb-false (length c.args.rules.now) 0 (sym c.if-is_empty.ensures) in
-    let one : length c.args.rules.now ≡ 1 = omega (arith, c.requires.few, some) in
+    let one : length c.args.rules.now ≡ 1 = omega (arith, c.requires.few, eqb-false (length c.args.rules.now) 0 (sym c.if-is_empty.ensures)) in
     subst (AreTold all) (sym c.in_ok-push.ensures.items)
     (told_more all states state c.requires.told (told nodes all c.requires.decide c.args.rules.now (length states) c.args.around.now one c.requires.between state c.in_ok-told.ensures))

@@ -5,7 +5,7 @@ use Rattle.rule_audit.specs.Found.{IsFound}
 use Rattle.rule_audit.specs.Marks.{AreWithin, HasMarked}
 use Rattle.rule_audit.proofs.Least.{all_gone, found_here, gone_on, none_gone, nowhere}
 use Rattle.rule_audit.proofs.Rows.{used}
-use Rattle.rule_audit.proofs.Stated.{field_few}
+use Rattle.field_boxes.proofs.Orders.{field_few}
 use Rattle.rule_audit.proofs.Throughout.{none_here, none_hidden}
 use Rattle.rule_audit.proofs.seeking.Seeking.+seeking.Goals as goal
 
@@ -19,10 +19,8 @@ least-returns-then-is_nothing t c =
 
 pub least-hide-requires : goal.least-hide-requires
 least-hide-requires t c =
-    let nodes = c.args.store.now in
-    let at = c.requires.around.before in
     subst (AreWithin c.args.self.now.full.items) (sym c.as_slice.ensures)
-    (λ k d less. omega (arith, used nodes _ c.args.depth (at k d less), c.requires.full.count))
+    (λ k d less. omega (arith, used c.args.store.now _ c.args.depth (c.requires.around.before k d less), c.requires.full.count))
 
 pub least-returns-then-hide : goal.least-returns-then-hide
 least-returns-then-hide t c =

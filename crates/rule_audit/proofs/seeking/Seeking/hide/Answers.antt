@@ -1,10 +1,7 @@
 use Rattle.std.proofs.Common.{◌∙◌, get_or, sym}
 use Rattle.std.proofs.lemmas.List.Elements.{Contains-get_or}
-use Rattle.node_store.specs.declared.edge.NodeId.{NodeId}
+use Rattle.rule_audit.proofs.Rows.{no_id}
 use Rattle.rule_audit.proofs.seeking.Seeking.hide.Goals as goal
-
-abbrev no_id : NodeId
-no_id = record { 0 = 0 }
 
 pub is_full-requires : goal.is_full-requires
 is_full-requires c = c.requires c.loop-id.id-index no_id c.loop-id-test.true

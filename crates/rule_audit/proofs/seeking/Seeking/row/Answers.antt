@@ -1,15 +1,10 @@
-use Rattle.std.proofs.Common.{◌≡◌, ◌∙◌, ◌+◌, suc, ap, arith, drop, get_or, take, subst, sym}
-use Rattle.std.specs.Prelude.{List}
+use Rattle.std.proofs.Common.{get_or, take, subst, sym, List}
 use Rattle.std.proofs.lemmas.List.{take_all, take_more}
-use Rattle.field_boxes.specs.Fields.{greatest_of, stated}
+use Rattle.field_boxes.specs.Fields.{greatest_of}
 use Rattle.node_store.specs.declared.edge.NodeId.{NodeId}
-use Rattle.node_store.specs.Edges.{child_of}
 use Rattle.rule_audit.specs.Steps.{IsRow}
-use Rattle.rule_audit.proofs.Rows.{LeadAlike, child_at, first_row, full, has, next_row, used}
+use Rattle.rule_audit.proofs.Rows.{first_row, full, has, leads_from, next_row, no_id, used}
 use Rattle.rule_audit.proofs.seeking.Seeking.row.Goals as goal
-
-abbrev no_id : NodeId
-no_id = record { 0 = 0 }
 
 pub loop-id-init : goal.loop-id-init
 loop-id-init c =
@@ -31,18 +26,11 @@ edge_at-edge-requires c =
 pub add-requires : goal.add-requires
 add-requires c =
     let l = c.loop-id in
-    let nodes = c.args.store.now in
-    let id = (get_or c.args.ids.now l.id-index no_id).0 in
+    let id = get_or c.args.ids.now l.id-index no_id in
     let e = c.edge_at-edge.result in
-    let at = c.requires.stand l.id-index no_id c.loop-id-test.true in
-    let leads : LeadAlike nodes id c.args.value e = λ v from to. ap (λ es. child_of es v) (sym c.edges.ensures.edges) ∙ c.edge_at-edge.ensures.leads v from to in
-    let low = c.edge_at-edge.ensures.low in record {
-      id = used nodes e.to.0 (c.args.depth + 1) (
-          let one : suc c.args.depth ≡ c.args.depth + 1 = omega arith in
-          child_at nodes id c.args.depth c.args.value e.to.0 c.same_answers.ensures.store c.requires.depth at c.requires.value (leads c.args.value (omega arith) low) ∙ ap (λ n. drop n stated) one
-          );
-      nothing = c.requires.nothing;
-    }
+    let on = leads_from c.args.store.now id.0 c.args.depth c.args.value c.edges.result.now e c.same_answers.ensures.store c.requires.depth (c.requires.stand l.id-index no_id c.loop-id-test.true)
+    c.requires.value c.edges.ensures.edges c.edge_at-edge.ensures.low c.edge_at-edge.ensures.leads in
+    record { id = on.used; nothing = c.requires.nothing }
 
 pub loop-id-preserved : goal.loop-id-preserved
 loop-id-preserved c =
@@ -51,12 +39,11 @@ loop-id-preserved c =
     let ids = c.args.ids.now in
     let id = get_or ids l.id-index no_id in
     let e = c.edge_at-edge.result in
-    let at = c.requires.stand l.id-index no_id c.loop-id-test.true in
-    let leads : LeadAlike nodes id.0 c.args.value e = λ v from to. ap (λ es. child_of es v) (sym c.edges.ensures.edges) ∙ c.edge_at-edge.ensures.leads v from to in
-    let low = c.edge_at-edge.ensures.low in
-    let level = child_at nodes id.0 c.args.depth c.args.value e.to.0 c.same_answers.ensures.store c.requires.depth at c.requires.value (leads c.args.value (omega arith) low) in
+    let on = leads_from c.args.store.now id.0 c.args.depth c.args.value c.edges.result.now e c.same_answers.ensures.store c.requires.depth (c.requires.stand l.id-index no_id c.loop-id-test.true)
+    c.requires.value c.edges.ensures.edges c.edge_at-edge.ensures.low c.edge_at-edge.ensures.leads in
     subst (λ (xs : List NodeId). IsRow nodes c.args.depth xs c.args.value c.min-hi.result c.add.new.children.items) (sym (take_more ids l.id-index no_id c.loop-id-test.true))
-    (next_row nodes c.args.depth c.args.value l.hi c.min-hi.result (take l.id-index ids) l.children.items c.add.new.children.items id e level low leads c.min-hi.ensures c.in_ok-add.ensures l.invariant)
+    (next_row nodes c.args.depth c.args.value l.hi c.min-hi.result (take l.id-index ids) l.children.items c.add.new.children.items id e on.level on.low on.leads c.min-hi.ensures
+    c.in_ok-add.ensures l.invariant)
 
 pub returns : goal.returns
 returns c =

@@ -1,10 +1,7 @@
-use Rattle.std.proofs.Common.{◌∷◌, ℕ, List, [], subst}
+use Rattle.std.proofs.Common.{subst}
 use Rattle.rule_audit.specs.Found.{IsFound}
-use Rattle.rule_audit.proofs.Shown.{live}
+use Rattle.rule_audit.proofs.Shown.{live, zeros}
 use Rattle.rule_audit.proofs.seeking.Seeking.state.Goals as goal
-
-abbrev zeros : List ℕ
-zeros = 0 ∷ 0 ∷ 0 ∷ 0 ∷ 0 ∷ []
 
 pub unneeded-requires-clause-unneeded : goal.unneeded-requires-clause-unneeded
 unneeded-requires-clause-unneeded c = subst (IsFound c.args.store.now 0 c.args.around.now zeros) c.in-Nowhere.is c.in_ok-found.ensures

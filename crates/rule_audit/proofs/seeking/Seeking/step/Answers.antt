@@ -1,11 +1,9 @@
-use Rattle.std.proofs.Common.{◌≡◌, ◌∙◌, ◌+◌, suc, ap, arith, drop, refl, subst, sym}
-use Rattle.std.specs.Prelude.{List}
+use Rattle.std.proofs.Common.{◌∙◌, arith, drop, refl, subst, sym, List}
 use Rattle.field_boxes.specs.Fields.{greatest_of, stated}
 use Rattle.node_store.specs.declared.edge.NodeId.{NodeId}
-use Rattle.node_store.specs.Edges.{child_of}
 use Rattle.rule_audit.specs.Around.{StandAtLevel}
 use Rattle.rule_audit.specs.Steps.{IsRow}
-use Rattle.rule_audit.proofs.Rows.{LeadAlike, child_at, full, has, step_on, step_past, used}
+use Rattle.rule_audit.proofs.Rows.{full, has, leads_from, step_on, step_past, used}
 use Rattle.rule_audit.proofs.seeking.Seeking.step.Goals as goal
 
 pub edges-requires : goal.edges-requires
@@ -20,15 +18,9 @@ edge_at-edge-requires c =
 
 pub is_nothing-requires : goal.is_nothing-requires
 is_nothing-requires c =
-    let nodes = c.args.store.now in
-    let id = c.args.around.now.here.0 in
-    let e = c.edge_at-edge.result in
-    let low = c.edge_at-edge.ensures.low in
-    let one : suc c.args.depth ≡ c.args.depth + 1 = omega arith in
-    let leads = ap (λ es. child_of es c.args.value) (sym c.edges.ensures.edges) ∙ c.edge_at-edge.ensures.leads c.args.value (omega arith) low in
-    let inside = used nodes e.to.0 (c.args.depth + 1)
-    (child_at nodes id c.args.depth c.args.value e.to.0 c.same_answers.ensures.store c.requires.depth c.requires.around.here c.requires.value leads ∙ ap (λ n. drop n stated) one) in
-    omega (arith, inside, c.requires.nothing.count)
+    let on = leads_from c.args.store.now c.args.around.now.here.0 c.args.depth c.args.value c.edges.result.now c.edge_at-edge.result c.same_answers.ensures.store c.requires.depth
+    c.requires.around.here c.requires.value c.edges.ensures.edges c.edge_at-edge.ensures.low c.edge_at-edge.ensures.leads in
+    omega (arith, on.used, c.requires.nothing.count)
 
 pub returns-then-is_nothing : goal.returns-then-is_nothing
 returns-then-is_nothing c =
@@ -36,12 +28,12 @@ returns-then-is_nothing c =
     let around = c.args.around.now in
     let e = c.edge_at-edge.result in
     let at = c.requires.around.here in
-    let low = c.edge_at-edge.ensures.low in
-    let leads : LeadAlike nodes around.here.0 c.args.value e = λ v from to. ap (λ es. child_of es v) (sym c.edges.ensures.edges) ∙ c.edge_at-edge.ensures.leads v from to in
-    let level = child_at nodes around.here.0 c.args.depth c.args.value e.to.0 c.same_answers.ensures.store c.requires.depth at c.requires.value (leads c.args.value (omega arith) low) in
     let high = c.edge_at-edge.ensures.high (greatest_of c.args.depth)
     (full nodes around.here.0 c.args.depth c.edges.result.now c.requires.depth at (c.edges.ensures.inner (has nodes around.here.0 c.args.depth c.requires.depth at)).full) in
-    step_past nodes c.args.depth c.args.value around _ e level leads refl high low (c.requires.nothing.right e.to.0 (sym c.is_nothing.ensures ∙ c.if-is_nothing.true)) refl c.new.ensures.items c.new-then-is_nothing.ensures.items
+    let on = leads_from c.args.store.now c.args.around.now.here.0 c.args.depth c.args.value c.edges.result.now c.edge_at-edge.result c.same_answers.ensures.store c.requires.depth
+    c.requires.around.here c.requires.value c.edges.ensures.edges c.edge_at-edge.ensures.low c.edge_at-edge.ensures.leads in
+    step_past nodes c.args.depth c.args.value around _ e on.level on.leads refl high on.low (c.requires.nothing.right e.to.0 (sym c.is_nothing.ensures ∙ c.if-is_nothing.true)) refl
+    c.new.ensures.items c.new-then-is_nothing.ensures.items
 
 pub row-requires : goal.row-requires
 row-requires c = record {
@@ -63,20 +55,17 @@ pub returns : goal.returns
 returns c =
     let nodes = c.args.store.now in
     let around = c.args.around.now in
-    let e = c.edge_at-edge.result in
-    let at = c.requires.around.here in
-    let low = c.edge_at-edge.ensures.low in
-    let leads : LeadAlike nodes around.here.0 c.args.value e = λ v from to. ap (λ es. child_of es v) (sym c.edges.ensures.edges) ∙ c.edge_at-edge.ensures.leads v from to in
-    let level = child_at nodes around.here.0 c.args.depth c.args.value e.to.0 c.same_answers.ensures.store c.requires.depth at c.requires.value (leads c.args.value (omega arith) low) in
-    let high = c.edge_at-edge.ensures.high (greatest_of c.args.depth)
-    (full nodes around.here.0 c.args.depth c.edges.result.now c.requires.depth at (c.edges.ensures.inner (has nodes around.here.0 c.args.depth c.requires.depth at)).full) in
     let before = c.in_ok-before.before in
     let behind = c.in_ok-behind.behind in
-    let first = c.in_ok-before.ensures.low in
     let second = c.in_ok-behind.ensures.low in
     let least = c.min.ensures in
     let is = c.min-hi.ensures in
-    step_on nodes c.args.depth c.args.value around _ e level leads refl high before.hi behind.hi
-    (omega (arith, low, first, second, least, is)) (omega (arith, least, is)) (omega (arith, least, is)) (omega (arith, least, is))
+    let at = c.requires.around.here in
+    let high = c.edge_at-edge.ensures.high (greatest_of c.args.depth)
+    (full nodes around.here.0 c.args.depth c.edges.result.now c.requires.depth at (c.edges.ensures.inner (has nodes around.here.0 c.args.depth c.requires.depth at)).full) in
+    let on = leads_from c.args.store.now c.args.around.now.here.0 c.args.depth c.args.value c.edges.result.now c.edge_at-edge.result c.same_answers.ensures.store c.requires.depth
+    c.requires.around.here c.requires.value c.edges.ensures.edges c.edge_at-edge.ensures.low c.edge_at-edge.ensures.leads in
+    step_on nodes c.args.depth c.args.value around _ c.edge_at-edge.result on.level on.leads refl high before.hi behind.hi
+    (omega (arith, on.low, c.in_ok-before.ensures.low, second, least, is)) (omega (arith, least, is)) (omega (arith, least, is)) (omega (arith, least, is))
     (subst (λ (ids : List NodeId). IsRow nodes c.args.depth ids c.args.value before.hi before.children.items) c.as_slice.ensures c.in_ok-before.ensures)
     (subst (λ (ids : List NodeId). IsRow nodes c.args.depth ids c.args.value behind.hi behind.children.items) c.as_slice-2.ensures c.in_ok-behind.ensures)

@@ -1,11 +1,8 @@
-use Rattle.std.proofs.Common.{◌∷◌, ℕ, List, [], subst}
+use Rattle.std.proofs.Common.{subst}
 use Rattle.field_boxes.specs.Fields.{stated}
 use Rattle.rule_audit.specs.Found.{IsFound}
-use Rattle.rule_audit.proofs.Shown.{alone_stands, droppable, never}
+use Rattle.rule_audit.proofs.Shown.{alone_stands, droppable, never, zeros}
 use Rattle.rule_audit.proofs.seeking.Seeking.unneeded.Goals as goal
-
-abbrev zeros : List ℕ
-zeros = 0 ∷ 0 ∷ 0 ∷ 0 ∷ 0 ∷ []
 
 pub least-requires-clause-around : goal.least-requires-clause-around
 least-requires-clause-around c =

@@ -1,7 +1,7 @@
 use Rattle.std.proofs.Common.{List, ℕ, subst, sym}
 use Rattle.std.specs.Prelude.{IfOk, MatchResult, ◌≤◌}
 use Rattle.field_boxes.specs.NamedRules.{named_rules}
-use Rattle.redundancy_laws.specs.Orders.{IsOrder}
+use Rattle.field_boxes.specs.Orders.{IsOrder}
 use Rattle.redundancy.specs.Removal.{UnlessMemory}
 use Rattle.ternary_words.specs.Views.{table_of}
 use Rattle.table_compose.specs.LeastCost.{IsLeastCost}

@@ -4,7 +4,7 @@ use Rattle.ternary_words.specs.Limits.{AreNumbered}
 use Rattle.ternary_words.specs.Table.{answer}
 use Rattle.ternary_words.specs.Views.{entry_of}
 use Rattle.field_boxes.specs.NamedRules.{named_rules}
-use Rattle.rule_compilation.specs.Compiled.{IsTight}
+use Rattle.field_boxes.specs.Alike.{IsTight}
 use Rattle.rule_compilation.specs.Pass.{AreComposedOf}
 use Rattle.rule_compilation.proofs.Prefixed.{named_prefixes}
 use Rattle.rule_compilation.proofs.Removed.{tight_named}
@@ -38,5 +38,5 @@ returns-clause-table c =
       answers = λ header is. ap (λ (ns : List (List ℕ)). answer (map (entry_of ns) kept) header) same ∙ tight.answers header is;
       prefixes = named_prefixes c.in_ok-names.names kept tight.prefixes;
       pass = record { names = c.in_ok-names.names; table = tight.all; kept = kept; composed = subst (λ (ns : List (List ℕ)). AreComposedOf c.args.order.now ns rules tight.all) (sym same) tight.made; many = tight.many; pass = tight.pass; named = refl };
-      tight = subst (λ (ns : List (List ℕ)). IsTight (map (entry_of ns) kept)) (sym same) (tight_named names kept c.are_names.ensures.distinct tight.numbered tight.tight);
+      tight = subst (λ (ns : List (List ℕ)). IsTight answer (map (entry_of ns) kept)) (sym same) (tight_named names kept c.are_names.ensures.distinct tight.numbered tight.tight);
     }

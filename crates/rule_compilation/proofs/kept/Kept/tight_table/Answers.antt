@@ -1,11 +1,12 @@
 use Rattle.std.proofs.lemmas.List.Elements.{recursion_from_All}
 use Rattle.field_boxes.specs.NamedRules.{IsNumberedBy}
+use Rattle.node_store.proofs.Orders.{order_level}
 use Rattle.rule_compilation.proofs.Composed.{IsBuiltOf, compiled}
 use Rattle.rule_compilation.proofs.Unless.{weaker}
 use Rattle.rule_compilation.proofs.kept.Kept.tight_table.Goals as goal
 
 pub build-requires-clause-order : goal.build-requires-clause-order
-build-requires-clause-order c = c.requires.order.level
+build-requires-clause-order c = order_level c.args.order.now c.requires.order
 
 pub compose_tight-requires-clause-plans : goal.compose_tight-requires-clause-plans
 compose_tight-requires-clause-plans c =

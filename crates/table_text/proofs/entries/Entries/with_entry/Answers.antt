@@ -1,8 +1,7 @@
-use Rattle.std.proofs.Common.{◌≡◌, ◌≤◌, ap, subst, sym, ◌∙◌, length, map, arith}
+use Rattle.std.proofs.Common.{◌≡◌, ◌≤◌, ap, subst, sym, ◌∙◌, length, map, arith, All, IsTrue}
 use Rattle.ternary_words.specs.declared.entry.Entry as code_entry
 use Rattle.ternary_words.specs.Limits.{AreNumbered}
 use Rattle.ternary_words.specs.Views.{entry_of}
-use Rattle.std.specs.Prelude.{All, IsTrue}
 use Rattle.table_text.specs.Names.{decided, is_name}
 use Rattle.table_text.specs.Seen.{names_seen, with_decided}
 use Rattle.table_text.proofs.NamesSeen.{decision_named}

@@ -1,5 +1,5 @@
 use Rattle.std.proofs.Common.{ap, arith, length, ◌+◌}
-use Rattle.filter_reader.specs.FilterList.{text_lines}
+use Rattle.text_lines.specs.Lines.{text_lines}
 use Rattle.trace_run.specs.Answers.{answers_text}
 use Rattle.trace_run.specs.Trace.{trace_from}
 use Rattle.trace_run.proofs.Feeds.{text_lines-few}

@@ -1,13 +1,11 @@
-use Rattle.std.proofs.Common.{◌≡◌, ℕ, List, [], ◌++◌, ◌+◌, ◌-◌, ◌<◌, false, Option, Result, Err, append_assoc, take-append-drop, subst, take, drop, length, ap, sym, ◌∙◌, refl, arith}
-use Rattle.std.specs.Prelude.{IfErr}
+use Rattle.std.proofs.Common.{◌≡◌, ℕ, List, [], ◌++◌, ◌+◌, ◌-◌, ◌<◌, false, append_assoc, take-append-drop, subst, take, drop, length, ap, sym, ◌∙◌, refl, arith}
 use Rattle.std.proofs.lemmas.List.{take_rest}
-use Rattle.filter_reader.specs.FilterList.{text_lines}
+use Rattle.text_lines.specs.Lines.{text_lines}
 use Rattle.trace_run.specs.Answers.{answers_text}
-use Rattle.trace_run.specs.Trace.{BadLine, has_feed, trace_from, whole_lines}
-use Rattle.trace_run.specs.declared.error.TraceError.{TraceError}
+use Rattle.trace_run.specs.Trace.{has_feed, trace_from, whole_lines}
 use Rattle.trace_run.specs.Progress.{StopsAt}
 use Rattle.trace_run.proofs.Feeds.{whole_lines-piece, whole_lines-unfinished}
-use Rattle.trace_run.proofs.PutLines.{handed_on, puts_lines-again, puts_lines-as, puts_lines-is, puts_lines-nothing, puts_lines-refused, puts_lines-then_refused}
+use Rattle.trace_run.proofs.PutLines.{handed_on, puts_lines-again, puts_lines-is, puts_lines-nothing, puts_lines-refused, puts_lines-then_refused}
 use Rattle.trace_run.proofs.progress.Progress.take_piece.Goals as goal
 
 pub returns-in_err-extend_from_slice-clause-puts : goal.returns-in_err-extend_from_slice-clause-puts
@@ -15,10 +13,6 @@ returns-in_err-extend_from_slice-clause-puts g c = puts_lines-refused (handed_on
 
 some_of : (n : ℕ) → (n ≡ 0 → ⊥) → 0 < n
 some_of n h = omega (arith, h)
-
--- an error that was handed on stops where it did
-stops-as : (e : TraceError) (r : Result (Unit {0}) TraceError) (bad other : Option BadLine) → r ≡ Err e → bad ≡ other → StopsAt e bad → IfErr r (λ x. StopsAt x other)
-stops-as e r bad other same at stops = subst (λ (x : Result (Unit {0}) TraceError). IfErr x (λ y. StopsAt y other)) (sym same) (subst (StopsAt e) at stops)
 
 -- no line ends in the piece
 none_ends : (line piece : List ℕ) (n : ℕ) → has_feed line ≡ false → has_feed (drop n piece) ≡ false → n ≡ 0 → whole_lines (line ++ piece) ≡ []
@@ -56,17 +50,16 @@ returns-in_err-take_kept-clause-puts g c =
     let line = c.args.self.now.line.items in
     let n = c.whole_len-whole.result in
     let same = c.in_ok-extend_from_slice-2.ensures.items ∙ sym (whole_lines-piece line c.args.piece.now n (some_of n c.if-whole-eq0.false) c.whole_len-whole.ensures.within c.whole_len-whole.ensures.whole c.whole_len-whole.ensures.rest) in
-    puts_lines-as (puts_lines-is c.in_err-take_kept.ensures.puts (ap (λ bs. answers_text c.args.names.now slots (trace_from (c.args.self.now.lines + 1) (text_lines bs)).headers) same))
-    (sym (handed_on c.in_err-take_kept.field-0.0 c.from_residual-in_err-take_kept.result c.from_residual-in_err-take_kept.ensures.1))
+    rw (handed_on c.in_err-take_kept.field-0.0 c.from_residual-in_err-take_kept.result c.from_residual-in_err-take_kept.ensures.1)
+    (puts_lines-is c.in_err-take_kept.ensures.puts (ap (λ bs. answers_text c.args.names.now slots (trace_from (c.args.self.now.lines + 1) (text_lines bs)).headers) same))
 
 pub returns-in_err-take_kept-clause-stops : goal.returns-in_err-take_kept-clause-stops
 returns-in_err-take_kept-clause-stops g c =
     let line = c.args.self.now.line.items in
     let n = c.whole_len-whole.result in
     let same = c.in_ok-extend_from_slice-2.ensures.items ∙ sym (whole_lines-piece line c.args.piece.now n (some_of n c.if-whole-eq0.false) c.whole_len-whole.ensures.within c.whole_len-whole.ensures.whole c.whole_len-whole.ensures.rest) in
-    stops-as c.in_err-take_kept.field-0.0 c.from_residual-in_err-take_kept.result (trace_from (c.args.self.now.lines + 1) (text_lines c.extend_from_slice-2.new.self.items)).bad (trace_from (c.args.self.now.lines + 1) (text_lines (whole_lines (line ++ c.args.piece.now)))).bad
-    (handed_on c.in_err-take_kept.field-0.0 c.from_residual-in_err-take_kept.result c.from_residual-in_err-take_kept.ensures.1)
-    (ap (λ bs. (trace_from (c.args.self.now.lines + 1) (text_lines bs)).bad) same) c.in_err-take_kept.ensures.stops
+    rw (handed_on c.in_err-take_kept.field-0.0 c.from_residual-in_err-take_kept.result c.from_residual-in_err-take_kept.ensures.1)
+    (subst (StopsAt c.in_err-take_kept.field-0.0) (ap (λ bs. (trace_from (c.args.self.now.lines + 1) (text_lines bs)).bad) same) c.in_err-take_kept.ensures.stops)
 
 pub returns-in_err-extend_from_slice-3-clause-puts : goal.returns-in_err-extend_from_slice-3-clause-puts
 returns-in_err-extend_from_slice-3-clause-puts g c =
