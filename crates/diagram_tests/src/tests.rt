@@ -4,6 +4,5 @@ mod building;
 mod joints;
 mod nodes;
 mod prefix_lists;
-mod recompiling;
 mod removing;
 mod stores;
