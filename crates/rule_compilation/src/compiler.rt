@@ -17,8 +17,8 @@ use ternary_words::Table;
 /// Compiles lists one after another, in the stated order, and keeps what it works out: a list that is much like an
 /// earlier one takes little time.
 ///
-/// What is kept changes no table. It takes room by all the diagrams that were met; where there are twice as many nodes as
-/// after the first list, the next list begins anew, and so it does after a refusal of memory.
+/// What is kept changes no table. It takes room by all the diagrams that were met; where there are more than twice as many
+/// nodes as after the first list, all is given back, and the next list begins anew. So it does after a refusal of memory.
 #[derive(Drop)]
 pub struct Compiler {
     alloc: Global,
@@ -82,21 +82,24 @@ impl Compiler {
         ensures { IfOk result (IsTrue stated) }
     {
         orders();
-        if let Some(kept) = self.kept.take() {
-            if !kept.has_doubled() {
-                return Ok(kept);
-            }
+        match self.kept.take() {
+            Some(kept) => Ok(kept),
+            None => Kept::new(self.alloc, stated_fields()),
         }
-        Kept::new(self.alloc, stated_fields())
     }
 
-    /// Keeps it, unless memory was refused meanwhile.
+    /// Keeps it, unless memory was refused meanwhile, or it has doubled.
+    ///
+    /// What has doubled is given back now and not with the next list, which is compiled anew: each of the two takes no
+    /// longer than compiling anew alone.
     fn put_back(&mut self, kept: Kept<'static>, made: &Result<Table, ComposeError>)
         requires { UnlessMemory made.now (IsTrue stated kept) }
     {
         if let Some(mut kept) = lasting(kept, made) {
             kept.count_first();
-            self.kept = Some(kept);
+            if !kept.has_doubled() {
+                self.kept = Some(kept);
+            }
         }
     }
 }

@@ -3,13 +3,11 @@ ghost use Rattle.std.specs.Prelude.{◌≡◌, ◌==◌, position};
 ghost use Rattle.std.specs.Option.{option_map, option_copied};
 ghost use Rattle.text_lines.specs.Cuts.{parts_at, split_once};
 
-use bstr::ByteSlice;
-
 /// The place of the first separator.
 fn place_of(text: &[u8], separator: u8) -> Option<usize>
     ensures { result ≡ position (λ b. b == separator) text.now }
 {
-    text.find_byte(separator)
+    text.iter().position(|&byte| byte == separator)
 }
 
 /// What stands before the first separator, and what stands after it; none where there is no separator.

@@ -1,11 +1,18 @@
 //! The lines of a text.
-ghost use Rattle.std.specs.Prelude.{◌≡◌, ◌<◌, ◌∷◌, [], find, length, not, IfSome, IfNone, option_copied};
+ghost use Rattle.std.specs.Prelude.{◌≡◌, ◌<◌, ◌==◌, ◌∷◌, [], find, position, length, not, IfSome, IfNone, option_copied};
 ghost use Rattle.std.specs.Char.{is_ascii};
 ghost use Rattle.std.specs.List.{list_all};
 ghost use Rattle.text_lines.specs.Lines.{is_blank, is_skipped, lines_of, text_lines, without_return};
 
 use crate::column::is_blank;
-use crate::cut::split_once;
+use bstr::ByteSlice;
+
+/// The place of the first line feed.
+fn line_feed(text: &[u8]) -> Option<usize>
+    ensures { result ≡ position (λ b. b == 10) text.now }
+{
+    text.find_byte(b'\n')
+}
 
 /// The first line of the text with all its bytes but the line feed, and what stands after it; none where
 /// the text is empty.
@@ -17,9 +24,9 @@ pub fn next_whole_line(text: &[u8]) -> Option<(&[u8], &[u8])>
     if text.is_empty() {
         return None;
     }
-    match split_once(text, b'\n') {
-        Some((line, rest)) => Some((line, rest)),
-        None => Some((text, &text[text.len()..])),
+    match line_feed(text) {
+        Some(place) => Some((&text[..place], &text[place + 1..])),
+        None => Some((text, &[])),
     }
 }
 
