@@ -1,11 +1,10 @@
-//! The steps of `razor compile` in plain Rust, as the measure of their times: `compile STEP TIMES HASH < LIST`.
-//!
-//! STEP is `read`, `diagram`, `cost`, `lists`, `remove` or `table`: each does what stands before it and one step more, but
-//! that nothing is costed twice (`lists` and what follows work out the lists with the costs). It prints what `razor_bench`
-//! prints for that step, and for `table` the table that `razor compile` prints. HASH is `sip`, the default of `HashMap`,
+//! The steps of `razor compile` in plain Rust, as the measure of their times: `compile phases TIMES HASH < LIST` does them so
+//! often and prints for each what `razor_bench phases` prints, what came of it and its nanoseconds;
+//! `compile table TIMES HASH < LIST` prints the table that `razor compile` prints. HASH is `sip`, the default of `HashMap`,
 //! or `multiply`, that of `hash.rs`.
 
 mod building;
+mod clock;
 mod hash;
 mod minimising;
 mod planning;
@@ -17,6 +16,7 @@ mod span;
 mod store;
 mod writing;
 
+use clock::timed;
 use hash::Multiply;
 use reading::{List, read};
 use removing::Removal;
@@ -24,30 +24,50 @@ use std::hash::{BuildHasher, BuildHasherDefault, RandomState};
 use std::io::{Read, Write};
 use store::Store;
 
-fn run<S: BuildHasher + Default>(step: &str, bytes: &[u8]) -> String {
-    let list: List<S> = read(bytes).expect("a good list");
-    if step == "read" {
-        return format!("rules {}\n", list.rules.len());
+/// A list that composes to more entries is refused.
+const MOST_ENTRIES: u128 = 262_144;
+
+/// What comes of each step, and its nanoseconds.
+fn phases<S: BuildHasher + Default>(bytes: &[u8]) -> String {
+    let (list, time) = timed(|| read::<S>(bytes).expect("a good list"));
+    let mut told = format!("rules {} nanoseconds {time}\n", list.rules.len());
+    let ((store, root), time) = timed(|| {
+        let mut store = Store::<S>::new();
+        let root = store.build(&list.rules);
+        (store, root)
+    });
+    told += &format!("nodes {} nanoseconds {time}\n", store.nodes.len());
+    let (cost, time) = timed(|| planning::cost(&store, root));
+    told += &format!("cost {cost} nanoseconds {time}\n");
+    if cost > MOST_ENTRIES {
+        return told;
     }
+    let (plans, time) = timed(|| planning::plans(&store, root));
+    let (count, sum) = plans.checksum();
+    told += &format!("rows {count} checksum {sum} nanoseconds {time}\n");
+    let (entries, time) = timed(|| {
+        let kept = Removal::<S>::default().of_diagram(&store, &plans, root);
+        writing::entries(&store, &plans, root, &kept.kept)
+    });
+    told + &format!("entries {} nanoseconds {time}\n", entries.len())
+}
+
+fn table<S: BuildHasher + Default>(bytes: &[u8]) -> String {
+    let list: List<S> = read(bytes).expect("a good list");
     let mut store = Store::<S>::new();
     let root = store.build(&list.rules);
-    if step == "diagram" {
-        return format!("nodes {}\n", store.nodes.len());
-    }
-    if step == "cost" {
-        return format!("cost {}\n", planning::cost(&store, root));
-    }
     let plans = planning::plans(&store, root);
-    if step == "lists" {
-        let (count, sum) = plans.checksum();
-        return format!("rows {count} checksum {sum}\n");
-    }
     let kept = Removal::<S>::default().of_diagram(&store, &plans, root);
     let entries = writing::entries(&store, &plans, root, &kept.kept);
-    if step == "remove" {
-        return format!("entries {}\n", entries.len());
-    }
     writing::table(&list, plans.costs[root], &entries)
+}
+
+fn run<S: BuildHasher + Default>(step: &str, bytes: &[u8]) -> String {
+    match step {
+        "phases" => phases::<S>(bytes),
+        "table" => table::<S>(bytes),
+        _ => panic!("the work is phases or table"),
+    }
 }
 
 fn main() {

@@ -1,6 +1,6 @@
 //! The program `razor_bench`: does the work that its words name and prints what came of it.
 //!
-//! It measures nothing but commits: the scripts under `bench/` time it from outside.
+//! It measures nothing but commits and the steps of a compilation: the scripts under `bench/` time it from outside.
 //!
 //! ```text
 //! razor_bench nodes 1000000
@@ -11,9 +11,7 @@
 //! razor_bench read 20 < LIST
 //! razor_bench diagram 20 < LIST
 //! razor_bench cost 20 < LIST
-//! razor_bench lists 20 < LIST
-//! razor_bench compose 20 < LIST
-//! razor_bench remove 20 < LIST
+//! razor_bench phases 20 < LIST
 //! razor_bench tables 20 < TABLE
 //! razor_bench session 1 1000 < LIST
 //! razor_bench anew 1 100 < LIST
@@ -31,6 +29,7 @@ mod lists;
 mod minimise;
 mod nodes;
 mod numbers;
+mod phases;
 mod pieces;
 mod plan;
 mod read;
@@ -49,6 +48,7 @@ fn main(rt: HostRuntime) -> anyhow::Result<()> {
         Work::Read(times) => read::run(&rt, times),
         Work::Tables(times) => tables::run(&rt, times),
         Work::Compile { step, times } => compile::run(&rt, step, times),
+        Work::Phases(times) => phases::run(&rt, times),
         Work::Commits {
             way,
             edits,

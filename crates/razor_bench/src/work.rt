@@ -22,6 +22,8 @@ pub enum Work {
     Tables(u32),
     /// Compile the filter list on standard input so far, so often.
     Compile { step: Step, times: u32 },
+    /// Compile the filter list on standard input, so often, and time each step.
+    Phases(u32),
     /// Edit the filter list on standard input and commit it, so many edits a commit, so often.
     Commits { way: Way, edits: u32, commits: u32 },
 }
@@ -48,9 +50,7 @@ impl Work {
             "tables" => Ok(Work::Tables(size)),
             "diagram" => Ok(Work::compile(Step::Diagram, size)),
             "cost" => Ok(Work::compile(Step::Cost, size)),
-            "lists" => Ok(Work::compile(Step::Lists, size)),
-            "compose" => Ok(Work::compile(Step::Table, size)),
-            "remove" => Ok(Work::compile(Step::Removal, size)),
+            "phases" => Ok(Work::Phases(size)),
             "session" => Ok(Work::commits(Way::Session, size, times)),
             "anew" => Ok(Work::commits(Way::Anew, size, times)),
             "both" => Ok(Work::commits(Way::Both, size, times)),
@@ -74,7 +74,7 @@ impl Work {
     pub fn of_words(rt: &(impl Env + AllocGlobal)) -> Result<Work> {
         let mut words = env::args(rt)?.skip(1);
         let name = words.next().context(
-            "nodes, minimise, build, unions, crossed, read, tables, diagram, cost, lists, compose, remove, session, anew or both, and a size",
+            "nodes, minimise, build, unions, crossed, read, tables, diagram, cost, phases, session, anew or both, and a size",
         )?;
         let size = words.next().context("a size")?;
         let times = match words.next() {

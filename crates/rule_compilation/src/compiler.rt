@@ -73,7 +73,7 @@ impl Compiler {
         orders();
         let mut kept = self.taken()?;
         let made = kept.compile(self.alloc, stated_fields(), rules, names, limit, slot);
-        self.put_back(kept, &made);
+        self.kept = lasting(kept, &made);
         made
     }
 
@@ -82,38 +82,35 @@ impl Compiler {
         ensures { IfOk result (IsTrue stated) }
     {
         orders();
-        match self.kept.take() {
-            Some(kept) => Ok(kept),
-            None => Kept::new(self.alloc, stated_fields()),
+        if let Some(kept) = self.kept.take() {
+            return Ok(kept);
         }
-    }
-
-    /// Keeps it, unless memory was refused meanwhile, or it has doubled.
-    ///
-    /// What has doubled is given back now and not with the next list, which is compiled anew: each of the two takes no
-    /// longer than compiling anew alone.
-    fn put_back(&mut self, kept: Kept<'static>, made: &Result<Table, ComposeError>)
-        requires { UnlessMemory made.now (IsTrue stated kept) }
-    {
-        if let Some(mut kept) = lasting(kept, made) {
-            kept.count_first();
-            if !kept.has_doubled() {
-                self.kept = Some(kept);
-            }
-        }
+        Kept::new(self.alloc, stated_fields())
     }
 }
 
-/// What is kept, if memory wasn't refused.
+/// What is kept, unless memory was refused, or it has doubled.
 fn lasting(kept: Kept<'static>, made: &Result<Table, ComposeError>) -> Option<Kept<'static>>
     requires { UnlessMemory made.now (IsTrue stated kept) }
     ensures { IfSome result (IsTrue stated) }
 {
     match made {
-        Ok(_) => Some(kept),
-        Err(ComposeError::TooMany { .. }) => Some(kept),
+        Ok(_) => unless_doubled(kept),
+        Err(ComposeError::TooMany { .. }) => unless_doubled(kept),
         Err(ComposeError::Memory) => None,
     }
+}
+
+/// What is kept, unless it has doubled.
+///
+/// What has doubled is given back now, and not with the next list, which is compiled anew: so each of the two takes no
+/// longer than compiling anew alone.
+fn unless_doubled(mut kept: Kept<'static>) -> Option<Kept<'static>>
+    requires { IsTrue stated kept }
+    ensures { IfSome result (IsTrue stated) }
+{
+    kept.count_first();
+    if kept.has_doubled() { None } else { Some(kept) }
 }
 
 /// The stated order, for good.

@@ -15,8 +15,8 @@ compile-made-requires-clause-order c = subst IsOrder (sym c.stated_fields.ensure
 pub compile-made-requires-clause-kept : goal.compile-made-requires-clause-kept
 compile-made-requires-clause-kept c = subst (λ (order : List ℕ). IsTrue order c.in_ok-kept.kept) (sym c.stated_fields.ensures) c.in_ok-kept.ensures
 
-pub put_back-requires : goal.put_back-requires
-put_back-requires c = subst (λ (order : List ℕ). UnlessMemory c.compile-made.result (IsTrue order c.compile-made.new.self)) c.stated_fields.ensures c.compile-made.ensures.kept
+pub lasting-requires : goal.lasting-requires
+lasting-requires c = subst (λ (order : List ℕ). UnlessMemory c.compile-made.result (IsTrue order c.compile-made.new.self)) c.stated_fields.ensures c.compile-made.ensures.kept
 
 pub returns-clause-table : goal.returns-clause-table
 returns-clause-table c =

@@ -1,4 +1,0 @@
-use Rattle.razor_bench.proofs.compile.planned.Goals as goal
-
-pub learn-requires-clause-plans : goal.learn-requires-clause-plans
-learn-requires-clause-plans c = c.new-plans.ensures c.args.store.now
