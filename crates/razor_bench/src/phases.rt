@@ -1,15 +1,17 @@
 //! The steps of compiling a list, one after another, and how long each takes of its processor.
-ghost use Rattle.std.specs.Prelude.{◌≡◌};
+ghost use Rattle.std.specs.Prelude.{◌≡◌, IfOk};
 ghost use Rattle.field_boxes.specs.Fields.{stated};
 ghost use Rattle.node_store.specs.Diagram.{level_of};
+ghost use Rattle.table_compose.specs.Plans.{ArePlansOf};
 
 use crate::input::{input, list_of};
 use anyhow::{Result, bail};
 use fdd_build::build;
 use node_store::{NodeId, Store, stated_order};
 use razor_base::limits::{MOST_ENTRIES, MOST_LIST_BYTES};
-use redundancy::Removal;
+use redundancy::{Removal, TightTable};
 use redundancy_laws::laws::orders;
+use std::alloc::Global;
 use std::fs::Files;
 use std::time::{CpuClock, Duration};
 use table_compose::{Plans, Row, cost};
@@ -52,32 +54,49 @@ fn costed(rt: &(impl Print + CpuClock + AllocGlobal), store: &Store, root: NodeI
     Ok(cost)
 }
 
-/// Finds the cheapest prefix lists of the diagram's nodes, and removes entries of the table that is composed of them.
+/// Finds the cheapest prefix lists of the diagram's nodes, and what stays of the table that is composed of them.
 fn tight(rt: &(impl Print + CpuClock + AllocGlobal), store: &Store, root: NodeId) -> Result<()>
     requires { level_of store.now root.0 ≡ stated }
 {
-    orders();
-    let order = stated_order();
-    let mut plans = Plans::new(rt.alloc());
     let start = rt.thread_cpu_time()?;
-    if plans
-        .learn(rt.alloc(), store, &order, root, MOST_ENTRIES)
-        .is_err()
-    {
-        bail!("no prefix lists are found");
-    }
+    let mut plans = planned(rt.alloc(), store, root)?;
     let time = since(rt, start)?;
     let RowTally { rows, sum } = RowTally::of(&plans);
     println!(rt; "rows {rows} checksum {sum} nanoseconds {time}")?;
     let start = rt.thread_cpu_time()?;
-    let mut removal = Removal::new(rt.alloc());
-    let Ok(table) = removal.compose_tight(rt.alloc(), store, &mut plans, &order, root, MOST_ENTRIES)
-    else {
-        bail!("no table is composed");
-    };
+    let table = removed(rt.alloc(), store, &mut plans, root)?;
     let time = since(rt, start)?;
     println!(rt; "entries {} nanoseconds {time}", table.entries.len())?;
     Ok(())
+}
+
+/// The cheapest prefix lists of the diagram's nodes.
+fn planned(alloc: Global, store: &Store, root: NodeId) -> Result<Plans>
+    requires { level_of store.now root.0 ≡ stated }
+    ensures { IfOk result (ArePlansOf store.now) }
+{
+    let mut plans = Plans::new(alloc);
+    if plans
+        .learn(alloc, store, &stated_order(), root, MOST_ENTRIES)
+        .is_err()
+    {
+        bail!("no prefix lists are found");
+    }
+    Ok(plans)
+}
+
+/// What stays of the table that is composed of the lists.
+fn removed(alloc: Global, store: &Store, plans: &mut Plans, root: NodeId) -> Result<TightTable>
+    requires root { level_of store.now root.0 ≡ stated }
+    requires plans { ArePlansOf store.now plans.old }
+{
+    orders();
+    let order = stated_order();
+    let mut removal = Removal::new(alloc);
+    match removal.compose_tight(alloc, store, plans, &order, root, MOST_ENTRIES) {
+        Ok(table) => Ok(table),
+        Err(_) => bail!("no table is composed"),
+    }
 }
 
 /// The nanoseconds since the time.
