@@ -1,5 +1,5 @@
 -- What a part saves, once the part beside it is joined with it.
-use Rattle.std.specs.Prelude.{◌≡◌, ℕ, suc, ◌+◌, ◌<◌, ◌≤◌, ◌==◌, List, [], ◌∷◌, ◌++◌, cond, nat_lt, length, slice_index, slice_index_or}
+use Rattle.std.specs.Prelude.{◌≡◌, ℕ, suc, ◌+◌, ◌<◌, ◌≤◌, ◌==◌, List, [], ◌∷◌, ◌++◌, cond, nat_lt, length, slice_index, slice_index_or, take, drop}
 use Rattle.prefix_min.specs.declared.savings.Gain.{Gain}
 use Rattle.prefix_min.specs.declared.savings.LabelCost.{LabelCost}
 use Rattle.prefix_min.specs.Costs.{Lists, RisesFrom}
@@ -43,3 +43,8 @@ pub record IsJoined (weights : List ℕ) (low high before after : List LabelCost
   pub gain : IsGain weights low high g.gain g.best
   pub savings : after ≡ before ++ lowered g.gain sums
   pub also : also_after ≡ also_before ++ more_labels g sums
+
+-- the list is cut at the place, behind which one entry alone stood
+pub record IsTaken (cut all : List LabelCost) (middle : ℕ) (one : LabelCost) : Type 0 where
+  pub front : cut ≡ take middle all
+  pub last : drop middle all ≡ one ∷ []

@@ -1,5 +1,5 @@
 -- What a part saves, by the label that it inherits.
-use Rattle.std.specs.Prelude.{◌≡◌, ℕ, ◌+◌, ◌-◌, ◌<◌, ◌≤◌, ◌⊎◌, ◌&&◌, ◌==◌, List, [], ◌∷◌, cond, nat_le, nat_lt, not, slice_index}
+use Rattle.std.specs.Prelude.{◌≡◌, ℕ, ◌+◌, ◌-◌, ◌<◌, ◌≤◌, ◌⊎◌, ◌&&◌, ◌==◌, List, [], ◌∷◌, ◌++◌, Option, Some, None, cond, nat_le, nat_lt, not, slice_index}
 use Rattle.prefix_min.specs.declared.savings.LabelCost.{LabelCost}
 use Rattle.prefix_min.specs.declared.savings.Gain.{Gain}
 use Rattle.prefix_min.specs.Costs.{Costs, Has, Lists, RisesFrom, cost_in, least_cost}
@@ -50,3 +50,8 @@ raised g label saves weight = cond (nat_lt g.gain (saves - weight)) (record { ga
 -- one label that saves all that it weighs
 abbrev pub alone : List ℕ → ℕ → List LabelCost
 alone weights y = record { label = y; cost = slice_index weights y } ∷ []
+
+-- the savings with what was handed over behind them
+abbrev pub with_one : List LabelCost → Option LabelCost → List LabelCost
+with_one savings None = savings
+with_one savings (Some one) = savings ++ one ∷ []

@@ -11,6 +11,7 @@
 //! ```
 #![tactic(auto)]
 
+mod appending;
 mod cheapest;
 mod costing;
 pub mod laws;

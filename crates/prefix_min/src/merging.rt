@@ -1,11 +1,12 @@
 //! What a part that grows saves, once the part beside it is joined with it.
-ghost use Rattle.std.specs.Prelude.{◌≡◌, ◌≢◌, ℕ, ◌++◌, ◌∷◌, ◌<◌, ◌≤◌, ◌+◌, ◌-◌, ◌^◌, [], IfOk, IfSome, IsFalse, IsTrue, OnOk, length, slice_index, take, drop};
+ghost use Rattle.std.specs.Prelude.{◌≡◌, ◌≢◌, ℕ, ◌++◌, ◌∷◌, ◌<◌, ◌≤◌, ◌+◌, ◌-◌, ◌^◌, [], IfOk, IfSome, IsFalse, IsSome, IsTrue, MatchOption, OnOk, length, slice_index, take, drop};
 ghost use Rattle.prefix_min.specs.Costs.{RisesFrom};
-ghost use Rattle.prefix_min.specs.Merging.{AreAbove, AreKept, IsJoined, StandsAt, count_below, merged};
+ghost use Rattle.prefix_min.specs.Merging.{AreAbove, AreKept, IsJoined, IsTaken, StandsAt, count_below, merged};
 ghost use Rattle.prefix_min.specs.Plan.{more_labels};
-ghost use Rattle.prefix_min.specs.Savings.{lowered, saved};
+ghost use Rattle.prefix_min.specs.Savings.{lowered, saved, with_one};
 
-use crate::savings::{Gain, LabelCost, join, lower, put_more};
+use crate::appending::append;
+use crate::savings::{Gain, LabelCost, join, put_more};
 use bumpalo::Bump;
 use razor_base::Memory;
 
@@ -54,14 +55,18 @@ fn merge(
         };
         return Ok(cost.saturating_sub(weight));
     }
-    savings.insert(place, one)?;
+    // Made anew, so that no padding is carried along to here.
+    let entry = LabelCost {
+        label: one.label,
+        cost: one.cost,
+    };
+    savings.insert(place, entry)?;
     Ok(0)
 }
 
 /// Takes the gain off what stands from `start` on, and puts its further labels behind the others.
 fn settle(
     savings: &mut Vec<LabelCost>,
-    sums: &mut Vec<LabelCost>,
     also: &mut Vec<u32, &Bump>,
     start: usize,
     gain: Gain,
@@ -74,18 +79,28 @@ fn settle(
     if gain.gain == 0 {
         return Ok(());
     }
-    put_more(also, &savings[start..], gain)?;
-    sums.clear();
-    lower(sums, &savings[start..], gain.gain)?;
-    savings.truncate(start);
-    savings.extend_from_slice(sums)?;
+    let mut kept = start;
+    for place in start..savings.len() {
+        let entry = savings[place];
+        if gain.gain <= entry.cost && entry.label != gain.best {
+            append(also, entry.label)?;
+        }
+        if gain.gain < entry.cost {
+            savings[kept] = LabelCost {
+                label: entry.label,
+                cost: entry.cost - gain.gain,
+            };
+            kept += 1;
+        }
+    }
+    savings.truncate(kept);
     Ok(())
 }
 
 /// Joins what stands from `start` on with what one label saves beside it.
+#[inline(always)]
 fn join_one(
     savings: &mut Vec<LabelCost>,
-    sums: &mut Vec<LabelCost>,
     also: &mut Vec<u32, &Bump>,
     start: usize,
     one: LabelCost,
@@ -103,7 +118,7 @@ fn join_one(
         gain: over,
         best: one.label,
     };
-    settle(savings, sums, also, start, gain)?;
+    settle(savings, also, start, gain)?;
     Ok(gain)
 }
 
@@ -139,28 +154,47 @@ fn last_one(savings: &[LabelCost], middle: usize) -> Option<LabelCost>
     Some(*one)
 }
 
+/// What the other part saves, if that is by one label alone: what was handed over, or else it is taken from the end.
+#[inline(always)]
+fn taken(savings: &mut Vec<LabelCost>, middle: usize, other: Option<LabelCost>) -> Option<LabelCost>
+    requires to { middle ≤ length (with_one savings.old.items other) }
+    requires apart { IsSome other → length savings.old.items ≡ middle }
+    ensures { MatchOption result (savings.new.items ≡ with_one savings.old.items other) (λ one. IsTaken savings.new.items (with_one savings.old.items other) middle one) }
+{
+    if let Some(one) = other {
+        return Some(one);
+    }
+    let Some(one) = last_one(savings, middle) else {
+        return None;
+    };
+    savings.truncate(middle);
+    Some(one)
+}
+
 /// Joins what two parts save, which stands from `start` and from `middle` on, and puts the further labels of their
-/// gain behind the others.
+/// gain behind the others. What the other part saves by one label alone may be handed over in place of that.
 ///
 /// Where the other part saves by one label alone, as most do, no list is read but for a gain.
+#[inline(always)]
 pub fn join_parts(
     savings: &mut Vec<LabelCost>,
     sums: &mut Vec<LabelCost>,
     also: &mut Vec<u32, &Bump>,
     start: usize,
     middle: usize,
+    other: Option<LabelCost>,
     weights: &[u128],
 ) -> Result<Gain, Memory>
     requires from { start ≤ middle }
-    requires to { middle ≤ length savings.old.items }
-    requires low { AreKept weights.now (take (middle - start) (drop start savings.old.items)) }
-    requires high { AreKept weights.now (drop middle savings.old.items) }
-    requires room { (d : ℕ) → saved (take (middle - start) (drop start savings.old.items)) d + saved (drop middle savings.old.items) d < 2 ^ 128 }
-    ensures { IfOk result (λ g. IsJoined weights.now (take (middle - start) (drop start savings.old.items)) (drop middle savings.old.items) (take start savings.old.items) savings.new.items also.old.items also.new.items g) }
+    requires to { middle ≤ length (with_one savings.old.items other) }
+    requires apart { IsSome other → length savings.old.items ≡ middle }
+    requires low { AreKept weights.now (take (middle - start) (drop start (with_one savings.old.items other))) }
+    requires high { AreKept weights.now (drop middle (with_one savings.old.items other)) }
+    requires room { (d : ℕ) → saved (take (middle - start) (drop start (with_one savings.old.items other))) d + saved (drop middle (with_one savings.old.items other)) d < 2 ^ 128 }
+    ensures { IfOk result (λ g. IsJoined weights.now (take (middle - start) (drop start (with_one savings.old.items other))) (drop middle (with_one savings.old.items other)) (take start (with_one savings.old.items other)) savings.new.items also.old.items also.new.items g) }
 {
-    let Some(one) = last_one(savings, middle) else {
+    let Some(one) = taken(savings, middle, other) else {
         return join_lists(savings, sums, also, start, middle, weights);
     };
-    savings.truncate(middle);
-    join_one(savings, sums, also, start, one, weights)
+    join_one(savings, also, start, one, weights)
 }

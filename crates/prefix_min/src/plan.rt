@@ -2,6 +2,7 @@
 ghost use Rattle.std.specs.Prelude.{◌≡◌, ◌++◌, ◌∷◌, [], ◌+◌, ◌<◌, ◌^◌, ℕ, OnOk, length, ◌≤◌, ◌-◌, reverse, take, drop};
 ghost use Rattle.prefix_min.specs.Plan.{Forest, IsLaid, among, more_choices, own_choice, rows_of, silent};
 
+use crate::appending::append;
 use crate::parts::Part;
 use crate::row::PrefixRow;
 use crate::savings::Gain;
@@ -45,15 +46,15 @@ pub fn put(
 ) -> Result<(), Memory>
     ensures { OnOk result (choices.new.items ≡ choices.old.items ++ own_choice part.low part.bits label below also also ∷ []) }
 {
-    choices.push(Choice {
+    let choice = Choice {
         value: part.low,
         bits: part.bits,
         label,
         below,
         also,
         end: also,
-    })?;
-    Ok(())
+    };
+    append(choices, choice)
 }
 
 /// Puts down what a part with this gain chooses, where its further labels stand between two places.
@@ -70,15 +71,15 @@ pub fn choose(
     if gain.gain == 0 {
         return Ok(());
     }
-    choices.push(Choice {
+    let choice = Choice {
         value: part.low,
         bits: part.bits,
         label: gain.best,
         below,
         also,
         end,
-    })?;
-    Ok(())
+    };
+    append(choices, choice)
 }
 
 /// The choices of parts that are done, and how many bits the field has.

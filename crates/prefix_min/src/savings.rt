@@ -1,9 +1,11 @@
 //! What a part saves, from what its halves save.
-ghost use Rattle.std.specs.Prelude.{◌≡◌, ℕ, ◌++◌, ◌∷◌, ◌⊎◌, ◌<◌, ◌≤◌, ◌+◌, ◌-◌, ◌^◌, [], IfOk, OnOk, MatchOption, length, take, drop};
+ghost use Rattle.std.specs.Prelude.{◌≡◌, ℕ, List, ◌++◌, ◌∷◌, ◌⊎◌, ◌<◌, ◌≤◌, ◌+◌, ◌-◌, ◌^◌, [], IfOk, OnOk, MatchOption, length, take, drop};
 ghost use Rattle.prefix_min.specs.Costs.{IsHead, Lists, RisesFrom, after};
 ghost use Rattle.prefix_min.specs.Plan.{more_labels};
-ghost use Rattle.prefix_min.specs.Savings.{AreSums, IsGain, further, lowered, raised, saved};
+ghost use Rattle.prefix_min.specs.Savings.{AreSums, IsGain, further, lowered, raised, saved, with_one};
+ghost use Rattle.prefix_min.specs.declared.savings.LabelCost.{LabelCost};
 
+use crate::appending::append;
 use bumpalo::Bump;
 use razor_base::Memory;
 
@@ -105,7 +107,7 @@ fn add(
 }
 
 /// Puts the sums, less the gain, behind the savings.
-pub fn lower(savings: &mut Vec<LabelCost>, sums: &[LabelCost], gain: u128) -> Result<(), Memory>
+fn lower(savings: &mut Vec<LabelCost>, sums: &[LabelCost], gain: u128) -> Result<(), Memory>
     ensures { OnOk result (savings.new.items ≡ savings.old.items ++ lowered gain sums.now) }
 {
     for entry in sums {
@@ -119,17 +121,26 @@ pub fn lower(savings: &mut Vec<LabelCost>, sums: &[LabelCost], gain: u128) -> Re
     Ok(())
 }
 
-/// Puts what a part of one label saves behind the savings.
-pub fn put_one(savings: &mut Vec<LabelCost>, label: u32, weight: u128) -> Result<(), Memory>
-    ensures { OnOk result (savings.new.items ≡ savings.old.items ++ lowered 0 (record { label = label; cost = weight } ∷ [])) }
+/// What a part of one label saves, unless that is nothing.
+pub fn saving_of(label: u32, weight: u128) -> Option<LabelCost>
+    ensures { (savings : List LabelCost) → with_one savings result ≡ savings ++ lowered 0 (record { label = label; cost = weight } ∷ []) }
 {
     if weight == 0 {
-        return Ok(());
+        return None;
     }
-    savings.push(LabelCost {
+    Some(LabelCost {
         label,
         cost: weight,
-    })?;
+    })
+}
+
+/// Puts what was handed over behind the savings.
+pub fn keep(savings: &mut Vec<LabelCost>, one: Option<LabelCost>) -> Result<(), Memory>
+    ensures { OnOk result (savings.new.items ≡ with_one savings.old.items one) }
+{
+    if let Some(entry) = one {
+        savings.push(entry)?;
+    }
     Ok(())
 }
 
@@ -139,7 +150,7 @@ fn put_further(also: &mut Vec<u32, &Bump>, sums: &[LabelCost], gain: Gain) -> Re
 {
     for entry in sums {
         if gain.gain <= entry.cost && entry.label != gain.best {
-            also.push(entry.label)?;
+            append(also, entry.label)?;
         }
     }
     Ok(())

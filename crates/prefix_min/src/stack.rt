@@ -1,10 +1,10 @@
 //! What each part of the field costs and saves.
-ghost use Rattle.std.specs.Prelude.{◌≡◌, ◌≤◌, ◌<◌, ◌+◌, ◌%◌, ◌^◌, ℕ, [], length, OnOk, IfOk, IsTrue, MatchOption, slice_index, drop};
+ghost use Rattle.std.specs.Prelude.{◌≡◌, ◌≤◌, ◌<◌, ◌+◌, ◌%◌, ◌^◌, ℕ, [], length, OnOk, IfOk, IsSome, IsTrue, MatchOption, slice_index, drop};
 ghost use Rattle.prefix_min.specs.Costs.{Lists, RisesFrom};
 ghost use Rattle.prefix_min.specs.Built.{IsBuilt};
 ghost use Rattle.prefix_min.specs.Growth.{IsBeside, IsHalf, IsPut, IsStretch, end_of};
 ghost use Rattle.prefix_min.specs.Field.{IsFull, IsFullLabel, IsLeastFull, IsWhole, SomeFull, lesser};
-ghost use Rattle.prefix_min.specs.Savings.{alone, saved};
+ghost use Rattle.prefix_min.specs.Savings.{alone, saved, with_one};
 ghost use Rattle.prefix_min.specs.Pieces.{reach};
 ghost use Rattle.prefix_min.specs.NextPiece.{AreFit, IsNext, weight_below};
 
@@ -12,7 +12,7 @@ use crate::merging::join_parts;
 use crate::parts::{Part, about, end, middle, top, widest};
 use crate::piece::Piece;
 use crate::plan::{Choice, choose, put};
-use crate::savings::{LabelCost, join, put_one};
+use crate::savings::{LabelCost, join, keep, saving_of};
 use bumpalo::Bump;
 use razor_base::Memory;
 use std::alloc::Global;
@@ -74,7 +74,6 @@ pub struct Field<'b> {
 
 impl Field<'_> {
     /// Does the part of `bits` bits from `low` on.
-    #[cycle(growing)]
     pub fn part(&self, stack: &mut Stack, bits: u8, low: u32) -> Result<(), Memory>
         requires fit { AreFit self.now.weights.now self.now.pieces.now }
         requires next { IsNext self.now.pieces.now stack.old.next low }
@@ -84,19 +83,39 @@ impl Field<'_> {
         requires light { stack.old.cost ≤ weight_below self.now.weights.now 0 self.now.pieces.now low }
         ensures { OnOk result (IsBuilt self.now.weights.now self.now.pieces.now bits low stack.old.savings.items stack.new.savings.items stack.old.cost stack.new.cost stack.new.next stack.old.choices.items stack.new.choices.items stack.old.also.items stack.new.also.items) }
     {
+        let one = self.apart(stack, bits, low)?;
+        keep(&mut stack.savings, one)
+    }
+
+    /// Does the part of `bits` bits from `low` on. What it saves stands behind the others, or is handed over where
+    /// that is by one label alone.
+    #[inline(always)]
+    #[cycle(growing)]
+    fn apart(&self, stack: &mut Stack, bits: u8, low: u32) -> Result<Option<LabelCost>, Memory>
+        requires fit { AreFit self.now.weights.now self.now.pieces.now }
+        requires next { IsNext self.now.pieces.now stack.old.next low }
+        requires wide { bits ≤ 32 }
+        requires aligned { low % 2 ^ bits ≡ 0 }
+        requires within { low + 2 ^ bits ≤ reach 0 self.now.pieces.now }
+        requires light { stack.old.cost ≤ weight_below self.now.weights.now 0 self.now.pieces.now low }
+        ensures built { IfOk result (λ one. IsBuilt self.now.weights.now self.now.pieces.now bits low stack.old.savings.items (with_one stack.new.savings.items one) stack.old.cost stack.new.cost stack.new.next stack.old.choices.items stack.new.choices.items stack.old.also.items stack.new.also.items) }
+        ensures apart { IfOk result (λ one. IsSome one → stack.new.savings.items ≡ stack.old.savings.items) }
+    {
         let first = stack.next;
         let piece = self.pieces[first];
         let whole = Part { low, bits };
         let limit = end(whole);
         if u64::from(piece.hi) + 1 < limit {
-            return self.grown(stack, bits, low);
+            self.grown(stack, bits, low)?;
+            return Ok(None);
         }
-        self.one(stack, piece.label, whole)?;
+        let one = self.lone(stack, piece.label, whole)?;
         stack.next = self.behind(first, limit);
-        Ok(())
+        Ok(one)
     }
 
     /// Does a part in which the first piece ends, from the greatest part on that ends where this piece does.
+    #[inline(never)]
     #[cycle(growing)]
     fn grown(&self, stack: &mut Stack, bits: u8, low: u32) -> Result<(), Memory>
         requires fit { AreFit self.now.weights.now self.now.pieces.now }
@@ -119,18 +138,20 @@ impl Field<'_> {
         let mut part = widest(last, bits, u64::from(piece.hi) + 1);
         self.one(stack, piece.label, part)?;
         stack.next = first + 1;
+        let mut stretches = true;
         while part.bits < bits {
-            let wide = self.stretch(stack, start, piece.label, part, bits);
+            let wide = self.stretch(stack, start, piece.label, part, bits, stretches);
             if part.bits < wide.bits {
                 let also = stack.also.len();
                 put(&mut stack.choices, also, piece.label, wide, below)?;
                 stack.next = self.behind(stack.next, end(wide));
                 part = wide;
+                stretches = false;
                 continue;
             }
             let about = about(part);
             let middle = stack.savings.len();
-            self.beside(stack, first, part, about)?;
+            let other = self.beside(stack, first, part, about)?;
             let start_also = stack.also.len();
             let gain = join_parts(
                 &mut stack.savings,
@@ -138,9 +159,11 @@ impl Field<'_> {
                 &mut stack.also,
                 start,
                 middle,
+                other,
                 self.weights,
             )?;
             stack.cost -= gain.gain;
+            stretches = gain.best == piece.label;
             let end_also = stack.also.len();
             choose(&mut stack.choices, gain, about, below, start_also, end_also)?;
             part = about;
@@ -148,38 +171,60 @@ impl Field<'_> {
         Ok(())
     }
 
-    /// Does the other half of the part about this one. Below this one all values have the first piece's label.
+    /// Does the other half of the part about this one. Below this one all values have the first piece's label. What
+    /// it saves stands behind the others, or is handed over where that is by one label alone.
+    #[inline(always)]
     #[cycle(growing)]
-    fn beside(&self, stack: &mut Stack, first: usize, part: Part, about: Part) -> Result<(), Memory>
+    fn beside(
+        &self,
+        stack: &mut Stack,
+        first: usize,
+        part: Part,
+        about: Part,
+    ) -> Result<Option<LabelCost>, Memory>
         requires fit { AreFit self.now.weights.now self.now.pieces.now }
         requires next { IsNext self.now.pieces.now stack.old.next (part.low + 2 ^ part.bits) }
         requires wide { part.bits < 32 }
         requires half { IsHalf self.now.pieces.now first part about }
         requires light { stack.old.cost ≤ weight_below self.now.weights.now 0 self.now.pieces.now (part.low + 2 ^ part.bits) }
-        ensures { OnOk result (IsBeside self.now.weights.now self.now.pieces.now first part about stack.old.savings.items stack.new.savings.items stack.old.cost stack.new.cost stack.old.next stack.new.next stack.old.choices.items stack.new.choices.items stack.old.also.items stack.new.also.items) }
+        ensures built { IfOk result (λ one. IsBeside self.now.weights.now self.now.pieces.now first part about stack.old.savings.items (with_one stack.new.savings.items one) stack.old.cost stack.new.cost stack.old.next stack.new.next stack.old.choices.items stack.new.choices.items stack.old.also.items stack.new.also.items) }
+        ensures apart { IfOk result (λ one. IsSome one → stack.new.savings.items ≡ stack.old.savings.items) }
     {
         if about.low < part.low {
             let lower = Part {
                 low: about.low,
                 bits: part.bits,
             };
-            return self.one(stack, self.pieces[first].label, lower);
+            return self.lone(stack, self.pieces[first].label, lower);
         }
-        self.part(stack, part.bits, end(part) as u32)
+        self.apart(stack, part.bits, end(part) as u32)
     }
 
-    /// Puts down a part of one label.
+    /// Puts down a part of one label, and what it saves behind the others.
+    #[inline(always)]
     fn one(&self, stack: &mut Stack, label: u32, part: Part) -> Result<(), Memory>
         requires place { label < length self.now.weights.now }
         requires room { stack.old.cost + slice_index self.now.weights.now label < 2 ^ 128 }
         ensures { OnOk result (IsPut self.now.weights.now label part stack.old.savings.items stack.new.savings.items stack.old.cost stack.new.cost stack.old.next stack.new.next stack.old.choices.items stack.new.choices.items stack.old.also.items stack.new.also.items) }
+    {
+        let saving = self.lone(stack, label, part)?;
+        keep(&mut stack.savings, saving)
+    }
+
+    /// Puts down a part of one label, and hands over what it saves.
+    #[inline(always)]
+    fn lone(&self, stack: &mut Stack, label: u32, part: Part) -> Result<Option<LabelCost>, Memory>
+        requires place { label < length self.now.weights.now }
+        requires room { stack.old.cost + slice_index self.now.weights.now label < 2 ^ 128 }
+        ensures put { IfOk result (λ one. IsPut self.now.weights.now label part stack.old.savings.items (with_one stack.new.savings.items one) stack.old.cost stack.new.cost stack.old.next stack.new.next stack.old.choices.items stack.new.choices.items stack.old.also.items stack.new.also.items) }
+        ensures apart { stack.new.savings.items ≡ stack.old.savings.items }
     {
         let weight = self.weights[label as usize];
         stack.cost += weight;
         let below = stack.choices.len();
         let also = stack.also.len();
         put(&mut stack.choices, also, label, part, below)?;
-        put_one(&mut stack.savings, label, weight)
+        Ok(saving_of(label, weight))
     }
 
     /// The place of the first piece that reaches the limit, where the one at this place reaches it or ends before.
@@ -197,8 +242,17 @@ impl Field<'_> {
     }
 
     /// The greatest part about this one, of no more than `most` bits, beside which there is only the label
-    /// by which alone this one saves anything; or this one.
-    fn stretch(&self, stack: &Stack, start: usize, label: u32, part: Part, most: u8) -> Part
+    /// by which alone this one saves anything; or this one. It is looked for only where it may be.
+    #[inline(always)]
+    fn stretch(
+        &self,
+        stack: &Stack,
+        start: usize,
+        label: u32,
+        part: Part,
+        most: u8,
+        may: bool,
+    ) -> Part
         requires place { label < length self.now.weights.now }
         requires start { start ≤ length stack.now.savings.items }
         requires next { IsNext self.now.pieces.now stack.now.next (part.low + 2 ^ part.bits) }
@@ -207,7 +261,7 @@ impl Field<'_> {
         requires aligned { part.low % 2 ^ part.bits ≡ 0 }
         ensures { part.bits < result.bits → IsStretch self.now.weights.now self.now.pieces.now (drop start stack.now.savings.items) label part most stack.now.next result }
     {
-        if !is_alone(&stack.savings[start..], label, self.weights) {
+        if !may || !is_alone(&stack.savings[start..], label, self.weights) {
             return part;
         }
         let Some(piece) = self.pieces.get(stack.next) else {

@@ -1,10 +1,11 @@
 -- The edges of a node: where they lead is older, and is marked edge by edge.
-use Rattle.std.proofs.Common.{◌≡◌, ◌∷◌, ℕ, suc, List, [], ◌<◌, ◌≤◌, ◌+◌, Bool, length, ap, arith, refl, sym, ◌∙◌, subst, take}
+use Rattle.std.proofs.Common.{◌≡◌, ◌∷◌, ℕ, suc, List, [], ◌<◌, ◌≤◌, ◌+◌, Bool, true, length, ap, arith, refl, sym, ◌∙◌, subst, take}
 use Rattle.std.specs.Prelude.{Option, Some, None, slice_get, slice_index_or}
 use Rattle.std.specs.List.{All}
 use Rattle.std.proofs.Math.Seq.{take-suc}
 use Rattle.std.proofs.lemmas.List.{take_all}
 use Rattle.std.proofs.lemmas.List.Elements.{All-append, All-cons, All-nil, All-weaker}
+use Rattle.std.proofs.lemmas.Option.{slice_get-get_or}
 use Rattle.node_store.specs.declared.edge.Edge.{Edge}
 use Rattle.node_store.specs.Diagram.{Node, node_edges, edges_of}
 use Rattle.node_store.specs.Diagram.Node.{Leaf, Inner}
@@ -33,3 +34,7 @@ marked_more es i d old new less earlier h here =
 pub marked_all : (nodes : List Node) (id : ℕ) (es : List Edge) (i : ℕ) (known : List Bool) → es ≡ edges_of nodes id → length es ≤ i → All (λ (e : Edge). IsMarked known e.to.0) (take i es) →
     All (λ (e : Edge). IsMarked known e.to.0) (edges_of nodes id)
 marked_all nodes id es i known same past h = subst (λ xs. All (λ (e : Edge). IsMarked known e.to.0) xs) (take_all i es past ∙ same) h
+
+-- a mark that is set
+pub marked_here : (marks : List Bool) (id : ℕ) (m : Bool) → id < length marks → m ≡ slice_index_or marks id m → m ≡ true → IsMarked marks id
+marked_here marks id m less is set = slice_get-get_or marks id m less ∙ ap Some (sym is ∙ set)

@@ -93,6 +93,9 @@ impl Costs {
         store.same_answers();
         let edges = store.edges(id);
         for edge in edges {
+            if self.known[edge.to.0] {
+                continue;
+            }
             self.learn(costing, store, edge.to)?;
         }
         self.work_out(costing, store, id)

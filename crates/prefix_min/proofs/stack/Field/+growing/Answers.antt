@@ -1,12 +1,13 @@
 use Rattle.std.proofs.Common.{◌≤◌, ◌<◌, ◌≡◌, ◌∙◌, arith, refl, ap, sym, subst, rules, ◌+◌, ◌%◌, ◌^◌, length, inl, inr}
 use Rattle.std.proofs.lemmas.List.{length-append}
 use Rattle.std.proofs.lemmas.Nat.{pow_pos}
-use Rattle.std.proofs.lemmas.Result.{on_ok_weaker}
+use Rattle.std.proofs.lemmas.Result.{IfOk-weaker}
 use Rattle.prefix_min.specs.Built.{IsBuilt}
 use Rattle.prefix_min.specs.Field.{no_piece}
 use Rattle.prefix_min.specs.Growth.{end_of}
 use Rattle.prefix_min.specs.NextPiece.{IsNext, weight_below}
 use Rattle.prefix_min.specs.Parts.{IsAbout}
+use Rattle.prefix_min.specs.Savings.{with_one}
 use Rattle.prefix_min.proofs.Building.{part-inside, piece-place}
 use Rattle.prefix_min.proofs.FullLabel.{end-reached}
 use Rattle.prefix_min.proofs.Grown.{above-half, below-built, below-half, both-fits, grown-both, grown-first, grown-last, grown-light, grown-wide, half-of, one-room, ready}
@@ -21,8 +22,8 @@ beside-offset_bounds-self-first t c =
 pub beside-bounds-self-first : goal.beside-bounds-self-first
 beside-bounds-self-first t c = (below-half c.args.self.now.pieces.now c.args.first c.args.part c.args.about c.requires.half c.if-about-part.true).1
 
-pub beside-one-requires : goal.beside-one-requires
-beside-one-requires t c =
+pub beside-lone-requires : goal.beside-lone-requires
+beside-lone-requires t c =
     let h = below-half c.args.self.now.pieces.now c.args.first c.args.part c.args.about c.requires.half c.if-about-part.true in
     record {
       place = piece-place c.requires.fit c.args.first h.1;
@@ -30,10 +31,10 @@ beside-one-requires t c =
           c.requires.light;
     }
 
-pub beside-returns-then-about-part : goal.beside-returns-then-about-part
-beside-returns-then-about-part t c =
+pub beside-returns-then-about-part-clause-built : goal.beside-returns-then-about-part-clause-built
+beside-returns-then-about-part-clause-built t c =
     let h = below-half c.args.self.now.pieces.now c.args.first c.args.part c.args.about c.requires.half c.if-about-part.true in
-    on_ok_weaker c.one.result (λ put. inr (h.0, below-built c.requires.fit h.1 h.2 h.0 h.3 h.4 put, put.next_is)) c.one.ensures
+    IfOk-weaker c.lone.result _ _ (λ one put. inr (h.0, below-built c.requires.fit h.1 h.2 h.0 h.3 h.4 put, put.next_is)) c.lone.ensures.put
 
 pub beside-overflow_cast-end : goal.beside-overflow_cast-end
 beside-overflow_cast-end t c = omega (
@@ -45,8 +46,8 @@ beside-overflow_cast-end t c = omega (
   pow_pos c.args.part.bits,
 )
 
-pub beside-part-requires : goal.beside-part-requires
-beside-part-requires t c =
+pub beside-apart-requires : goal.beside-apart-requires
+beside-apart-requires t c =
     let h = above-half c.args.self.now.pieces.now c.args.first c.args.part c.args.about c.requires.half c.if-about-part.false in
     let ps = c.args.self.now.pieces.now in
     let next = subst (IsNext ps c.args.stack.now.next) (sym c.end.ensures) c.requires.next in
@@ -55,26 +56,26 @@ beside-part-requires t c =
     omega (arith, c.requires.light, ap (weight_below c.args.self.now.weights.now 0 ps) c.end.ensures) in
     (omega (arith, c.decreases), (c.requires.fit, (next, (omega (arith, c.requires.wide), (aligned, (omega (arith, c.end.ensures, h.2), light))))))
 
-pub beside-returns : goal.beside-returns
-beside-returns t c =
+pub beside-returns-clause-built : goal.beside-returns-clause-built
+beside-returns-clause-built t c =
     let old = c.args.stack.now in
-    let new = c.part.new.stack in
-    on_ok_weaker c.part.result (λ b. inl (
+    let new = c.apart.new.stack in
+    IfOk-weaker c.apart.result _ _ (λ one b. inl (
       (above-half c.args.self.now.pieces.now c.args.first c.args.part c.args.about c.requires.half c.if-about-part.false).0,
-      subst (λ v. IsBuilt c.args.self.now.weights.now c.args.self.now.pieces.now c.args.part.bits v old.savings.items new.savings.items old.cost new.cost
+      subst (λ v. IsBuilt c.args.self.now.weights.now c.args.self.now.pieces.now c.args.part.bits v old.savings.items (with_one new.savings.items one) old.cost new.cost
           new.next old.choices.items new.choices.items old.also.items new.also.items) c.end.ensures b,
-    )) c.part.ensures
+    )) c.apart.ensures.built
 
-pub part-offset_bounds-self-first : goal.part-offset_bounds-self-first
-part-offset_bounds-self-first t c =
+pub apart-offset_bounds-self-first : goal.apart-offset_bounds-self-first
+apart-offset_bounds-self-first t c =
     let inside = part-inside c.requires.fit c.args.bits c.requires.next c.requires.within in
     search rules
 
-pub part-bounds-self-first : goal.part-bounds-self-first
-part-bounds-self-first t c = part-inside c.requires.fit c.args.bits c.requires.next c.requires.within
+pub apart-bounds-self-first : goal.apart-bounds-self-first
+apart-bounds-self-first t c = part-inside c.requires.fit c.args.bits c.requires.next c.requires.within
 
-pub part-one-requires : goal.part-one-requires
-part-one-requires t c =
+pub apart-lone-requires : goal.apart-lone-requires
+apart-lone-requires t c =
     record {
       place = piece-place c.requires.fit c.args.stack.now.next (part-inside c.requires.fit c.args.bits c.requires.next c.requires.within);
       room = one-room c.args.bits c.args.low c.args.stack.now.cost c.requires.fit c.requires.next c.requires.within c.requires.light;
@@ -95,8 +96,8 @@ grown-one-requires t c =
       room = one-room c.args.bits c.args.low c.args.stack.now.cost c.requires.fit c.requires.next c.requires.within c.requires.light;
     }
 
-pub part-overflow_add-from : goal.part-overflow_add-from
-part-overflow_add-from t c =
+pub apart-overflow_add-from : goal.apart-overflow_add-from
+apart-overflow_add-from t c =
     omega (
       arith,
       end-reached (length c.args.self.now.weights.now) 0 c.args.stack.now.next no_piece c.args.self.now.pieces.now c.requires.fit.follow
@@ -105,29 +106,29 @@ part-overflow_add-from t c =
       c.from.ensures,
     )
 
-pub part-grown-requires : goal.part-grown-requires
-part-grown-requires t c =
+pub apart-grown-requires : goal.apart-grown-requires
+apart-grown-requires t c =
     let ends : end_of c.args.self.now.pieces.now c.args.stack.now.next + 1 < c.args.low + 2 ^ c.args.bits =
     omega (arith, c.if-from-limit.true, c.end-limit.ensures, c.from.ensures) in
     (omega (arith, c.decreases), (c.requires.fit, (c.requires.next, (c.requires.wide, (c.requires.aligned, (c.requires.within, (c.requires.light, ends)))))))
 
-pub part-behind-stack-requires : goal.part-behind-stack-requires
-part-behind-stack-requires t c =
+pub apart-behind-stack-requires : goal.apart-behind-stack-requires
+apart-behind-stack-requires t c =
     record {
       fit = c.requires.fit;
       inside = part-inside c.requires.fit c.args.bits c.requires.next c.requires.within;
       reached = omega (arith, c.if-from-limit.false, c.end-limit.ensures, c.from.ensures);
     }
 
-pub part-returns : goal.part-returns
-part-returns t c =
+pub apart-returns-clause-built : goal.apart-returns-clause-built
+apart-returns-clause-built t c =
     let ps = c.args.self.now.pieces.now in
     let first = c.args.stack.now.next in
     let covered : c.args.low + 2 ^ c.args.bits ≤ end_of ps first + 1 = omega (arith, c.if-from-limit.false, c.end-limit.ensures, c.from.ensures) in
     let reached : c.args.low < end_of ps first + 1 =
     omega (arith, c.requires.next.here no_piece (part-inside c.requires.fit c.args.bits c.requires.next c.requires.within)) in
     let then = subst (IsNext ps c.behind-stack.result) c.end-limit.ensures (c.behind-stack.ensures c.args.low (omega (arith, c.end-limit.ensures)) reached c.requires.next) in
-    constant-built c.requires.fit c.requires.next c.requires.within covered c.in_ok-one.ensures then
+    constant-built c.requires.fit c.requires.next c.requires.within covered c.in_ok-one.ensures.put then
 
 pub grown-overflow_add-stack : goal.grown-overflow_add-stack
 grown-overflow_add-stack t c =
@@ -200,20 +201,27 @@ grown-beside-requires t c =
 pub grown-join_parts-requires : goal.grown-join_parts-requires
 grown-join_parts-requires t c =
     let r = ready c.requires.fit c.requires.next c.requires.within c.requires.aligned c.loop-part.invariant c.loop-part-test.true c.about-about.ensures.bits
-    c.about-about.ensures.low c.in_ok-beside.ensures
+    c.about-about.ensures.low c.in_ok-other.ensures.built
     (c.len-start.ensures ∙ c.args.stack.now.savings.ok.0) (c.len-middle.ensures ∙ c.loop-part.stack.savings.ok.0) in
-    record { from = r.from; to = r.to; low = r.low; high = r.high; room = r.room }
+    record {
+      from = r.from;
+      to = r.to;
+      apart = λ some. sym (c.len-middle.ensures ∙ c.loop-part.stack.savings.ok.0 ∙ ap length (sym (c.in_ok-other.ensures.apart some)));
+      low = r.low;
+      high = r.high;
+      room = r.room;
+    }
 
 pub grown-overflow_sub-stack : goal.grown-overflow_sub-stack
 grown-overflow_sub-stack t c =
     both-fits c.requires.fit c.requires.next c.requires.within c.requires.aligned c.loop-part.invariant c.loop-part-test.true c.about-about.ensures.bits
-    c.about-about.ensures.low c.in_ok-beside.ensures
+    c.about-about.ensures.low c.in_ok-other.ensures.built
     (c.len-start.ensures ∙ c.args.stack.now.savings.ok.0) (c.len-middle.ensures ∙ c.loop-part.stack.savings.ok.0) c.in_ok-gain.ensures
 
 pub grown-loop-part-preserved : goal.grown-loop-part-preserved
 grown-loop-part-preserved t c =
     grown-both c.requires.fit c.requires.next c.requires.within c.requires.aligned c.loop-part.invariant c.loop-part-test.true c.about-about.ensures.bits
-    c.about-about.ensures.low c.in_ok-beside.ensures
+    c.about-about.ensures.low c.in_ok-other.ensures.built
     (c.len-start.ensures ∙ c.args.stack.now.savings.ok.0) (c.len-middle.ensures ∙ c.loop-part.stack.savings.ok.0) c.in_ok-gain.ensures
     (c.len-below.ensures ∙ c.args.stack.now.choices.ok.0)
     (c.len-start_also.ensures ∙ c.beside.new.stack.also.ok.0) (c.len-end_also.ensures ∙ c.join_parts.new.also.ok.0) c.in_ok-choose.ensures

@@ -2,8 +2,8 @@ use Rattle.std.proofs.Common.{◌+◌, ◌-◌, ◌*◌}
 use Rattle.prefix_min.proofs.Grown.{IsGrown}
 use Rattle.prefix_min.proofs.stack.Field.+growing.Given as goal
 
-abbrev pub decreases-part : goal.decreases-part
-decreases-part l = 3 * l.bits + 2
+abbrev pub decreases-apart : goal.decreases-apart
+decreases-apart l = 3 * l.bits + 2
 
 abbrev pub decreases-beside : goal.decreases-beside
 decreases-beside l = 3 * l.part.bits + 3
