@@ -1,4 +1,4 @@
-//! Tests of diagrams, prefix lists, and tables without redundant entries.
+//! Tests of diagrams, prefix lists, tables without redundant entries, and lists that are compiled one after another.
 #![tactic(auto)]
 
 #[cfg(test)]

@@ -4,5 +4,6 @@ mod building;
 mod joints;
 mod nodes;
 mod prefix_lists;
+mod recompiling;
 mod removing;
 mod stores;

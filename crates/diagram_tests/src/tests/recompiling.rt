@@ -1,0 +1,77 @@
+//! Lists compiled one after another, over what was worked out before, and each of them anew.
+ghost use Rattle.std.specs.Prelude.{◌≤◌, All, IfOk, length};
+ghost use Rattle.field_boxes.specs.NamedRules.{IsNumberedBy};
+
+use field_boxes::{Decisions, Rule};
+use list_generator::generate;
+use razor_base::{MemSink, Memory};
+use rule_compilation::{Compiler, compile};
+use std::alloc::Global;
+use std::process::Abort;
+use std::test::Fail;
+use table_compose::ComposeError;
+use ternary_words::{Table, write_table};
+
+/// As many rules as a list has before it is edited.
+const RULES: u32 = 40;
+
+/// The text of the table.
+fn text(alloc: Global, table: Result<Table, ComposeError>) -> Result<MemSink, Fail> {
+    let mut sink = MemSink::new(alloc, 100_000)?;
+    write_table(&table?, &mut sink)?;
+    Ok(sink)
+}
+
+/// The table of the list has the same text over what the compiler kept as anew.
+fn compare<R: Abort + AllocGlobal>(
+    rt: &R,
+    compiler: &mut Compiler,
+    rules: &[Rule],
+    names: &Decisions,
+) -> Result<(), Fail>
+    requires { All (IsNumberedBy names.now) rules.now }
+{
+    let anew = text(rt.alloc(), compile(rt.alloc(), rules, names, 262_144, 144))?;
+    let kept = text(rt.alloc(), compiler.compile(rules, names, 262_144, 144))?;
+    assert!(rt; anew.bytes() == kept.bytes());
+    Ok(())
+}
+
+/// The rules from the place on, in front of those before it, without the first of all.
+fn edited(
+    alloc: Global,
+    rules: &[Rule],
+    names: &Decisions,
+    place: usize,
+) -> Result<Vec<Rule>, Memory>
+    requires place { 1 ≤ place }
+    requires within { place ≤ length rules.now }
+    requires numbered { All (IsNumberedBy names.now) rules.now }
+    ensures { IfOk result (λ edited. All (IsNumberedBy names.now) edited.items) }
+{
+    let mut edited = Vec::new(alloc);
+    edited.extend_from_slice(&rules[place..])?;
+    edited.extend_from_slice(&rules[1..place])?;
+    Ok(edited)
+}
+
+/// The whole list and, for each place of it, the list that is edited there.
+fn compare_all<R: Abort + AllocGlobal>(rt: &R, seed: u32) -> Result<(), Fail> {
+    assert!(rt; seed < 1 << 31);
+    let list = generate(rt.alloc(), seed, RULES)?;
+    let mut compiler = Compiler::new(rt.alloc());
+    compare(rt, &mut compiler, &list.rules, &list.names)?;
+    for place in 1..list.rules.len() {
+        let rules = edited(rt.alloc(), &list.rules, &list.names, place)?;
+        compare(rt, &mut compiler, &rules, &list.names)?;
+    }
+    Ok(())
+}
+
+#[test]
+fn what_is_kept_changes_no_table(rt: HostRuntime) -> Result<(), Fail> {
+    for seed in 1..3 {
+        compare_all(&rt, seed)?;
+    }
+    Ok(())
+}
