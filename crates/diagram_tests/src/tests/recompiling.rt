@@ -13,7 +13,7 @@ use table_compose::ComposeError;
 use ternary_words::{Table, write_table};
 
 /// As many rules as a list has before it is edited.
-const RULES: u32 = 40;
+const RULES: u32 = 24;
 
 /// The text of the table.
 fn text(alloc: Global, table: Result<Table, ComposeError>) -> Result<MemSink, Fail> {
