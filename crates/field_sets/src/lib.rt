@@ -30,6 +30,6 @@ mod sets;
 mod uniting;
 
 pub use laying::laid;
-pub use parting::parts_within;
+pub use parting::{parts_within, put_parts};
 pub use placed::Placed;
 pub use sets::Sets;

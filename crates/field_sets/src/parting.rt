@@ -1,5 +1,5 @@
 //! The common split of the edges of two nodes inside a span of their field.
-ghost use Rattle.std.specs.Prelude.{◌≡◌, ◌≤◌, ◌<◌, ◌⊎◌, ℕ, List, [], map, IfOk, MatchOption};
+ghost use Rattle.std.specs.Prelude.{◌≡◌, ◌≤◌, ◌<◌, ◌⊎◌, ℕ, List, [], map, IfOk, OnOk, MatchOption};
 ghost use Rattle.node_store.specs.Levels.{HasField, next, top_of};
 ghost use Rattle.node_store.specs.Diagram.{Node, level_of, edges_of};
 ghost use Rattle.node_store.specs.Split.{to_left, to_right};
@@ -31,31 +31,51 @@ pub fn parts_within(
     ensures left { IfOk result (λ parts. LeadTo store.now (next (level_of store.now left.0)) (map to_left parts.items)) }
     ensures right { IfOk result (λ parts. LeadTo store.now (next (level_of store.now left.0)) (map to_right parts.items)) }
 {
-    let left = reaching(store.edges(left), span.lo);
-    let right = reaching(store.edges(right), span.lo);
-    let parts = parts_of(alloc, left, right, span.hi)?;
+    let mut parts = SmallVec::new(alloc);
+    put_parts(store, left, right, span, &mut parts)?;
     Ok(parts)
 }
 
-/// The parts up to a value, by one pass over both lists of edges.
-fn parts_of(alloc: Global, left: &[Edge], right: &[Edge], hi: u32) -> Result<Parts, Memory>
-    ensures split { (lo top : ℕ) → lo ≤ hi → hi ≤ top → Fill lo top left.now → Fill lo top right.now →
-        IfOk result (λ parts. IsSplitWithin lo hi left.now right.now parts.items) }
-    ensures left { (nodes : List Node) (level : List ℕ) → LeadTo nodes level left.now → IfOk result (λ parts. LeadTo nodes level (map to_left parts.items)) }
-    ensures right { (nodes : List Node) (level : List ℕ) → LeadTo nodes level right.now → IfOk result (λ parts. LeadTo nodes level (map to_right parts.items)) }
+/// The same into a list of the caller's, whose room is used again: what was in it is lost.
+pub fn put_parts(
+    store: &Store,
+    left: NodeId,
+    right: NodeId,
+    span: Span,
+    parts: &mut Parts,
+) -> Result<(), Memory>
+    requires inner { HasField (level_of store.now left.0) }
+    requires level { level_of store.now right.0 ≡ level_of store.now left.0 }
+    requires span { span.hi ≤ top_of (level_of store.now left.0) }
+    ensures split { OnOk result (IsSplitWithin span.lo span.hi (edges_of store.now left.0) (edges_of store.now right.0) parts.new.items) }
+    ensures left { OnOk result (LeadTo store.now (next (level_of store.now left.0)) (map to_left parts.new.items)) }
+    ensures right { OnOk result (LeadTo store.now (next (level_of store.now left.0)) (map to_right parts.new.items)) }
 {
-    let mut parts = SmallVec::new(alloc);
+    let left = reaching(store.edges(left), span.lo);
+    let right = reaching(store.edges(right), span.lo);
+    put_parts_of(left, right, span.hi, parts)?;
+    Ok(())
+}
+
+/// The parts up to a value, by one pass over both lists of edges.
+fn put_parts_of(left: &[Edge], right: &[Edge], hi: u32, parts: &mut Parts) -> Result<(), Memory>
+    ensures split { (lo top : ℕ) → lo ≤ hi → hi ≤ top → Fill lo top left.now → Fill lo top right.now →
+        OnOk result (IsSplitWithin lo hi left.now right.now parts.new.items) }
+    ensures left { (nodes : List Node) (level : List ℕ) → LeadTo nodes level left.now → OnOk result (LeadTo nodes level (map to_left parts.new.items)) }
+    ensures right { (nodes : List Node) (level : List ℕ) → LeadTo nodes level right.now → OnOk result (LeadTo nodes level (map to_right parts.new.items)) }
+{
+    parts.clear();
     let mut left = left;
     let mut right = right;
     while let Some(part) = first(left, right, hi) {
         parts.push(part)?;
         if part.hi == hi {
-            return Ok(parts);
+            return Ok(());
         }
         left = past(left, part.hi);
         right = past(right, part.hi);
     }
-    Ok(parts)
+    Ok(())
 }
 
 /// The first part of the edges that are left; none where none are left.

@@ -9,3 +9,13 @@ pub struct Placed {
     pub span: Span,
     pub to: NodeId,
 }
+
+impl Default for Placed {
+    fn default() -> Self {
+        let span = Span { lo: 0, hi: 0 };
+        Placed {
+            span,
+            to: NodeId(0),
+        }
+    }
+}

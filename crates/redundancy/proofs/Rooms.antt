@@ -2,7 +2,6 @@
 use Rattle.std.proofs.Common.{◌≡◌, ◌++◌, ℕ, suc, List, [], ◌<◌, ◌+◌, length, take, get_or, ap, arith, sym, ◌∙◌, subst}
 use Rattle.std.proofs.Math.Seq.{take-suc}
 use Rattle.std.specs.Prelude.{All}
-use Rattle.std.specs.Global.{Vec}
 use Rattle.smallvec.specs.SmallVec.{SmallVec}
 use Rattle.std.proofs.lemmas.List.{get_or-map}
 use Rattle.std.proofs.lemmas.List.Elements.{All-from_get_or}
@@ -30,12 +29,12 @@ places_room nodes level rows lower keys places inner distinct sifted =
     (λ k less. let n = distinct.count in let e = (distinct.each k (omega (arith, less, n))).0 in let m = sifted.count in omega (arith, e, m))
 
 -- what one change more says of a context
-pub gathered_next : (changes : List Change) (k place : ℕ) (e : Change) (d : Vec Placed) (placed longer piece : List Placed) → k < length changes → place < length (get_or changes k e).placed.items →
+pub gathered_next : (changes : List Change) (k place : ℕ) (e : Change) (d : SmallVec Placed) (placed longer piece : List Placed) → k < length changes → place < length (get_or changes k e).placed.items →
     placed ≡ placed_for (take k changes) place → longer ≡ placed ++ piece → piece ≡ (get_or (get_or changes k e).placed.items place d).items → longer ≡ placed_for (take (k + 1) changes) place
 gathered_next changes k place e d placed longer piece less room before longer_is piece_is =
     let one : suc k ≡ k + 1 = omega arith in
     longer_is
-    ∙ ap (λ ps. placed ++ ps) (piece_is ∙ sym (get_or-map (λ (own : Vec Placed). own.items) (get_or changes k e).placed.items place d [] room))
+    ∙ ap (λ ps. placed ++ ps) (piece_is ∙ sym (get_or-map (λ (own : SmallVec Placed). own.items) (get_or changes k e).placed.items place d [] room))
     ∙ ap (λ ps. ps ++ placed_in (get_or changes k e) place) before
     ∙ sym (change_more (take k changes) (get_or changes k e) place)
     ∙ ap (λ cs. placed_for cs place) (sym (take-suc changes k e less) ∙ ap (λ m. take m changes) one)

@@ -4,8 +4,9 @@ use Rattle.std.specs.Prelude.{All, map}
 use Rattle.std.specs.List.{flat_map}
 use Rattle.std.proofs.lemmas.List.{append-nil, length-append, map-append, take-append-drop}
 use Rattle.std.proofs.lemmas.List.Concat.{flat_map-append}
-use Rattle.std.proofs.lemmas.List.Elements.{All-drop, All-head, All-push, All-tail, All-take, All-weaker}
+use Rattle.std.proofs.lemmas.List.Elements.{All-drop, All-head, All-nil, All-push, All-tail, All-take, All-weaker}
 use Rattle.node_store.specs.Diagram.{Node}
+use Rattle.node_store.specs.Store.{Grows}
 use Rattle.node_store.proofs.Growth.{twice}
 use Rattle.redundancy_laws.specs.Rows.{Row}
 use Rattle.redundancy_laws.specs.Layers.{rows_of_runs}
@@ -13,9 +14,10 @@ use Rattle.redundancy_laws.proofs.Apart.{rows-append}
 use Rattle.redundancy.specs.declared.block.Cover.{Cover}
 use Rattle.redundancy.specs.declared.block.Run.{Run}
 use Rattle.redundancy.specs.declared.blocks.Blocks.{Blocks}
-use Rattle.redundancy.specs.Blocks.{FitsRun, cover_at, rows_of, run_by}
+use Rattle.redundancy.specs.Blocks.{FitsRun, IsBlocks, cover_at, rows_of, run_by}
 use Rattle.redundancy.specs.Built.{AreBuilt, FitRuns, IsBuilt, StandAt, StandsAt}
 use Rattle.redundancy.proofs.BlockRows.{same_runs}
+use Rattle.redundancy.proofs.BlocksStay.{blocks_stay}
 
 -- one step after another
 pub then : (s0 s1 s2 : List Node) (b0 b1 b2 : Blocks) (w v : List ℕ) (m n : ℕ) (rows others : List Row) → IsBuilt s0 s1 b0 b1 w rows m → IsBuilt s1 s2 b1 b2 v others n → IsBuilt s0 s2 b0 b2 v others n
@@ -85,6 +87,23 @@ rows_split f runs front others e =
 
 in_turn : (a f o : List Row) → (a ++ (f ++ [])) ++ o ≡ a ++ (f ++ o)
 in_turn a f o = ap (λ rows. (a ++ rows) ++ o) (append-nil f) ∙ append_assoc a f o
+
+-- no runs are laid yet
+pub laid_start : (s0 s1 : List Node) (b : Blocks) (level : List ℕ) (runs : List Run) (numbers : List ℕ) → numbers ≡ [] → Grows s0 s1 → IsBlocks s0 b → FitRuns b level runs → 0 < length runs → AreLaid s0 s1 b b level runs runs numbers
+laid_start s0 s1 b level runs numbers is g h fit some = subst (AreLaid s0 s1 b b level runs runs) (sym is) (record {
+  built = record {
+    grows = g;
+    blocks = blocks_stay s0 s1 b.blocks.items b.covers.items g h;
+    count = omega arith;
+    rows_stay = λ k less. refl;
+    covers_stay = λ k less. refl;
+    numbers_in = All-nil (StandsAt b level);
+    rows_are = refl;
+  };
+  fit = fit;
+  rows = refl;
+  some = omega (arith, some);
+})
 
 -- the front's layer is built
 pub laid_step : (s0 s1 s2 : List Node) (b0 b1 b2 : Blocks) (level : List ℕ) (n number : ℕ) (runs rest front others : List Run) (numbers more : List ℕ) → AreLaid s0 s1 b0 b1 level runs rest numbers →

@@ -1,6 +1,5 @@
 -- What was kept of the first runs of a layer.
 use Rattle.std.specs.Prelude.{◌≡◌, ◌++◌, ℕ, suc, ◌<◌, ◌≤◌, true, false, List, [], ◌∷◌, All, length, map, slice_index_or}
-use Rattle.std.specs.Global.{Vec}
 use Rattle.smallvec.specs.SmallVec.{SmallVec}
 use Rattle.std.specs.List.{list_any}
 use Rattle.node_store.specs.Levels.{next as next_level, top_of}
@@ -27,7 +26,7 @@ HaveRoom count lists = All (λ (own : SmallVec Stretch). All (λ (s : Stretch). 
 
 -- what a change says of a context
 abbrev pub placed_in : Change → ℕ → List Placed
-placed_in change c = slice_index_or (map (λ (own : Vec Placed). own.items) change.placed.items) c []
+placed_in change c = slice_index_or (map (λ (own : SmallVec Placed). own.items) change.placed.items) c []
 
 -- what changes say of a context, in their order
 abbrev pub placed_for : List Change → ℕ → List Placed

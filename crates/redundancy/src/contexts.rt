@@ -3,5 +3,5 @@
 use redundancy_laws::Context;
 use smallvec::SmallVec;
 
-/// Contexts: below most runs there are one or two.
-pub(crate) type Contexts = SmallVec<Context, 2>;
+/// Contexts: below most runs there are at most three.
+pub(crate) type Contexts = SmallVec<Context, 3>;

@@ -10,13 +10,13 @@ use smallvec::SmallVec;
 use std::alloc::Global;
 
 /// As many pairs are compared one by one; with more a set is asked.
-const FEW: usize = 16;
+const FEW: usize = 40;
 
 /// Each pair of a list once, and for each place of the list where its pair is.
 #[derive(Drop)]
 pub(crate) struct Distinct {
     pub pairs: Contexts,
-    pub places: SmallVec<usize, 2>,
+    pub places: SmallVec<usize, 4>,
 }
 
 impl Distinct {

@@ -1,5 +1,5 @@
 //! The nodes that lead on as a draft says.
-ghost use Rattle.std.specs.Prelude.{◌≡◌, ◌≤◌, ◌<◌, ℕ, length, All, IfOk};
+ghost use Rattle.std.specs.Prelude.{◌≡◌, ◌≤◌, ◌<◌, ℕ, length, All, IfOk, OnOk};
 ghost use Rattle.node_store.specs.Levels.{HasField, next, top_of};
 ghost use Rattle.node_store.specs.Diagram.{level_of};
 ghost use Rattle.node_store.specs.Store.{Grows};
@@ -31,22 +31,23 @@ pub(crate) fn finished(
     ensures grows { Grows sets.old sets.new }
 {
     let mut after = Vec::with_capacity(alloc, contexts.len())?;
+    let mut placed = Vec::new(alloc);
     for (place, pair) in contexts.iter().enumerate() {
-        let placed = gathered(alloc, changes, place)?;
+        gather(changes, place, &mut placed)?;
         let node = sets.laid(level, pair.after, placed.as_slice())?;
         after.push(node)?;
     }
     Ok(after)
 }
 
-/// What the changes say of the context at the place, in their order.
-fn gathered(alloc: Global, changes: &[Change], place: usize) -> Result<Vec<Placed>, Memory>
+/// Puts into the list what the changes say of the context at the place, in their order.
+fn gather(changes: &[Change], place: usize, placed: &mut Vec<Placed>) -> Result<(), Memory>
     requires { All (λ change. place < length change.placed.items) changes.now }
-    ensures { IfOk result (λ placed. placed.items ≡ placed_for changes.now place) }
+    ensures { OnOk result (placed.new.items ≡ placed_for changes.now place) }
 {
-    let mut placed = Vec::new(alloc);
+    placed.clear();
     for change in changes {
         placed.extend_from_slice(change.placed[place].as_slice())?;
     }
-    Ok(placed)
+    Ok(())
 }

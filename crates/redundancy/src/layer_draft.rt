@@ -8,12 +8,16 @@ use field_sets::Placed;
 use node_store::NodeId;
 use razor_base::Memory;
 use redundancy_laws::Sifted;
+use smallvec::SmallVec;
 use std::alloc::Global;
+
+/// Where one context leads on inside a run: most have a stretch or two.
+pub(crate) type PlacedIn = SmallVec<Placed, 2>;
 
 /// Where each context leads on inside a run of which something is kept.
 #[derive(Drop)]
 pub(crate) struct Change {
-    pub placed: Vec<Vec<Placed>>,
+    pub placed: SmallVec<PlacedIn, 1>,
 }
 
 /// The flags of the rows so far, and the changes that they make, in the order of their spans.
@@ -61,7 +65,7 @@ fn change_of(
     requires places { All (λ (p : ℕ). p < length after.now) places.now }
     ensures { IfOk result (λ change. IsChange stretches.now places.now after.now change) }
 {
-    let mut placed = Vec::with_capacity(alloc, stretches.len())?;
+    let mut placed = SmallVec::with_capacity(alloc, stretches.len())?;
     for own in stretches {
         let placed_own = placed_of(alloc, own.as_slice(), places, after)?;
         placed.push(placed_own)?;
@@ -75,12 +79,12 @@ fn placed_of(
     stretches: &[Stretch],
     places: &[usize],
     after: &[NodeId],
-) -> Result<Vec<Placed>, Memory>
+) -> Result<PlacedIn, Memory>
     requires stretches { All (λ s. s.place < length places.now) stretches.now }
     requires places { All (λ (p : ℕ). p < length after.now) places.now }
     ensures { IfOk result (λ placed. placed.items ≡ map (placed_by places.now after.now) stretches.now) }
 {
-    let mut placed = Vec::with_capacity(alloc, stretches.len())?;
+    let mut placed = SmallVec::with_capacity(alloc, stretches.len())?;
     for stretch in stretches {
         placed.push(Placed {
             span: stretch.span,

@@ -31,7 +31,7 @@ impl Default for Stretch {
 }
 
 /// The stretches of one context.
-pub(crate) type Stretches = SmallVec<Stretch, 2>;
+pub(crate) type Stretches = SmallVec<Stretch, 3>;
 
 /// The pairs to which the contexts lead inside a span, and for each context the stretches of the span.
 #[derive(Drop)]
@@ -56,8 +56,9 @@ pub(crate) fn listed_below(
     let _level = level;
     let mut pairs = SmallVec::new(alloc);
     let mut stretches = SmallVec::with_capacity(alloc, contexts.len())?;
+    let mut parts = SmallVec::new(alloc);
     for pair in contexts {
-        let parts = sets.parts(pair.after, pair.met, span)?;
+        sets.put_parts(pair.after, pair.met, span, &mut parts)?;
         let own = stretches_of(alloc, &mut pairs, span, parts.as_slice())?;
         stretches.push(own)?;
     }
@@ -76,6 +77,7 @@ fn stretches_of(
     ensures pairs { OnOk result (pairs.new.items ≡ pairs.old.items ++ map context_of parts.now) }
 {
     let mut own = SmallVec::with_capacity(alloc, parts.len())?;
+    pairs.reserve(parts.len())?;
     let mut lo = span.lo;
     for part in parts {
         own.push(Stretch {

@@ -1,7 +1,7 @@
 //! Sets of values and answers of contexts, as diagrams of one store.
 
 use field_boxes::Span;
-use field_sets::{Placed, parts_within};
+use field_sets::{Placed, put_parts};
 use node_store::{NodeId, Parts};
 use razor_base::Memory;
 use std::alloc::Global;
@@ -10,7 +10,6 @@ use std::marker::Model;
 /// Diagrams, and the unions that were worked out before.
 #[derive(Drop)]
 pub(crate) struct Sets {
-    alloc: Global,
     sets: field_sets::Sets,
 }
 
@@ -24,7 +23,7 @@ impl Model for Sets {
 }
 
 impl Sets {
-    ghost use Rattle.std.specs.Prelude.{◌≡◌, ◌≤◌, ℕ, List, [], ◌∷◌, true, length, map, IfOk};
+    ghost use Rattle.std.specs.Prelude.{◌≡◌, ◌≤◌, ℕ, List, [], ◌∷◌, true, length, map, IfOk, OnOk};
     ghost use Rattle.field_boxes.specs.Fields.{AreValues};
     ghost use Rattle.node_store.specs.Levels.{HasField, IsLevel, next, top_of};
     ghost use Rattle.node_store.specs.Diagram.{answer, edges_of, level_of};
@@ -38,10 +37,8 @@ impl Sets {
     pub fn new(alloc: Global) -> Sets
         ensures { result ≡ [] }
     {
-        Sets {
-            alloc,
-            sets: field_sets::Sets::new(alloc),
-        }
+        let sets = field_sets::Sets::new(alloc);
+        Sets { sets }
     }
 
     /// How many nodes they have.
@@ -126,16 +123,23 @@ impl Sets {
         Ok(id)
     }
 
-    /// The parts of the span on which each of two inner nodes of one level leads to one child, in rising order.
-    pub fn parts(&self, left: NodeId, right: NodeId, span: Span) -> Result<Parts, Memory>
+    /// Puts into the list the parts of the span on which each of two inner nodes of one level leads to one child, in
+    /// rising order.
+    pub fn put_parts(
+        &self,
+        left: NodeId,
+        right: NodeId,
+        span: Span,
+        parts: &mut Parts,
+    ) -> Result<(), Memory>
         requires inner { HasField (level_of self.now left.0) }
         requires level { level_of self.now right.0 ≡ level_of self.now left.0 }
         requires span { span.hi ≤ top_of (level_of self.now left.0) }
-        ensures split { IfOk result (λ parts. IsSplitWithin span.lo span.hi (edges_of self.now left.0) (edges_of self.now right.0) parts.items) }
-        ensures left { IfOk result (λ parts. LeadTo self.now (next (level_of self.now left.0)) (map to_left parts.items)) }
-        ensures right { IfOk result (λ parts. LeadTo self.now (next (level_of self.now left.0)) (map to_right parts.items)) }
+        ensures split { OnOk result (IsSplitWithin span.lo span.hi (edges_of self.now left.0) (edges_of self.now right.0) parts.new.items) }
+        ensures left { OnOk result (LeadTo self.now (next (level_of self.now left.0)) (map to_left parts.new.items)) }
+        ensures right { OnOk result (LeadTo self.now (next (level_of self.now left.0)) (map to_right parts.new.items)) }
     {
-        let parts = parts_within(self.alloc, self.sets.store(), left, right, span)?;
-        Ok(parts)
+        put_parts(self.sets.store(), left, right, span, parts)?;
+        Ok(())
     }
 }

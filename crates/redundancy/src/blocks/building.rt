@@ -14,6 +14,7 @@ impl<'a> Blocks<'a> {
     ghost use Rattle.node_store.specs.Levels.{HasField, IsLevel};
     ghost use Rattle.node_store.specs.Diagram.{level_of};
     ghost use Rattle.node_store.specs.Store.{Grows};
+    ghost use Rattle.field_sets.specs.Constant.{AnswersAlways};
     ghost use Rattle.redundancy_laws.specs.Rows.{last_row};
     ghost use Rattle.redundancy_laws.specs.Sifted.{IsCover, is_in};
     ghost use Rattle.redundancy_laws.specs.Layers.{rows_of_runs};
@@ -86,32 +87,35 @@ impl<'a> Blocks<'a> {
         ensures some { IfOk result (λ numbers. 0 < length numbers.items) }
         ensures built { IfOk result (λ numbers. AreBuilt sets.old sets.new self.old self.new level.now (rows_of_runs (map (run_by (rows_of self.old.blocks.items)) runs.now)) numbers.items) }
     {
+        let none = sets.none(level)?;
         let mut numbers = Vec::new(alloc);
         let mut rest = runs;
         while !rest.is_empty() {
             let (layer, others) = rest.split_at(layer_len(rest));
-            let number = self.layer(alloc, sets, level, layer)?;
+            let number = self.layer(alloc, sets, level, none, layer)?;
             numbers.push(number)?;
             rest = others;
         }
         Ok(numbers)
     }
 
-    /// The block of runs that rise and are apart.
+    /// The block of runs that rise and are apart, by the empty set of the level.
     fn layer(
         &mut self,
         alloc: Global,
         sets: &mut Sets,
         level: &'a [u8],
+        none: NodeId,
         runs: &[Run],
     ) -> Result<usize, Memory>
         requires blocks { IsBlocks sets.old self.old }
         requires level { HasField level.now }
+        requires none { AnswersAlways sets.old level.now 0 none.0 }
         requires runs { FitRuns self.old level.now runs.now }
         requires apart { RiseApart runs.now }
         ensures { IfOk result (λ number. IsBuilt sets.old sets.new self.old self.new level.now (rows_of_runs (map (run_by (rows_of self.old.blocks.items)) runs.now)) number) }
     {
-        let set = self.layer_set(alloc, sets, level, runs)?;
+        let set = self.layer_set(alloc, sets, level, none, runs)?;
         let mut own = Vec::new(alloc);
         own.extend_from_slice(runs)?;
         self.add(Block::Layer(own), level, set)
@@ -123,10 +127,12 @@ impl<'a> Blocks<'a> {
         alloc: Global,
         sets: &mut Sets,
         level: &'a [u8],
+        none: NodeId,
         runs: &[Run],
     ) -> Result<NodeId, Memory>
         requires blocks { IsBlocks sets.old self.now }
         requires level { HasField level.now }
+        requires none { AnswersAlways sets.old level.now 0 none.0 }
         requires runs { FitRuns self.now level.now runs.now }
         requires apart { RiseApart runs.now }
         ensures level { IfOk result (λ set. level_of sets.new set.0 ≡ level.now) }
@@ -134,7 +140,6 @@ impl<'a> Blocks<'a> {
         ensures grows { IfOk result (λ set. Grows sets.old sets.new) }
     {
         let placed = placed(alloc, &self.covers, runs)?;
-        let none = sets.none(level)?;
         let set = sets.laid(level, none, &placed)?;
         Ok(set)
     }

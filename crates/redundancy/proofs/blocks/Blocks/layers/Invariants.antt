@@ -1,9 +1,13 @@
 use Rattle.std.proofs.Common.{length}
+use Rattle.field_sets.specs.Constant.{AnswersAlways}
 use Rattle.redundancy.proofs.Sequences.{AreLaid}
 use Rattle.redundancy.proofs.blocks.Blocks.layers.Given as goal
 
 abbrev pub invariant-loop-rest : goal.invariant-loop-rest
-invariant-loop-rest l = AreLaid l.initial.sets l.sets l.initial.self l.self l.level l.runs l.rest l.numbers.items
+invariant-loop-rest l = record {
+  laid : AreLaid l.fn.sets l.sets l.fn.self l.self l.level l.runs l.rest l.numbers.items;
+  none : AnswersAlways l.sets l.level 0 l.none.0;
+}
 
 abbrev pub decreases-loop-rest : goal.decreases-loop-rest
 decreases-loop-rest l = length l.rest

@@ -1,7 +1,7 @@
 use Rattle.std.proofs.Common.{◌≡◌}
 use Rattle.node_store.specs.Diagram.{level_of}
 use Rattle.field_sets.proofs.Together.{stopped, whole, shrinks, bound, parted, all_left, all_right}
-use Rattle.field_sets.proofs.parting.parts_of.Goals as goal
+use Rattle.field_sets.proofs.parting.put_parts_of.Goals as goal
 
 pub returns-then-part-hi-clause-split : goal.returns-then-part-hi-clause-split
 returns-then-part-hi-clause-split c = λ lo top h within f g.
