@@ -1,7 +1,7 @@
 //! Sets and answers over fields: diagrams changed at some spans of one field, and unions of sets.
 //!
 //! The diagrams are those of node_store, over the values of a level's fields. [`laid`] gives a node that
-//! leads elsewhere at some spans of its field, in one pass over its edges. [`parts_within`] gives the parts of a span
+//! leads elsewhere at some spans of its field, in one pass over its edges. [`put_parts`] gives the parts of a span
 //! on which two nodes lead to one child each, and looks at no edge outside of the span but for two binary searches.
 //!
 //! A set of values is a diagram that answers them by other numbers than 0. [`Sets`] is a store that gives the empty and
@@ -13,7 +13,7 @@
 //! let (none, full) = (sets.none(&[2, 3, 4])?, sets.full(&[3, 4])?);
 //! let ports = sets.laid(&[2, 3, 4], none, &[Placed { span, to: full }])?;
 //! let either = sets.union(&[2, 3, 4], ports, other)?;
-//! let parts = parts_within(alloc, sets.store(), answers, either, span)?;
+//! put_parts(sets.store(), answers, either, span, &mut parts)?;
 //! ```
 //!
 //! The store only gains nodes: a number that was handed out before keeps what it answers, also where memory was
@@ -30,6 +30,6 @@ mod sets;
 mod uniting;
 
 pub use laying::laid;
-pub use parting::{parts_within, put_parts};
+pub use parting::put_parts;
 pub use placed::Placed;
 pub use sets::Sets;

@@ -1,5 +1,5 @@
 //! The common split of the edges of two nodes inside a span of their field.
-ghost use Rattle.std.specs.Prelude.{◌≡◌, ◌≤◌, ◌<◌, ◌⊎◌, ℕ, List, [], map, IfOk, OnOk, MatchOption};
+ghost use Rattle.std.specs.Prelude.{◌≡◌, ◌≤◌, ◌<◌, ◌⊎◌, ℕ, List, [], map, OnOk, MatchOption};
 ghost use Rattle.node_store.specs.Levels.{HasField, next, top_of};
 ghost use Rattle.node_store.specs.Diagram.{Node, level_of, edges_of};
 ghost use Rattle.node_store.specs.Split.{to_left, to_right};
@@ -11,32 +11,11 @@ use crate::reaching::{past, reaching};
 use field_boxes::Span;
 use node_store::{Edge, NodeId, Part, Parts, Store};
 use razor_base::Memory;
-use smallvec::SmallVec;
-use std::alloc::Global;
 
-/// The parts of the span on which each of two inner nodes of one level leads to one child, in rising order.
+/// Puts into the list the parts of the span on which each of two inner nodes of one level leads to one child, in rising
+/// order. What was in the list is lost, and its room is used again.
 ///
 /// Two binary searches, and one pass over both nodes' edges inside the span.
-pub fn parts_within(
-    alloc: Global,
-    store: &Store,
-    left: NodeId,
-    right: NodeId,
-    span: Span,
-) -> Result<Parts, Memory>
-    requires inner { HasField (level_of store.now left.0) }
-    requires level { level_of store.now right.0 ≡ level_of store.now left.0 }
-    requires span { span.hi ≤ top_of (level_of store.now left.0) }
-    ensures split { IfOk result (λ parts. IsSplitWithin span.lo span.hi (edges_of store.now left.0) (edges_of store.now right.0) parts.items) }
-    ensures left { IfOk result (λ parts. LeadTo store.now (next (level_of store.now left.0)) (map to_left parts.items)) }
-    ensures right { IfOk result (λ parts. LeadTo store.now (next (level_of store.now left.0)) (map to_right parts.items)) }
-{
-    let mut parts = SmallVec::new(alloc);
-    put_parts(store, left, right, span, &mut parts)?;
-    Ok(parts)
-}
-
-/// The same into a list of the caller's, whose room is used again: what was in it is lost.
 pub fn put_parts(
     store: &Store,
     left: NodeId,
