@@ -21,6 +21,7 @@
 mod operation;
 mod pair;
 mod results;
+mod rooms;
 mod walk;
 
 pub use operation::Operation;

@@ -1,6 +1,7 @@
 //! What walks over pairs of nodes have come to.
 
 use crate::pair::Pair;
+use crate::rooms::Rooms;
 use node_store::NodeId;
 use razor_base::Memory;
 use std::alloc::Global;
@@ -10,6 +11,8 @@ use std::collections::HashMap;
 #[derive(Drop)]
 pub struct Results {
     nodes: HashMap<Pair, NodeId>,
+    /// The room in which walks work.
+    pub(crate) rooms: Rooms,
 }
 
 impl Results {
@@ -24,7 +27,15 @@ impl Results {
     {
         Results {
             nodes: HashMap::new(alloc),
+            rooms: Rooms::new(alloc),
         }
+    }
+
+    /// Lets all pairs go, and keeps the room in which walks work.
+    pub fn clear(&mut self, alloc: Global)
+        ensures { (f : ℕ → ℕ → ℕ) (nodes : List Node) → AreResults f nodes self.new }
+    {
+        self.nodes = HashMap::new(alloc);
     }
 
     /// What came of the pair, if a walk has been through it.

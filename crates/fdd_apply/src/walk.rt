@@ -12,13 +12,10 @@ ghost use Rattle.fdd_apply.specs.Results.{kept_at, AreResults, KeepsPairs};
 use crate::operation::Operation;
 use crate::pair::Pair;
 use crate::results::Results;
+use crate::rooms::Room;
 use node_store::{Edge, NodeId, Part, Store};
 use razor_base::Memory;
-use smallvec::SmallVec;
 use std::alloc::Global;
-
-/// The edges of a node that comes of a pair: most have few.
-type Edges = SmallVec<Edge, 6>;
 
 /// The node of the level that answers, for all values of its fields, what comes of the answers of two nodes.
 ///
@@ -132,7 +129,11 @@ fn worked_out<O: Operation>(
     if level.is_empty() {
         return leaf(operation, store, pair);
     }
-    let parts = store.split(pair.left, pair.right)?;
+    let Room {
+        parts: no_parts,
+        edges: no_edges,
+    } = results.rooms.take(alloc);
+    let parts = store.split_in(pair.left, pair.right, no_parts)?;
     let edges = edges(
         alloc,
         operation,
@@ -140,12 +141,14 @@ fn worked_out<O: Operation>(
         results,
         &level[1..],
         parts.as_slice(),
+        no_edges,
     )?;
     let id = store.make(level, edges.as_slice())?;
+    results.rooms.give(Room { parts, edges })?;
     Ok(id)
 }
 
-/// An edge for each part, to what comes of its nodes, which stand at the level.
+/// An edge for each part, to what comes of its nodes, which stand at the level; in the room of an empty vector.
 #[cycle(walk)]
 fn edges<O: Operation>(
     alloc: Global,
@@ -154,18 +157,20 @@ fn edges<O: Operation>(
     results: &mut Results,
     level: &[u8],
     parts: &[Part],
-) -> Result<Edges, Memory>
+    room: Vec<Edge>,
+) -> Result<Vec<Edge>, Memory>
     requires suits { O.suits operation.now store.old }
     requires results { AreResults (O.combined operation.now) store.old results.old }
     requires level { IsLevel level.now }
     requires left { LeadTo store.old level.now (map to_left parts.now) }
     requires right { LeadTo store.old level.now (map to_right parts.now) }
+    requires empty { room.items ≡ [] }
     ensures applied { IfOk result (λ edges. AllZip (IsAppliedPart (O.combined operation.now) store.new) parts.now edges.items) }
     ensures earlier { KeepsPairs results.old results.new }
     ensures results { AreResults (O.combined operation.now) store.new results.new }
     ensures grows { Grows store.old store.new }
 {
-    let mut edges = SmallVec::with_capacity(alloc, parts.len())?;
+    let mut edges = room;
     for part in parts {
         let pair = Pair {
             left: part.left,

@@ -127,7 +127,7 @@ impl Builder {
         ensures { (nodes : List Node) (order : List ℕ) → IsBuilderOf nodes order self.old → IsBuilderOf nodes order self.new }
     {
         if !self.keeps {
-            self.results = Results::new(alloc);
+            self.results.clear(alloc);
         }
     }
 }

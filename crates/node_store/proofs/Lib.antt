@@ -1,6 +1,7 @@
 pub mod Adjacent
 pub mod Edges
 pub mod Merged
+pub mod Counted
 pub mod Canonical
 pub mod Same
 pub mod Growth

@@ -1,5 +1,5 @@
 //! Edges with equal neighbours merged.
-ghost use Rattle.std.specs.Prelude.{◌≡◌, ◌+◌, ◌<◌, ◌∷◌, true, length, drop, slice_index_or, if◌then◌else◌, IfOk};
+ghost use Rattle.std.specs.Prelude.{◌≡◌, ◌+◌, ◌<◌, ◌∷◌, length, drop, slice_index_or, if◌then◌else◌, IfOk};
 ghost use Rattle.node_store.specs.Edges.{merged};
 ghost use Rattle.node_store.specs.declared.edge.Edge.{Edge};
 
@@ -18,24 +18,14 @@ fn stays(edges: &[Edge], place: usize) -> bool
     place + 1 == edges.len() || edges[place + 1].to != edges[place].to
 }
 
-/// Whether all edges stay: then merging leaves them as they are.
-fn all_stay(edges: &[Edge]) -> bool
-    ensures { result ≡ true → merged edges.now ≡ edges.now }
-{
-    for place in 0..edges.len() {
-        if !stays(edges, place) {
-            return false;
-        }
-    }
-    true
-}
-
 /// How many edges stay.
-fn count(edges: &[Edge]) -> usize {
-    let mut count: usize = 0;
+fn count(edges: &[Edge]) -> usize
+    ensures { result ≡ length (merged edges.now) }
+{
+    let mut count = 0;
     for place in 0..edges.len() {
         if stays(edges, place) {
-            count = count.saturating_add(1);
+            count += 1;
         }
     }
     count
@@ -45,11 +35,12 @@ fn count(edges: &[Edge]) -> usize {
 pub(crate) fn merge(alloc: Global, edges: &[Edge]) -> Result<Edges, Memory>
     ensures { IfOk result (λ kept. kept.items ≡ merged edges.now) }
 {
-    if all_stay(edges) {
-        let kept = SmallVec::from_slice(alloc, edges)?;
-        return Ok(kept);
+    let count = count(edges);
+    if count == edges.len() {
+        let all = SmallVec::from_slice(alloc, edges)?;
+        return Ok(all);
     }
-    let mut kept = SmallVec::with_capacity(alloc, count(edges))?;
+    let mut kept = SmallVec::with_capacity(alloc, count)?;
     for (place, edge) in edges.iter().enumerate() {
         if stays(edges, place) {
             kept.push(*edge)?;

@@ -11,7 +11,6 @@ use crate::edge::{Edge, NodeId};
 use crate::store::Store;
 use razor_base::Memory;
 use smallvec::SmallVec;
-use std::alloc::Global;
 
 /// Some values of a field, from past the part before it up to `hi`, and where they lead from a left
 /// and from a right node.
@@ -22,15 +21,15 @@ pub struct Part {
     pub right: NodeId,
 }
 
-/// The parts of a field: most fields fall into few, which need no allocation.
+/// Parts of a span of a field: most spans fall into few, which need no allocation.
 pub type Parts = SmallVec<Part, 6>;
 
 impl Store {
     /// The fewest parts of their field on which each of two inner nodes of one level leads to one
     /// child, in rising order.
     ///
-    /// One pass over both nodes' edges, which takes memory only where there are more than six parts.
-    pub fn split(&self, left: NodeId, right: NodeId) -> Result<Parts, Memory>
+    /// One pass over both nodes' edges.
+    pub fn split(&self, left: NodeId, right: NodeId) -> Result<Vec<Part>, Memory>
         requires inner { HasField (level_of self.now left.0) }
         requires level { level_of self.now right.0 ≡ level_of self.now left.0 }
         ensures split { IfOk result (λ parts.
@@ -38,18 +37,37 @@ impl Store {
         ensures left { IfOk result (λ parts. LeadTo self.now (next (level_of self.now left.0)) (map to_left parts.items)) }
         ensures right { IfOk result (λ parts. LeadTo self.now (next (level_of self.now left.0)) (map to_right parts.items)) }
     {
-        parts_of(self.allocator(), self.edges(left), self.edges(right))
+        self.split_in(left, right, Vec::new(self.allocator()))
+    }
+
+    /// The same, in the room of an empty vector.
+    pub fn split_in(
+        &self,
+        left: NodeId,
+        right: NodeId,
+        room: Vec<Part>,
+    ) -> Result<Vec<Part>, Memory>
+        requires inner { HasField (level_of self.now left.0) }
+        requires level { level_of self.now right.0 ≡ level_of self.now left.0 }
+        requires empty { room.items ≡ [] }
+        ensures split { IfOk result (λ parts.
+            IsSplit (top_of (level_of self.now left.0)) (edges_of self.now left.0) (edges_of self.now right.0) parts.items) }
+        ensures left { IfOk result (λ parts. LeadTo self.now (next (level_of self.now left.0)) (map to_left parts.items)) }
+        ensures right { IfOk result (λ parts. LeadTo self.now (next (level_of self.now left.0)) (map to_right parts.items)) }
+    {
+        parts_of(self.edges(left), self.edges(right), room)
     }
 }
 
 /// The parts, by one pass over both lists of edges.
-fn parts_of(alloc: Global, left: &[Edge], right: &[Edge]) -> Result<Parts, Memory>
+fn parts_of(left: &[Edge], right: &[Edge], room: Vec<Part>) -> Result<Vec<Part>, Memory>
+    requires empty { room.items ≡ [] }
     ensures split { (greatest : ℕ) → AreFull greatest left.now → AreFull greatest right.now → LeadApart left.now → LeadApart right.now →
         IfOk result (λ parts. IsSplit greatest left.now right.now parts.items) }
     ensures left { (nodes : List Node) (level : List ℕ) → LeadTo nodes level left.now → IfOk result (λ parts. LeadTo nodes level (map to_left parts.items)) }
     ensures right { (nodes : List Node) (level : List ℕ) → LeadTo nodes level right.now → IfOk result (λ parts. LeadTo nodes level (map to_right parts.items)) }
 {
-    let mut parts = SmallVec::new(alloc);
+    let mut parts = room;
     let mut left = left;
     let mut right = right;
     while let Some(part) = first(left, right) {

@@ -50,7 +50,7 @@ edges-loop-part-preserved g t c =
       grows = growth.twice c.args.store.now l.store c.applied.new.store l.invariant.grows made.grows;
       earlier = λ pair kept. made.earlier pair (l.invariant.earlier pair kept);
       results = made.results;
-      applied = subst (λ es. AllZip (IsAppliedPart f c.applied.new.store) (take (l.part-index + 1) c.args.parts.now) es) (sym c.in_ok-push.ensures.ok)
+      applied = subst (λ es. AllZip (IsAppliedPart f c.applied.new.store) (take (l.part-index + 1) c.args.parts.now) es) (sym c.in_ok-push.ensures.items)
           (subst (λ k. AllZip (IsAppliedPart f c.applied.new.store) (take k c.args.parts.now) (l.edges.items ++ edge ∷ [])) one more);
     }
 
@@ -64,7 +64,7 @@ worked_out-make-requires-clause-full g t c =
     nodes.full f c.edges.new.store (top_of c.args.level.now) c.in_ok-parts.parts.items c.as_slice-2.result.now
     (subst (λ k. AreFull (top_of k) (map to_left c.in_ok-parts.parts.items)) c.requires.pair.left c.in_ok-parts.ensures.split.full)
     (nodes.from_slices f c.edges.new.store c.as_slice.result.now c.in_ok-parts.parts.items c.in_ok-edges.edges.items c.as_slice-2.result.now
-    c.as_slice.ensures c.as_slice-2.ensures c.in_ok-edges.ensures.applied)
+    c.as_slice.ensures.value c.as_slice-2.ensures.value c.in_ok-edges.ensures.applied)
 
 pub worked_out-make-requires-clause-children : goal.worked_out-make-requires-clause-children
 worked_out-make-requires-clause-children g t c =
@@ -73,7 +73,7 @@ worked_out-make-requires-clause-children g t c =
     c.in_ok-edges.ensures.grows (is_next c.args.level.now (not_empty c.args.level.now c.requires.level (sym c.if-is_empty.ensures)))
     (subst (λ k. LeadTo c.args.store.now (next k) (map to_left c.in_ok-parts.parts.items)) c.requires.pair.left c.in_ok-parts.ensures.left)
     (nodes.from_slices f c.edges.new.store c.as_slice.result.now c.in_ok-parts.parts.items c.in_ok-edges.edges.items c.as_slice-2.result.now
-    c.as_slice.ensures c.as_slice-2.ensures c.in_ok-edges.ensures.applied)
+    c.as_slice.ensures.value c.as_slice-2.ensures.value c.in_ok-edges.ensures.applied)
 
 pub worked_out-returns-in_err-id-clause-results : goal.worked_out-returns-in_err-id-clause-results
 worked_out-returns-in_err-id-clause-results g t c =
@@ -92,8 +92,12 @@ worked_out-returns-clause-applied g t c =
     (subst (λ k. LeadTo old (next k) (map to_left ps)) at.left split.left)
     (subst (λ k. LeadTo old (next k) (map to_right ps)) at.left split.right)
     (nodes.from_slices f c.edges.new.store c.as_slice.result.now ps c.in_ok-edges.edges.items c.as_slice-2.result.now
-    c.as_slice.ensures c.as_slice-2.ensures c.in_ok-edges.ensures.applied)
+    c.as_slice.ensures.value c.as_slice-2.ensures.value c.in_ok-edges.ensures.applied)
     c.in_ok-id.ensures.level c.in_ok-id.ensures.answers
+
+pub worked_out-returns-in_err-give-clause-results : goal.worked_out-returns-in_err-give-clause-results
+worked_out-returns-in_err-give-clause-results g t c =
+    stays.results (g.O.Operation.combined c.args.operation.now) c.edges.new.store c.make.new.self c.edges.new.results c.make.ensures.grows c.in_ok-edges.ensures.results
 
 pub worked_out-returns-clause-results : goal.worked_out-returns-clause-results
 worked_out-returns-clause-results g t c =

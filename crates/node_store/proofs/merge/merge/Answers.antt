@@ -1,6 +1,7 @@
 use Rattle.std.proofs.Common.{◌≡◌, ◌∷◌, ◌++◌, ◌+◌, List, [], drop, append_assoc, ap, sym, ◌∙◌}
 use Rattle.node_store.specs.declared.edge.Edge.{Edge}
 use Rattle.node_store.specs.Edges.{merged}
+use Rattle.node_store.proofs.Counted.{whole}
 use Rattle.node_store.proofs.merge.merge.Goals as goal
 use Rattle.node_store.proofs.merge.merge.Goals.{then-stays+in_ok-push, else-stays}
 
@@ -18,3 +19,6 @@ loop-place-preserved c =
           let none : Edge = record { hi = 0; to = record { 0 = 0 } } in
           ap (λ k. k.items ++ rest) w.kept-is ∙ ap (λ xs. c.loop-place.kept.items ++ xs) (sym (w.if-stays.ensures none)) ∙ c.loop-place.invariant
     ]
+
+pub returns-then-count-edges : goal.returns-then-count-edges
+returns-then-count-edges c = c.in_ok-all.ensures.ok ∙ sym (whole c.args.edges.now (sym c.count-count.ensures ∙ c.if-count-edges.true))

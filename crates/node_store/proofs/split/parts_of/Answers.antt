@@ -26,7 +26,7 @@ loop-part-smaller c =
 pub loop-part-preserved : goal.loop-part-preserved
 loop-part-preserved c = λ rest follows.
     moved c.args.left.now c.args.right.now c.loop-part.left.now c.loop-part.right.now c.past-left.result.now c.past-right.result.now
-    c.loop-part.parts.items c.push.new.self.items rest c.in-Some.part c.past-left.ensures c.past-right.ensures c.in-Some.ensures c.in_ok-push.ensures.ok
+    c.loop-part.parts.items c.push.new.self.items rest c.in-Some.part c.past-left.ensures c.past-right.ensures c.in-Some.ensures c.in_ok-push.ensures.items
     c.loop-part.invariant follows
 
 whole : (all_left all_right left right : List Edge) (parts : List Part) →

@@ -5,5 +5,5 @@ pub returns-then-not-self : goal.returns-then-not-self
 returns-then-not-self c = λ nodes order kept. record {
   overlay = kept.overlay;
   nothing = kept.nothing;
-  results = c.new.ensures (shown c.args.self.now.laying.overlay) nodes;
+  results = c.clear.ensures (shown c.args.self.now.laying.overlay) nodes;
 }

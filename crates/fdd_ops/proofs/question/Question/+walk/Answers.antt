@@ -49,19 +49,19 @@ parts-returns-clause-yes t c = λ greatest full.
     (c.loop-part.invariant.yes (subst (meeting.AllAgree c.args.self.now c.args.store.now c.args.span) (sym (drop_all c.loop-part.part-index c.args.parts.now c.loop-part-test.false)) tt))
 
 -- the parts of the pair's field, with what the children of each value are
-module _ (t : ℕ) (c : goal.worked_out-Joined-parts-2 t) where
+module _ (t : ℕ) (c : goal.worked_out-After-drop-parts-2 t) where
   field : HasField c.args.level.now
   field = not_empty c.args.level.now c.requires.level (sym c.if-is_empty.ensures)
 
   split : IsSplit (top_of c.args.level.now) (edges_of c.args.store.now c.args.pair.which.0) (edges_of c.args.store.now c.args.pair.answers.0) c.as_slice.result.now
   split =
-      subst (λ ps. IsSplit (top_of c.args.level.now) (edges_of c.args.store.now c.args.pair.which.0) (edges_of c.args.store.now c.args.pair.answers.0) ps) (sym c.as_slice.ensures)
+      subst (λ ps. IsSplit (top_of c.args.level.now) (edges_of c.args.store.now c.args.pair.which.0) (edges_of c.args.store.now c.args.pair.answers.0) ps) (sym c.as_slice.ensures.value)
       (subst (λ k. IsSplit (top_of k) (edges_of c.args.store.now c.args.pair.which.0) (edges_of c.args.store.now c.args.pair.answers.0) c.in_ok-parts.parts.items)
       c.requires.pair.which c.in_ok-parts.ensures.split)
 
   lead : LeadTo c.args.store.now (next c.args.level.now) (map to_left c.as_slice.result.now)
   lead =
-      subst (λ ps. LeadTo c.args.store.now (next c.args.level.now) (map to_left ps)) (sym c.as_slice.ensures)
+      subst (λ ps. LeadTo c.args.store.now (next c.args.level.now) (map to_left ps)) (sym c.as_slice.ensures.value)
       (subst (λ k. LeadTo c.args.store.now (next k) (map to_left c.in_ok-parts.parts.items)) c.requires.pair.which c.in_ok-parts.ensures.left)
 
 pub worked_out-returns-clause-yes : goal.worked_out-returns-clause-yes
