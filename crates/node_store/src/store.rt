@@ -64,7 +64,7 @@ impl Store {
         ensures found { slice_get self.now id.0 ≡ Some (node_of result.now) }
         ensures fits { FitsAt self.now id.0 (node_of result.now) }
     {
-        &self.nodes[id.0]
+        &self.nodes[id.0 as usize]
     }
 
     /// The fields that are read from the node on, its own first; none for a leaf.
@@ -153,7 +153,7 @@ impl Store {
         Ok(id)
     }
 
-    /// The number of the node, which the store gains where it isn't there.
+    /// The number of the node, which the store gains where it isn't there. A store whose numbers are used up takes none.
     fn add(&mut self, node: Node) -> Result<NodeId, Memory>
         requires { FitsAt self.old (length self.old) (node_of node) }
         ensures numbered { IfOk result (λ id. IsNumbered self.old self.new (node_of node) id.0) }
@@ -161,8 +161,11 @@ impl Store {
         ensures grows { Grows self.old self.new }
         ensures err { OnErr result (self.new ≡ self.old) }
     {
+        if self.count() > u32::MAX as usize {
+            return Err(Memory);
+        }
         let (number, _added) = self.nodes.insert_full(node)?;
-        Ok(NodeId(number))
+        Ok(NodeId(number as u32))
     }
 
     /// Where the store takes its memory from.

@@ -29,11 +29,8 @@ pub fn pass(store: &mut Store, plan: Plan) -> Result<u64>
     let mut checksum = 0u64;
     for place in 0..plan.nodes {
         let number = node(store, plan, place)?;
-        ensure!(
-            number.0 == place as usize,
-            "node {place} has another number"
-        );
-        checksum = checksum.wrapping_mul(31).wrapping_add(number.0 as u64);
+        ensure!(number.0 == place, "node {place} has another number");
+        checksum = checksum.wrapping_mul(31).wrapping_add(u64::from(number.0));
     }
     Ok(checksum)
 }
@@ -86,8 +83,8 @@ fn leaf(store: &Store, number: u32) -> Result<NodeId>
     ensures found { IfOk result (λ id. id.0 < length store.now) }
     ensures level { IfOk result (λ id. level_of store.now id.0 ≡ []) }
 {
-    let id = NodeId(number as usize);
-    ensure!(id.0 < store.count(), "no node {number}");
+    let id = NodeId(number);
+    ensure!((id.0 as usize) < store.count(), "no node {number}");
     ensure!(store.level(id).is_empty(), "node {number} is no leaf");
     Ok(id)
 }

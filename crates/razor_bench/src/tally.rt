@@ -43,10 +43,11 @@ fn reached(alloc: Global, store: &Store, root: NodeId) -> Result<usize>
     ensures { IfOk result (λ count. count ≤ length store.now) }
 {
     let mut reached = vec![in alloc; false; store.count()]?;
-    reached[root.0] = true;
+    reached[root.0 as usize] = true;
+    let count = u32::try_from(store.count())?;
     // Edges lead to smaller numbers, so a node comes after all that lead to it.
-    for number in (0..store.count()).rev() {
-        if reached[number] {
+    for number in (0..count).rev() {
+        if reached[number as usize] {
             reach(store, NodeId(number), &mut reached);
         }
     }
@@ -62,7 +63,7 @@ fn reach(store: &Store, id: NodeId, reached: &mut [bool])
         return;
     }
     for edge in store.edges(id) {
-        reached[edge.to.0] = true;
+        reached[edge.to.0 as usize] = true;
     }
 }
 

@@ -38,7 +38,7 @@ impl Known {
         ensures { (nodes : List Node) (plans : Plans) (blocks : Blocks) → AreKnown nodes plans blocks self.now →
             IfSome result (IsBlockOf nodes plans blocks id.0) }
     {
-        let known = self.numbers.get(id.0)?;
+        let known = self.numbers.get(id.0 as usize)?;
         *known
     }
 
@@ -47,8 +47,8 @@ impl Known {
         ensures { (nodes : List Node) (plans : Plans) (blocks : Blocks) → AreKnown nodes plans blocks self.old →
             IsBlockOf nodes plans blocks id.0 number → AreKnown nodes plans blocks self.new }
     {
-        if id.0 < self.numbers.len() {
-            self.numbers[id.0] = Some(number);
+        if (id.0 as usize) < self.numbers.len() {
+            self.numbers[id.0 as usize] = Some(number);
         }
     }
 }

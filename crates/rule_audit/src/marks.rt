@@ -14,12 +14,20 @@ pub(crate) fn mark_all(alloc: Global, store: &Store, nothing: bool) -> Result<Ve
     ensures { IfOk result (λ marks. AreMarks store.now nothing marks.items) }
 {
     store.same_answers();
+    let count = node_count(store)?;
     let mut marks = Vec::with_capacity(alloc, store.count())?;
-    for number in 0..store.count() {
+    for number in 0..count {
         let marked = is_marked(store, marks.as_slice(), NodeId(number), nothing);
         marks.push(marked)?;
     }
     Ok(marks)
+}
+
+/// How many nodes there are, where the last number is one less.
+fn node_count(store: &Store) -> Result<u32, Memory>
+    ensures { IfOk result (λ count. count ≡ length store.now) }
+{
+    u32::try_from(store.count()).map_err(|_refused| Memory)
 }
 
 /// Whether the node is one of them, by the marks of the nodes before it.
@@ -53,7 +61,7 @@ fn are_marked(edges: &[Edge], marks: &[bool]) -> bool
     ensures { OnTrue result (LeadToMarked marks.now edges.now) }
 {
     for edge in edges {
-        if !marks[edge.to.0] {
+        if !marks[edge.to.0 as usize] {
             return false;
         }
     }

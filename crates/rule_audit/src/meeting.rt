@@ -55,11 +55,11 @@ impl<'a> Meeting<'a> {
         ensures met { AreMet self.now.first self.now.store.now self.now.root.0 (UpTo (take depth header.values)) seen.new states.new }
     {
         self.store.same_answers();
-        if seen[id.0] {
+        if seen[id.0 as usize] {
             return;
         }
         self.worked_out(id, depth, header, seen, states);
-        seen[id.0] = true;
+        seen[id.0 as usize] = true;
     }
 
     /// Meets a leaf, or goes on under the edges of an inner node.

@@ -60,7 +60,7 @@ impl Seeking {
         requires { id.0 < length self.now.nothing.items }
         ensures { result ≡ slice_index_or self.now.nothing.items id.0 false }
     {
-        self.nothing[id.0]
+        self.nothing[id.0 as usize]
     }
 
     /// Whether the node answers something for all values.
@@ -68,7 +68,7 @@ impl Seeking {
         requires { id.0 < length self.now.full.items }
         ensures { result ≡ slice_index_or self.now.full.items id.0 false }
     {
-        self.full[id.0]
+        self.full[id.0 as usize]
     }
 
     /// Whether one of the nodes answers something for all values.

@@ -76,7 +76,7 @@ impl Costs {
         requires { id.0 < length self.now.numbers.items }
         ensures { result ≡ slice_index self.now.numbers.items id.0 }
     {
-        self.numbers[id.0]
+        self.numbers[id.0 as usize]
     }
 
     /// Works out the nodes of a diagram that aren't known, each after its children.
@@ -87,7 +87,7 @@ impl Costs {
         ensures learns { LearnsCosts store.now self.old self.new }
         ensures known { OnOk result (IsMarked self.new.known.items id.0) }
     {
-        if self.known[id.0] {
+        if self.known[id.0 as usize] {
             return Ok(());
         }
         store.same_answers();
@@ -124,8 +124,8 @@ impl Costs {
         ensures numbers { self.new.numbers.items ≡ slice_set self.old.numbers.items id.0 cost }
         ensures places { length self.new.labels.children.places.items ≡ length self.old.labels.children.places.items }
     {
-        self.known[id.0] = true;
-        self.numbers[id.0] = cost;
+        self.known[id.0 as usize] = true;
+        self.numbers[id.0 as usize] = cost;
     }
 
     /// Makes room for the costs of so many nodes, the first of the store.

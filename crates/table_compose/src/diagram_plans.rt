@@ -168,8 +168,8 @@ impl Plans {
         ensures known { IfOk result (λ whole. IsTrue whole → IsMarked self.new.known.items id.0) }
         ensures whole { IfOk result (λ whole. IsNone most → IsTrue whole) }
     {
-        if self.known[id.0] {
-            return Ok(is_within(self.costs[id.0], most));
+        if self.known[id.0 as usize] {
+            return Ok(is_within(self.costs[id.0 as usize], most));
         }
         store.same_answers();
         let edges = store.edges(id);
@@ -218,9 +218,9 @@ impl Plans {
         ensures lists { self.new.lists.items ≡ slice_set self.old.lists.items id.0 rows }
         ensures places { length self.new.labels.children.places.items ≡ length self.old.labels.children.places.items }
     {
-        self.known[id.0] = true;
-        self.costs[id.0] = cost;
-        self.lists[id.0] = rows;
+        self.known[id.0 as usize] = true;
+        self.costs[id.0 as usize] = cost;
+        self.lists[id.0 as usize] = rows;
     }
 
     /// Makes room for the plans of so many nodes, the first of the store.
@@ -240,7 +240,7 @@ impl Plans {
         requires { id.0 < length self.now.costs.items }
         ensures { result ≡ slice_index self.now.costs.items id.0 }
     {
-        self.costs[id.0]
+        self.costs[id.0 as usize]
     }
 
     /// The prefix list of the node under the number; a leaf has no rows.
@@ -248,7 +248,7 @@ impl Plans {
         requires { id.0 < length self.now.lists.items }
         ensures { rows_at self.now.lists.items id.0 ≡ rows_of result.now }
     {
-        self.lists[id.0].as_slice()
+        self.lists[id.0 as usize].as_slice()
     }
 }
 

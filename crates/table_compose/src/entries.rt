@@ -34,7 +34,7 @@ pub(crate) fn add_table(
         add_leaf(store, &prefixes, id, entries)?;
         return Ok(());
     }
-    for row in plans.lists[id.0].as_slice() {
+    for row in plans.lists[id.0 as usize].as_slice() {
         let mut longer = prefixes;
         longer[usize::from(level[0])] = row.prefix;
         add_table(store, plans, &level[1..], longer, row.to, entries)?;

@@ -77,7 +77,7 @@ fn weigh(weights: &mut Vec<u128>, children: &[NodeId], costs: &[u128]) -> Result
 {
     weights.clear();
     for child in children {
-        weights.push(costs[child.0])?;
+        weights.push(costs[child.0 as usize])?;
     }
     Ok(())
 }

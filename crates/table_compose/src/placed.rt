@@ -53,13 +53,13 @@ impl Placed {
         ensures placed { OnOk result (ArePlaced self.new.places.items self.new.nodes.items) }
         ensures room { length self.new.places.items ≡ length self.old.places.items }
     {
-        let known = self.places[node.0];
+        let known = self.places[node.0 as usize];
         if stands(self.nodes.as_slice(), known, node) {
             return Ok(known);
         }
         let place = self.nodes.len() as u32;
         self.nodes.push(node)?;
-        self.places[node.0] = place;
+        self.places[node.0 as usize] = place;
         Ok(place)
     }
 }

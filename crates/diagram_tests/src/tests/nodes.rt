@@ -11,7 +11,7 @@ pub(super) fn expect_level(rt: &impl Abort, store: &Store, id: NodeId, level: &[
     ensures number { id.0 < length store.now }
     ensures level { level_of store.now id.0 ≡ level.now }
 {
-    assert!(rt; id.0 < store.count());
+    assert!(rt; (id.0 as usize) < store.count());
     assert_eq!(rt; store.level(id), level);
 }
 
