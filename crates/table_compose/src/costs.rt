@@ -93,7 +93,7 @@ impl Costs {
         store.same_answers();
         let edges = store.edges(id);
         for edge in edges {
-            if self.known[edge.to.0] {
+            if self.known[edge.to.0 as usize] {
                 continue;
             }
             self.learn(costing, store, edge.to)?;

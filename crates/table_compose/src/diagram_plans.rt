@@ -174,7 +174,7 @@ impl Plans {
         store.same_answers();
         let edges = store.edges(id);
         for edge in edges {
-            if self.known[edge.to.0] && is_within(self.costs[edge.to.0], most) {
+            if self.known[edge.to.0 as usize] && is_within(self.costs[edge.to.0 as usize], most) {
                 continue;
             }
             let whole = self.learn_node(alloc, costing, store, edge.to, most)?;
