@@ -16,7 +16,7 @@ mod store;
 use hash::Multiply;
 use span::{Boxed, GREATEST, Span};
 use std::hash::{BuildHasher, BuildHasherDefault, RandomState};
-use store::Store;
+use store::{Id, Store};
 
 const OPEN: [Span; 5] = {
     let mut spans = [Span { lo: 0, hi: 0 }; 5];
@@ -147,7 +147,7 @@ fn crossed(size: u32) -> Vec<Rule> {
 }
 
 /// The answers at the least and at the greatest header of each rule, as a checksum.
-fn checksum<S: BuildHasher + Default>(store: &Store<S>, root: usize, rules: &[Rule]) -> u64 {
+fn checksum<S: BuildHasher + Default>(store: &Store<S>, root: Id, rules: &[Rule]) -> u64 {
     let mut checksum = 0u64;
     for rule in rules {
         let least: [u32; 5] = std::array::from_fn(|field| rule.sets[field][0].lo);

@@ -2,19 +2,19 @@
 //! by one walk over pairs of nodes that keeps what came of each pair.
 
 use crate::span::{Boxed, GREATEST, Span};
-use crate::store::{Edge, Node, Store};
+use crate::store::{Edge, Id, Node, Store};
 use std::collections::HashMap;
 use std::hash::BuildHasher;
 use std::rc::Rc;
 
 #[derive(Clone, Copy, PartialEq, Eq, Hash)]
 pub struct Pair {
-    pub upper: usize,
-    pub lower: usize,
+    pub upper: Id,
+    pub lower: Id,
 }
 
 impl<S: BuildHasher + Default> Store<S> {
-    fn boxed<R: Boxed>(&mut self, rule: &R) -> usize {
+    fn boxed<R: Boxed>(&mut self, rule: &R) -> Id {
         let mut inside = self.leaf(rule.decision());
         for field in (0..5u8).rev() {
             let level = usize::from(field);
@@ -34,7 +34,7 @@ impl<S: BuildHasher + Default> Store<S> {
         inside
     }
 
-    pub fn build<R: Boxed>(&mut self, rules: &[R]) -> usize {
+    pub fn build<R: Boxed>(&mut self, rules: &[R]) -> Id {
         match rules {
             [] => self.nothing[0],
             [rule] => self.boxed(rule),
@@ -47,7 +47,7 @@ impl<S: BuildHasher + Default> Store<S> {
         }
     }
 
-    fn lay(&mut self, memo: &mut HashMap<Pair, usize, S>, pair: Pair) -> usize {
+    fn lay(&mut self, memo: &mut HashMap<Pair, Id, S>, pair: Pair) -> Id {
         let nothing = self.nothing[self.level(pair.upper)];
         if pair.upper == nothing {
             return pair.lower;
@@ -58,7 +58,7 @@ impl<S: BuildHasher + Default> Store<S> {
         if let Some(&laid) = memo.get(&pair) {
             return laid;
         }
-        let laid = match (&self.nodes[pair.upper], &self.nodes[pair.lower]) {
+        let laid = match (&self.nodes[pair.upper as usize], &self.nodes[pair.lower as usize]) {
             (Node::Inner { field, edges: upper }, Node::Inner { edges: lower, .. }) => {
                 let (field, upper, lower) = (*field, Rc::clone(upper), Rc::clone(lower));
                 self.inner(memo, field, &upper, &lower)
@@ -71,7 +71,7 @@ impl<S: BuildHasher + Default> Store<S> {
         laid
     }
 
-    fn inner(&mut self, memo: &mut HashMap<Pair, usize, S>, field: u8, upper: &[Edge], lower: &[Edge]) -> usize {
+    fn inner(&mut self, memo: &mut HashMap<Pair, Id, S>, field: u8, upper: &[Edge], lower: &[Edge]) -> Id {
         let mut edges = Vec::with_capacity(upper.len() + lower.len());
         let (mut left, mut right) = (0, 0);
         while left < upper.len() && right < lower.len() {

@@ -59,7 +59,7 @@ fn table<S: BuildHasher + Default>(bytes: &[u8]) -> String {
     let plans = planning::plans(&store, root);
     let kept = Removal::<S>::default().of_diagram(&store, &plans, root);
     let entries = writing::entries(&store, &plans, root, &kept.kept);
-    writing::table(&list, plans.costs[root], &entries)
+    writing::table(&list, plans.costs[root as usize], &entries)
 }
 
 fn run<S: BuildHasher + Default>(step: &str, bytes: &[u8]) -> String {

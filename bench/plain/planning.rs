@@ -1,7 +1,7 @@
 //! What each node of a diagram costs, and its cheapest prefix list, each worked out once.
 
 use crate::minimising::{Minimiser, Piece};
-use crate::store::Store;
+use crate::store::{Id, Store};
 use std::collections::HashMap;
 use std::hash::BuildHasher;
 
@@ -12,7 +12,7 @@ pub const WIDTHS: [u8; 5] = [32, 32, 16, 16, 8];
 pub struct Row {
     pub value: u32,
     pub len: u8,
-    pub to: usize,
+    pub to: Id,
 }
 
 /// By the numbers of nodes; a number that is no node of the diagram costs nothing.
@@ -31,12 +31,12 @@ impl Plans {
 }
 
 /// Which numbers up to the root's are those of its diagram.
-fn reached<S: BuildHasher + Default>(store: &Store<S>, root: usize) -> Vec<bool> {
-    let mut reached = vec![false; root + 1];
-    reached[root] = true;
+fn reached<S: BuildHasher + Default>(store: &Store<S>, root: Id) -> Vec<bool> {
+    let mut reached = vec![false; root as usize + 1];
+    reached[root as usize] = true;
     for id in (0..=root).rev() {
-        if reached[id] {
-            store.edges(id).iter().for_each(|edge| reached[edge.to] = true);
+        if reached[id as usize] {
+            store.edges(id).iter().for_each(|edge| reached[edge.to as usize] = true);
         }
     }
     reached
@@ -45,14 +45,14 @@ fn reached<S: BuildHasher + Default>(store: &Store<S>, root: usize) -> Vec<bool>
 /// The labels of one node after another, in rooms that are lent to each.
 #[derive(Default)]
 struct Labels<S> {
-    places: HashMap<usize, u32, S>,
-    children: Vec<usize>,
+    places: HashMap<Id, u32, S>,
+    children: Vec<Id>,
     pieces: Vec<Piece>,
     weights: Vec<u128>,
 }
 
 impl<S: BuildHasher + Default> Labels<S> {
-    fn of(&mut self, store: &Store<S>, id: usize, costs: &[u128]) {
+    fn of(&mut self, store: &Store<S>, id: Id, costs: &[u128]) {
         self.places.clear();
         self.children.clear();
         self.pieces.clear();
@@ -65,18 +65,18 @@ impl<S: BuildHasher + Default> Labels<S> {
             self.pieces.push(Piece { hi: edge.hi, label });
         }
         self.weights.clear();
-        self.weights.extend(self.children.iter().map(|&child| costs[child]));
+        self.weights.extend(self.children.iter().map(|&child| costs[child as usize]));
     }
 }
 
 /// What the diagram costs.
-pub fn cost<S: BuildHasher + Default>(store: &Store<S>, root: usize) -> u128 {
+pub fn cost<S: BuildHasher + Default>(store: &Store<S>, root: Id) -> u128 {
     let mut minimiser = Minimiser::default();
     let mut labels = Labels::<S>::default();
-    let mut costs = vec![0; root + 1];
-    for (id, reached) in reached(store, root).into_iter().enumerate() {
+    let mut costs = vec![0; root as usize + 1];
+    for (id, reached) in (0..).zip(reached(store, root)) {
         if reached {
-            costs[id] = match store.decision(id) {
+            costs[id as usize] = match store.decision(id) {
                 Some(_) => 1,
                 None => {
                     labels.of(store, id, &costs);
@@ -85,22 +85,22 @@ pub fn cost<S: BuildHasher + Default>(store: &Store<S>, root: usize) -> u128 {
             };
         }
     }
-    costs[root]
+    costs[root as usize]
 }
 
 /// The same with the lists.
-pub fn plans<S: BuildHasher + Default>(store: &Store<S>, root: usize) -> Plans {
+pub fn plans<S: BuildHasher + Default>(store: &Store<S>, root: Id) -> Plans {
     let mut minimiser = Minimiser::default();
     let mut labels = Labels::<S>::default();
-    let mut plans = Plans { costs: vec![0; root + 1], lists: vec![Vec::new(); root + 1] };
-    for (id, reached) in reached(store, root).into_iter().enumerate() {
+    let mut plans = Plans { costs: vec![0; root as usize + 1], lists: vec![Vec::new(); root as usize + 1] };
+    for (id, reached) in (0..).zip(reached(store, root)) {
         if reached {
-            plans.costs[id] = 1;
+            plans.costs[id as usize] = 1;
             if store.decision(id).is_none() {
                 labels.of(store, id, &plans.costs);
                 let (cost, rows) = minimiser.minimise(&labels.pieces, &labels.weights, WIDTHS[store.level(id)]);
-                plans.costs[id] = cost;
-                plans.lists[id] =
+                plans.costs[id as usize] = cost;
+                plans.lists[id as usize] =
                     rows.iter().map(|row| Row { value: row.value, len: row.len, to: labels.children[row.label as usize] }).collect();
             }
         }

@@ -6,15 +6,15 @@
 
 use crate::planning::{Plans, Row, WIDTHS};
 use crate::span::{GREATEST, Span};
-use crate::store::{Edge, Store};
+use crate::store::{Edge, Id, Store};
 use std::collections::HashMap;
 use std::hash::BuildHasher;
 use std::rc::Rc;
 
 #[derive(Clone, Copy, PartialEq, Eq, Hash)]
 pub struct Pair {
-    pub after: usize,
-    pub met: usize,
+    pub after: Id,
+    pub met: Id,
 }
 
 #[derive(Clone, Copy, PartialEq, Eq, Hash)]
@@ -33,22 +33,22 @@ enum Block {
 #[derive(Clone, Copy)]
 struct Cover {
     level: u8,
-    set: usize,
+    set: Id,
 }
 
 /// Which entries of a block are kept, first entry first, and what each context then answers.
 pub struct Sifted {
     pub kept: Box<[bool]>,
-    pub after: Box<[usize]>,
+    pub after: Box<[Id]>,
 }
 
 const NO: u32 = u32::MAX;
 
 pub struct Removal<S> {
     store: Store<S>,
-    none: [usize; 6],
-    full: [usize; 6],
-    unions: HashMap<(usize, usize), usize, S>,
+    none: [Id; 6],
+    full: [Id; 6],
+    unions: HashMap<(Id, Id), Id, S>,
     blocks: Vec<Block>,
     covers: Vec<Cover>,
     /// By node of the diagram: the block of its composed entries, or NO.
@@ -76,7 +76,7 @@ impl<S: BuildHasher + Default> Default for Removal<S> {
 
 impl<S: BuildHasher + Default> Removal<S> {
     /// Which entries that the diagram composes are kept, first entry first: the block of a node is known by its number.
-    pub fn of_diagram(&mut self, diagram: &Store<S>, plans: &Plans, root: usize) -> Rc<Sifted> {
+    pub fn of_diagram(&mut self, diagram: &Store<S>, plans: &Plans, root: Id) -> Rc<Sifted> {
         let root = self.block_of_node(diagram, plans, root);
         self.sift_root(root)
     }
@@ -88,7 +88,7 @@ impl<S: BuildHasher + Default> Removal<S> {
 
     // The blocks of nodes: the rows of a node's cheapest list are its runs.
 
-    fn block_of_node(&mut self, diagram: &Store<S>, plans: &Plans, id: usize) -> u32 {
+    fn block_of_node(&mut self, diagram: &Store<S>, plans: &Plans, id: Id) -> u32 {
         if let Some(&block) = self.of_node.get(id as usize).filter(|&&b| b != NO) {
             return block;
         }
@@ -96,8 +96,8 @@ impl<S: BuildHasher + Default> Removal<S> {
             Some(decision) => self.add(Block::Last(decision), 5, self.full[5]),
             None => {
                 let level = diagram.level(id);
-                let mut runs: Vec<Run> = Vec::with_capacity(plans.lists[id].len());
-                for row in &plans.lists[id] {
+                let mut runs: Vec<Run> = Vec::with_capacity(plans.lists[id as usize].len());
+                for row in &plans.lists[id as usize] {
                     let block = self.block_of_node(diagram, plans, row.to);
                     runs.push(Run { span: span(row, WIDTHS[level]), block });
                 }
@@ -119,7 +119,7 @@ impl<S: BuildHasher + Default> Removal<S> {
         while !rest.is_empty() {
             let rises = rest.windows(2).take_while(|w| w[0].span.hi < w[1].span.lo).count();
             let (layer, others) = rest.split_at(rises + 1);
-            let placed: Vec<(Span, usize)> = layer.iter().map(|r| (r.span, self.covers[r.block as usize].set)).collect();
+            let placed: Vec<(Span, Id)> = layer.iter().map(|r| (r.span, self.covers[r.block as usize].set)).collect();
             let set = self.laid(level, self.none[level], &placed);
             numbers.push(self.add(Block::Layer(layer.into()), level, set));
             rest = others;
@@ -138,7 +138,7 @@ impl<S: BuildHasher + Default> Removal<S> {
         self.add(Block::Two(first, second), level, set)
     }
 
-    fn add(&mut self, block: Block, level: usize, set: usize) -> u32 {
+    fn add(&mut self, block: Block, level: usize, set: Id) -> u32 {
         self.blocks.push(block);
         self.covers.push(Cover { level: level as u8, set });
         self.blocks.len() as u32 - 1
@@ -172,7 +172,7 @@ impl<S: BuildHasher + Default> Removal<S> {
                 let level = usize::from(self.covers[number as usize].level);
                 let mut kept: Vec<bool> = Vec::new();
                 // For each context where it leads on, span by span.
-                let mut changes: Vec<Vec<(Span, usize)>> = vec![Vec::new(); contexts.len()];
+                let mut changes: Vec<Vec<(Span, Id)>> = vec![Vec::new(); contexts.len()];
                 for run in runs.iter() {
                     self.sift_run(*run, contexts, &mut kept, &mut changes);
                 }
@@ -186,7 +186,7 @@ impl<S: BuildHasher + Default> Removal<S> {
         }
     }
 
-    fn sift_run(&mut self, run: Run, contexts: &[Pair], kept: &mut Vec<bool>, changes: &mut [Vec<(Span, usize)>]) {
+    fn sift_run(&mut self, run: Run, contexts: &[Pair], kept: &mut Vec<bool>, changes: &mut [Vec<(Span, Id)>]) {
         let mut distinct = Distinct::<S>::default();
         // For each context the ends of the parts of the span, and the places of their pairs.
         let mut ends: Vec<(u32, u32)> = Vec::new();
@@ -231,7 +231,7 @@ impl<S: BuildHasher + Default> Removal<S> {
 
     // Diagrams of sets and of answers.
 
-    fn union(&mut self, level: usize, x: usize, y: usize) -> usize {
+    fn union(&mut self, level: usize, x: Id, y: Id) -> Id {
         if x == y || x == self.full[level] || y == self.none[level] {
             return x;
         }
@@ -249,7 +249,7 @@ impl<S: BuildHasher + Default> Removal<S> {
     }
 
     /// The node that leads on as placed in the rising spans, and elsewhere as the base does.
-    fn laid(&mut self, level: usize, base: usize, placed: &[(Span, usize)]) -> usize {
+    fn laid(&mut self, level: usize, base: Id, placed: &[(Span, Id)]) -> Id {
         let old = self.store.edges(base);
         let top = GREATEST[level];
         let mut edges: Vec<Edge> = Vec::with_capacity(old.len() + 2 * placed.len());

@@ -5,10 +5,13 @@ use std::collections::HashMap;
 use std::hash::BuildHasher;
 use std::rc::Rc;
 
+/// The number of a node.
+pub type Id = u32;
+
 #[derive(Clone, Copy, PartialEq, Eq, Hash)]
 pub struct Edge {
     pub hi: u32,
-    pub to: usize,
+    pub to: Id,
 }
 
 #[derive(Clone, PartialEq, Eq, Hash)]
@@ -18,9 +21,9 @@ pub enum Node {
 }
 
 pub struct Store<S> {
-    numbers: HashMap<Node, usize, S>,
+    numbers: HashMap<Node, Id, S>,
     pub nodes: Vec<Node>,
-    pub nothing: [usize; 6],
+    pub nothing: [Id; 6],
 }
 
 impl<S: BuildHasher + Default> Store<S> {
@@ -36,23 +39,23 @@ impl<S: BuildHasher + Default> Store<S> {
     }
 
     /// The edges of a node; a leaf has none.
-    pub fn edges(&self, id: usize) -> &[Edge] {
-        match &self.nodes[id] {
+    pub fn edges(&self, id: Id) -> &[Edge] {
+        match &self.nodes[id as usize] {
             Node::Leaf(_) => &[],
             Node::Inner { edges, .. } => edges,
         }
     }
 
     /// The decision of a leaf.
-    pub fn decision(&self, id: usize) -> Option<u32> {
-        match &self.nodes[id] {
+    pub fn decision(&self, id: Id) -> Option<u32> {
+        match &self.nodes[id as usize] {
             Node::Leaf(decision) => Some(*decision),
             Node::Inner { .. } => None,
         }
     }
 
     /// For each level the node that answers one decision everywhere.
-    pub fn constants(&mut self, decision: u32) -> [usize; 6] {
+    pub fn constants(&mut self, decision: u32) -> [Id; 6] {
         let mut ids = [self.leaf(decision); 6];
         for level in (0..5).rev() {
             ids[level] = self.make(level as u8, &[Edge { hi: GREATEST[level], to: ids[level + 1] }]);
@@ -61,7 +64,7 @@ impl<S: BuildHasher + Default> Store<S> {
     }
 
     /// The parts on which two inner nodes of one level lead to one child each: their ends, and both children.
-    pub fn joint(&self, left: usize, right: usize) -> Vec<(u32, usize, usize)> {
+    pub fn joint(&self, left: Id, right: Id) -> Vec<(u32, Id, Id)> {
         let (left, right) = (self.edges(left), self.edges(right));
         let mut parts = Vec::with_capacity(left.len() + right.len());
         let (mut i, mut j) = (0, 0);
@@ -74,18 +77,18 @@ impl<S: BuildHasher + Default> Store<S> {
         parts
     }
 
-    pub fn level(&self, id: usize) -> usize {
-        match &self.nodes[id] {
+    pub fn level(&self, id: Id) -> usize {
+        match &self.nodes[id as usize] {
             Node::Leaf(_) => 5,
             Node::Inner { field, .. } => usize::from(*field),
         }
     }
 
-    pub fn leaf(&mut self, decision: u32) -> usize {
+    pub fn leaf(&mut self, decision: u32) -> Id {
         self.add(Node::Leaf(decision))
     }
 
-    pub fn make(&mut self, field: u8, edges: &[Edge]) -> usize {
+    pub fn make(&mut self, field: u8, edges: &[Edge]) -> Id {
         let mut kept: Vec<Edge> = Vec::with_capacity(edges.len());
         for (place, edge) in edges.iter().enumerate() {
             if place + 1 == edges.len() || edges[place + 1].to != edge.to {
@@ -95,37 +98,37 @@ impl<S: BuildHasher + Default> Store<S> {
         self.add(Node::Inner { field, edges: kept.into() })
     }
 
-    fn add(&mut self, node: Node) -> usize {
+    fn add(&mut self, node: Node) -> Id {
         if let Some(&id) = self.numbers.get(&node) {
             return id;
         }
-        let id = self.nodes.len();
+        let id = self.nodes.len() as Id;
         self.nodes.push(node.clone());
         self.numbers.insert(node, id);
         id
     }
 
-    pub fn answer(&self, root: usize, header: [u32; 5]) -> u32 {
+    pub fn answer(&self, root: Id, header: [u32; 5]) -> u32 {
         let mut at = root;
         for value in header {
-            let Node::Inner { edges, .. } = &self.nodes[at] else {
+            let Node::Inner { edges, .. } = &self.nodes[at as usize] else {
                 unreachable!("a node above the leaves");
             };
             at = edges[edges.partition_point(|edge| edge.hi < value)].to;
         }
-        match self.nodes[at] {
+        match self.nodes[at as usize] {
             Node::Leaf(decision) => decision,
             Node::Inner { .. } => unreachable!("a leaf"),
         }
     }
 
     /// How many nodes the diagram under the root has.
-    pub fn reached(&self, root: usize) -> usize {
+    pub fn reached(&self, root: Id) -> usize {
         let mut reached = vec![false; self.nodes.len()];
-        reached[root] = true;
-        for id in (0..=root).rev() {
+        reached[root as usize] = true;
+        for id in (0..=root as usize).rev() {
             if let (true, Node::Inner { edges, .. }) = (reached[id], &self.nodes[id]) {
-                edges.iter().for_each(|edge| reached[edge.to] = true);
+                edges.iter().for_each(|edge| reached[edge.to as usize] = true);
             }
         }
         reached.iter().filter(|&&is| is).count()

@@ -2,7 +2,7 @@
 
 use crate::planning::{Plans, WIDTHS};
 use crate::reading::List;
-use crate::store::Store;
+use crate::store::{Id, Store};
 use std::fmt::Write;
 use std::hash::BuildHasher;
 
@@ -19,7 +19,7 @@ pub struct Entry {
 }
 
 /// The flagged ones of the entries that the diagram composes. Nodes of which none is flagged are passed over.
-pub fn entries<S: BuildHasher + Default>(store: &Store<S>, plans: &Plans, root: usize, flags: &[bool]) -> Vec<Entry> {
+pub fn entries<S: BuildHasher + Default>(store: &Store<S>, plans: &Plans, root: Id, flags: &[bool]) -> Vec<Entry> {
     let mut entries = Vec::new();
     add(store, plans, 0, root, [Part::default(); 5], flags, &mut entries);
     entries
@@ -29,7 +29,7 @@ fn add<S: BuildHasher + Default>(
     store: &Store<S>,
     plans: &Plans,
     level: usize,
-    id: usize,
+    id: Id,
     parts: [Part; 5],
     flags: &[bool],
     entries: &mut Vec<Entry>,
@@ -42,8 +42,8 @@ fn add<S: BuildHasher + Default>(
         return;
     }
     let mut rest = flags;
-    for row in &plans.lists[id] {
-        let (own, others) = rest.split_at(plans.costs[row.to] as usize);
+    for row in &plans.lists[id as usize] {
+        let (own, others) = rest.split_at(plans.costs[row.to as usize] as usize);
         let width = u32::from(WIDTHS[level]);
         let greatest = u32::MAX >> (32 - width);
         let mask = greatest & !((greatest as u64) >> row.len) as u32;
