@@ -103,7 +103,7 @@ fn lasting(kept: Kept<'static>, made: &Result<Table, ComposeError>) -> Option<Ke
 
 /// What is kept, unless it has doubled.
 ///
-/// What has doubled is given back now, and not with the next list, which is compiled anew: so each of the two takes no
+/// What has doubled is given back now, and not with the next list, which is compiled anew: so neither takes much
 /// longer than compiling anew alone.
 fn unless_doubled(mut kept: Kept<'static>) -> Option<Kept<'static>>
     requires { IsTrue stated kept }
