@@ -1,7 +1,5 @@
 -- The prefixes of a block: none where the set has none of it, one where it has all of it, else those of its halves.
-use Rattle.std.proofs.Common.{◌≡◌, ◌∷◌, ◌++◌, ℕ, zero, suc, ◌+◌, ◌^◌, ◌<◌, [], Bool, true, false, ap, refl, sym, subst, ◌∙◌, arith}
-use Rattle.std.specs.Prelude.{◌&&◌, if◌then◌else◌}
-use Rattle.std.proofs.lemmas.Nat.{pow_pos}
+use Rattle.std.proofs.Common.{◌≡◌, ◌∷◌, ◌++◌, ℕ, zero, suc, ◌+◌, ◌^◌, ◌<◌, [], Bool, true, false, ap, refl, sym, subst, ◌∙◌, arith, ◌&&◌, if◌then◌else◌, pow_pos}
 use Rattle.std.proofs.lemmas.Bool.{and_parts, false≢true, and_from}
 use Rattle.range_prefix.specs.Shortest.{has_block, block_prefix, shortest_in}
 use Rattle.field_boxes.proofs.Powers.{on_block, on_low, on_high}

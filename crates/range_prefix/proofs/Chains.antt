@@ -1,8 +1,6 @@
 -- Prefixes one after another, and that the prefixes of a block are a rising cover of the set's values there.
-use Rattle.std.proofs.Common.{◌≡◌, ◌∷◌, ◌++◌, ℕ, zero, suc, ◌+◌, ◌-◌, ◌^◌, ◌<◌, ◌≤◌, List, [], Bool, true, false, nat_le, ap, refl, sym, subst, ◌∙◌, arith}
-use Rattle.std.specs.Prelude.{◌&&◌, ◌||◌, if◌then◌else◌, All, AllPairs, slice_index_or}
+use Rattle.std.proofs.Common.{◌≡◌, ◌∷◌, ◌++◌, ℕ, zero, suc, ◌+◌, ◌-◌, ◌^◌, ◌<◌, ◌≤◌, List, [], Bool, true, false, nat_le, ap, refl, sym, subst, ◌∙◌, arith, ◌&&◌, ◌||◌, if◌then◌else◌, All, AllPairs, slice_index_or, pow_pos}
 use Rattle.std.specs.List.{list_any}
-use Rattle.std.proofs.lemmas.Nat.{pow_pos}
 use Rattle.std.proofs.lemmas.Bool.{and_parts, le-leb, lt-leb, leb-true}
 use Rattle.std.proofs.Math.Bool.{and-false, or-false}
 use Rattle.std.proofs.lemmas.List.Elements.{All-nil, All-cons}
@@ -70,9 +68,8 @@ chain-fit width lo hi (p ∷ ps) c = All-cons (FitsWidth width) p ps c.0 (chain-
 chain-above : (width lo hi : ℕ) (ps : List Prefix) → IsChain width lo ps hi → All (λ p. lo ≤ p.value) ps
 chain-above width lo hi [] c = All-nil (λ p. lo ≤ p.value)
 chain-above width lo hi (p ∷ ps) c =
-    let le = c.1 in
     let lower : lo ≤ after width p = omega arith in
-    All-cons (λ q. lo ≤ q.value) p ps le (chain-above width lo hi ps (chain-lower width lo (after width p) hi ps lower c.2))
+    All-cons (λ q. lo ≤ q.value) p ps c.1 (chain-above width lo hi ps (chain-lower width lo (after width p) hi ps lower c.2))
 
 none-below : (width lo hi v : ℕ) (ps : List Prefix) → IsChain width lo ps hi → v < lo → list_any (λ p. prefix_holds width p v) ps ≡ false
 none-below width lo hi v [] c h = refl

@@ -101,8 +101,7 @@ ends_with_last : (low top : ℕ) (spans : List Span) (last : Span) → slice_get
 ends_with_last low top [] last is rise = absurd cc
 ends_with_last low top (s ∷ []) last is rise =
     let same : s ≡ last = cc in
-    let inside = rise.2 in
-    subst (λ l. RiseApart low l.hi (intervals_of (s ∷ [])) × (l.hi ≤ top)) same ((rise.0, rise.1, omega arith, tt), inside)
+    subst (λ l. RiseApart low l.hi (intervals_of (s ∷ [])) × (l.hi ≤ top)) same ((rise.0, rise.1, omega arith, tt), rise.2)
 ends_with_last low top (s ∷ t ∷ spans) last is rise =
     let place : length (s ∷ t ∷ spans) - 1 ≡ suc (length (t ∷ spans) - 1) = omega arith in
     let later : slice_get (t ∷ spans) (length (t ∷ spans) - 1) ≡ Some last = subst (λ i. slice_get (s ∷ t ∷ spans) i ≡ Some last) place is in
@@ -130,8 +129,7 @@ between : (top : ℕ) (spans : List Span) (first last : Span) → slice_get span
 between top [] first last begins ends rise v has = absurd (false≢true has)
 between top (s ∷ spans) first last begins ends rise v has =
     let same : s ≡ first = cc in
-    let rest = rise.3 in
-    let from : RiseApart s.lo top (intervals_of (s ∷ spans)) = (omega arith, rise.1, rise.2, rest) in
+    let from : RiseApart s.lo top (intervals_of (s ∷ spans)) = (omega arith, rise.1, rise.2, rise.3) in
     let above : s.lo ≤ v = elim (cases_lt v s.lo) [ inl early ↦ absurd (false≢true (sym (below s.lo top v (intervals_of (s ∷ spans)) from early) ∙ has)) | inr on ↦ on ] in
     (subst (λ f. f.lo ≤ v) same above, within 0 last.hi v (intervals_of (s ∷ spans)) (ends_with_last 0 top (s ∷ spans) last ends rise).0 has)
 

@@ -1,11 +1,8 @@
 -- Of a field of n bits an interval needs at most 2 n - 2 prefixes, and of a field of one bit at most one.
-use Rattle.std.proofs.Common.{◌≡◌, ◌∷◌, ◌++◌, ℕ, zero, suc, ◌+◌, ◌-◌, ◌*◌, ◌^◌, ◌<◌, ◌≤◌, List, [], Bool, true, false, ap, arith, inl, inr, length, max, refl, ◌∙◌}
-use Rattle.std.specs.Prelude.{◌&&◌, ◌||◌, if◌then◌else◌}
+use Rattle.std.proofs.Common.{◌≡◌, ◌∷◌, ◌++◌, ℕ, zero, suc, ◌+◌, ◌-◌, ◌*◌, ◌^◌, ◌<◌, ◌≤◌, List, [], Bool, true, false, ap, arith, inl, inr, length, max, refl, ◌∙◌, ◌&&◌, ◌||◌, if◌then◌else◌, pow_pos, length-append}
 use Rattle.std.specs.List.{list_any}
-use Rattle.std.proofs.lemmas.Nat.{pow_pos}
 use Rattle.std.proofs.lemmas.Bool.{cases_lt}
 use Rattle.std.proofs.Math.Nat.{add-mul, zero-mul}
-use Rattle.std.proofs.lemmas.List.{length-append}
 use Rattle.std.proofs.lemmas.List.Elements.{All-append}
 use Rattle.std.proofs.lemmas.List.Folds.{list_any-append}
 use Rattle.std.proofs.Math.Pow.{pow_mono}
@@ -154,9 +151,6 @@ joined width s spans wide =
 pub few_union : (width : ℕ) (spans : List Span) → width ≤ 32 → length (shortest_cover width (union_of spans)) ≤ length spans * max 1 (2 * width - 2)
 few_union width [] wide = let no = none width in let e = zero-mul (max 1 (2 * width - 2)) in rw e no
 few_union width (s ∷ spans) wide =
-    let first = few_field width s in
-    let rest = few_union width spans wide in
     let both = (is-shortest width (union_of (s ∷ spans)) wide).least (shortest_cover width (values_of s) ++ shortest_cover width (union_of spans)) (joined width s spans wide) in
     let sum = length-append (shortest_cover width (values_of s)) (shortest_cover width (union_of spans)) in
-    let more = add-mul (length spans) 1 (max 1 (2 * width - 2)) in
-    omega (arith, first, rest, both, sum, more)
+    omega (arith, few_field width s, few_union width spans wide, both, sum, add-mul (length spans) 1 (max 1 (2 * width - 2)))

@@ -1,11 +1,8 @@
 -- No list of prefixes that holds exactly a set is shorter than the prefixes that halving finds.
 -- Shown over the bits of the values: of a list without a row at a block itself each row lies in one half.
-use Rattle.std.proofs.Common.{◌≡◌, ◌⊎◌, ◌∷◌, ◌++◌, ℕ, zero, suc, ◌+◌, ◌-◌, ◌%◌, ◌/◌, ◌^◌, ◌<◌, ◌≤◌, List, [], Bool, true, false, nat_eq, map, ap, refl, sym, ◌∙◌, arith, length, inl, inr}
-use Rattle.std.specs.Prelude.{◌||◌, if◌then◌else◌, All, Option, Some, cond, find, is_some, option_map, sum_by}
+use Rattle.std.proofs.Common.{◌≡◌, ◌⊎◌, ◌∷◌, ◌++◌, ℕ, zero, suc, ◌+◌, ◌-◌, ◌%◌, ◌/◌, ◌^◌, ◌<◌, ◌≤◌, List, [], Bool, true, false, nat_eq, map, ap, refl, sym, ◌∙◌, arith, length, inl, inr, ◌||◌, if◌then◌else◌, All, Option, Some, cond, find, is_some, option_map, sum_by, pow_pos, length-append}
 use Rattle.std.specs.List.{list_any}
-use Rattle.std.proofs.lemmas.Nat.{pow_pos}
 use Rattle.std.proofs.lemmas.Bool.{true≢false, false≢true}
-use Rattle.std.proofs.lemmas.List.{length-append}
 use Rattle.std.proofs.lemmas.List.Sums.{sum_by-cons}
 use Rattle.std.proofs.Math.Nat.{add-div_left, add-mod_left, div-eq_of_lt}
 use Rattle.field_boxes.specs.declared.prefix.Prefix.{Prefix}

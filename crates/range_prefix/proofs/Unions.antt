@@ -1,7 +1,5 @@
 -- Blocks that the union of some spans misses, has whole, or has in part.
-use Rattle.std.proofs.Common.{◌≡◌, ◌⊎◌, ◌∷◌, ◌++◌, ℕ, zero, suc, ◌+◌, ◌-◌, ◌^◌, ◌<◌, ◌≤◌, List, [], Bool, true, false, ap, refl, sym, subst, ◌∙◌, arith, inl, inr, length, get_or}
-use Rattle.std.specs.Prelude.{◌||◌, IfSome, slice_get}
-use Rattle.std.proofs.lemmas.Nat.{pow_pos}
+use Rattle.std.proofs.Common.{◌≡◌, ◌⊎◌, ◌∷◌, ◌++◌, ℕ, zero, suc, ◌+◌, ◌-◌, ◌^◌, ◌<◌, ◌≤◌, List, [], Bool, true, false, ap, refl, sym, subst, ◌∙◌, arith, inl, inr, length, get_or, ◌||◌, IfSome, slice_get, pow_pos}
 use Rattle.field_boxes.specs.declared.prefix.Prefix.{Prefix}
 use Rattle.field_boxes.specs.declared.span.Span.{Span}
 use Rattle.field_boxes.specs.Prefix.{FitsWidth}

@@ -7,8 +7,7 @@ use Rattle.std.proofs.lemmas.List.{length-append}
 use Rattle.node_store.proofs.Growth.{kept_place}
 use Rattle.prefix_min.specs.declared.piece.Piece.{Piece}
 use Rattle.std.proofs.lemmas.Option.{none-some, same_Some, slice_get_within}
-use Rattle.std.proofs.lemmas.Bool.Decides.{eqb_tells}
-use Rattle.std.proofs.lemmas.Bool.{true≢false}
+use Rattle.std.proofs.lemmas.Bool.{true≢false, eqb-true}
 use Rattle.node_store.specs.declared.edge.NodeId.{NodeId}
 use Rattle.node_store.specs.declared.edge.Edge.{Edge}
 use Rattle.table_compose.specs.Labels.{with_child, children_of, IsPiece, ArePieces}
@@ -113,10 +112,7 @@ pieces_more es ps i d p h z is =
     subst (λ k. ArePieces cs (take k es) (ps ++ p ∷ [])) one (next (IsPiece cs) es ps i d p h now is)
 
 pub same_id : (a b : NodeId) → nat_eq a.0 b.0 ≡ true → a ≡ b
-same_id a b h = elim (eqb_tells a.0 b.0) [
-  | inl t ↦ ap (λ (n : ℕ). let r : NodeId = record { 0 = n } in r) t.1
-  | inr t ↦ absurd (true≢false (sym h ∙ t.0))
-]
+same_id a b h = ap (λ (n : ℕ). let r : NodeId = record { 0 = n } in r) (eqb-true a.0 b.0 h)
 
 -- where the child is stored
 pub stored : (keys children : List NodeId) (place : ℕ) (k c : NodeId) → keys ≡ children → slice_get keys place ≡ Some k → nat_eq c.0 k.0 ≡ true → slice_get children place ≡ Some c

@@ -94,6 +94,12 @@ pub lists_at : (nodes : List Node) (lists : ℕ → List PrefixRow) (level : Lis
 lists_at nodes lists [] id has have = absurd has
 lists_at nodes lists (f ∷ level) id has have = have
 
+-- the rows that the code reads are the node's
+pub rows_read : (nodes : List Node) (lists : List (Vec Row)) (level : List ℕ) (id : ℕ) (list : Vec Row) (items : List Row) → HasField level → HaveLists nodes (rows_at lists) level id →
+    list ≡ slice_index_or lists id list → items ≡ list.items → rows_at lists id ≡ rows_of items
+rows_read nodes lists level id list items has have at same =
+    rows_there lists id list (list_there lists id ((lists_at nodes (rows_at lists) level id has have).0.order.some)) ∙ ap (λ (v : Vec Row). rows_of v.items) (sym at) ∙ ap rows_of (sym same)
+
 -- what holds of each row of a list holds of each of its rows as the code has it
 pub all_row : (P : PrefixRow → Type 0) (rows : List PrefixRow) (items : List Row) (i : ℕ) (d : Row) → rows ≡ rows_of items → i < length items → All P rows → P (row_of (slice_index_or items i d))
 all_row P rows items i d is less all =

@@ -1,5 +1,6 @@
 -- Costs that are kept of nodes: one more, more room, and a store that grows.
 use Rattle.std.proofs.Common.{◌≡◌, ◌≢◌, ◌∷◌, ℕ, zero, suc, List, [], ◌<◌, ◌≤◌, ◌+◌, ◌^◌, Bool, true, length, ap, arith, refl, sym, ◌∙◌, subst, inl, inr, set}
+use Rattle.std.proofs.lemmas.Option.{slice_get-get_or}
 use Rattle.std.specs.Prelude.{All, Some, slice_get, slice_index}
 use Rattle.std.proofs.lemmas.Bool.{cases_eq}
 use Rattle.std.proofs.lemmas.List.Elements.{All-weaker}
@@ -17,9 +18,7 @@ use Rattle.table_compose.specs.Asked.{AreChildrenCosted}
 
 -- a place that was set, and another
 pub set_here : {X : Type 0} (xs : List X) (i : ℕ) (x : X) → i < length xs → slice_get (set xs i x) i ≡ Some x
-set_here [] i x h = absurd (omega (arith, h))
-set_here (y ∷ xs) zero x h = refl
-set_here (y ∷ xs) (suc i) x h = set_here xs i x (omega (arith, h))
+set_here xs i x h = slice_get-get_or (set xs i x) i x (omega (arith, length-set xs i x, h)) ∙ ap Some (get_or-set_same xs i x x h)
 
 pub set_elsewhere : {X : Type 0} (xs : List X) (i k : ℕ) (x : X) → k ≢ i → slice_get (set xs i x) k ≡ slice_get xs k
 set_elsewhere [] i k x h = refl
@@ -101,11 +100,7 @@ learns_twice nodes first second third a b = record {
 }
 
 pub less_room : (costs : Costs) (low most : ℕ) → low ≤ most → HasRoom costs most → HasRoom costs low
-less_room costs low most le h = record {
-  known = let a = h.known in omega (arith, a, le);
-  numbers = let a = h.numbers in omega (arith, a, le);
-  places = let a = h.places in omega (arith, a, le);
-}
+less_room costs low most le h = record { known = omega (arith, h.known, le); numbers = omega (arith, h.numbers, le); places = omega (arith, h.places, le) }
 
 -- one more node is known, with its cost
 pub learns_one : (nodes : List Node) (old new : Costs) (id cost : ℕ) → AreCostsOf nodes old → id < length nodes → HasRoom old (id + 1) → IsCosted nodes id cost →

@@ -1,10 +1,10 @@
 -- Plans that are kept of nodes: one more, more room, and a store that grows.
-use Rattle.std.proofs.Common.{◌≡◌, ◌≢◌, ◌∷◌, ◌++◌, ℕ, zero, suc, List, [], ◌<◌, ◌≤◌, ◌+◌, Bool, true, false, length, ap, arith, refl, sym, ◌∙◌, subst, inl, inr, set}
-use Rattle.std.specs.Prelude.{All, Some, replicate, slice_get, slice_index, slice_index_or}
+use Rattle.std.proofs.Common.{◌≡◌, ◌≢◌, ◌∷◌, ℕ, List, [], ◌<◌, ◌≤◌, ◌+◌, Bool, true, false, length, ap, arith, refl, sym, ◌∙◌, subst, inl, inr, set}
+use Rattle.std.specs.Prelude.{All, Some, slice_get, slice_index, slice_index_or}
 use Rattle.std.specs.Global.{Vec}
 use Rattle.std.specs.Option.{option_map_or}
 use Rattle.std.proofs.lemmas.Bool.{cases_eq, true≢false}
-use Rattle.std.proofs.lemmas.Option.{none-some, same_Some}
+use Rattle.std.proofs.lemmas.Option.{get_or_from_slice_get}
 use Rattle.std.proofs.lemmas.List.{get_or-set_same, get_or-set_other, length-set}
 use Rattle.std.proofs.lemmas.List.Elements.{All-head, All-tail, All-weaker}
 use Rattle.std.proofs.lemmas.List.Sums.{sum_by-cons}
@@ -195,13 +195,16 @@ learns_most nodes old new low most le a = record {
   room = a.room;
 }
 
+-- where a child is the last that was learnt, and where it is the node itself
+pub learns_part : (nodes : List Node) (first second third : Plans) (child id : ℕ) → child < id → LearnsBelow nodes first second id → LearnsBelow nodes second third (child + 1) → LearnsBelow nodes first third (id + 1)
+learns_part nodes first second third child id low a b =
+    learns_most nodes first third id (id + 1) (omega arith) (learns_twice nodes first second third (child + 1) id (omega (arith, low)) a b)
+
+pub learns_here : (nodes : List Node) (first second third : Plans) (id : ℕ) → LearnsBelow nodes first second id → LearnsBelow nodes second third (id + 1) → LearnsBelow nodes first third (id + 1)
+learns_here nodes first second third id a b = learns_twice nodes first second third (id + 1) (id + 1) (omega arith) (learns_most nodes first second id (id + 1) (omega arith) a) b
+
 pub less_room : (plans : Plans) (low most : ℕ) → low ≤ most → HasRoom plans most → HasRoom plans low
-less_room plans low most le h = record {
-  known = let a = h.known in omega (arith, a, le);
-  costs = let a = h.costs in omega (arith, a, le);
-  lists = let a = h.lists in omega (arith, a, le);
-  places = let a = h.places in omega (arith, a, le);
-}
+less_room plans low most le h = record { known = omega (arith, h.known, le); costs = omega (arith, h.costs, le); lists = omega (arith, h.lists, le); places = omega (arith, h.places, le) }
 
 -- the children of a node that is planned cost what stands under their numbers
 pub children_planned : (nodes : List Node) (plans : Plans) (id : ℕ) → ArePlansOf nodes plans → All (λ (e : Edge). IsMarked plans.known.items e.to.0) (edges_of nodes id) → AreChildrenCosted nodes plans.costs.items id
@@ -242,14 +245,9 @@ module _ (old new : List Node) (g : Grows old new) where
     };
   }
 
-mark_or : (marks : List Bool) (id : ℕ) (d : Bool) → IsMarked marks id → slice_index_or marks id d ≡ true
-mark_or [] id d h = absurd (none-some true h)
-mark_or (m ∷ marks) zero d h = same_Some m true h
-mark_or (m ∷ marks) (suc id) d h = mark_or marks id d h
-
 -- a number whose mark isn't set, and stays so
 pub not_marked : (old new : List Bool) (id : ℕ) (m : Bool) → slice_get new id ≡ slice_get old id → m ≡ slice_index_or old id m → m ≡ false → slice_get new id ≢ Some true
-not_marked old new id m same is unset mark = true≢false (sym (is ∙ mark_or old id m (sym same ∙ mark)) ∙ unset)
+not_marked old new id m same is unset mark = true≢false (sym (is ∙ get_or_from_slice_get old id true m (sym same ∙ mark)) ∙ unset)
 
 -- costs that begin with those of plans
 pub costs_begun : (nodes : List Node) (plans : Plans) (known slice : List Bool) (numbers costs : List ℕ) → ArePlansOf nodes plans → known ≡ slice → slice ≡ plans.known.items → numbers ≡ costs → costs ≡ plans.costs.items →

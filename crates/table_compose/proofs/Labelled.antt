@@ -1,7 +1,7 @@
 -- Labels as places of children: what a minimiser asks of the pieces, and where their labels lead.
-use Rattle.std.proofs.Common.{◌≡◌, ◌∷◌, ℕ, zero, suc, List, [], ◌+◌, ◌-◌, ◌*◌, ◌<◌, ◌≤◌, false, ap, arith, refl, sym, ◌∙◌, subst, length, inl, inr}
-use Rattle.std.specs.Prelude.{cond, nat_le, Some, slice_get, slice_index}
-use Rattle.std.proofs.lemmas.Bool.{cases_lt, le-leb}
+use Rattle.std.proofs.Common.{◌≡◌, ◌∷◌, ℕ, zero, suc, List, [], ◌+◌, ◌-◌, ◌*◌, ◌<◌, ◌≤◌, ap, arith, refl, sym, ◌∙◌, subst, length, inl, inr}
+use Rattle.std.specs.Prelude.{cond, Some, slice_get, slice_index}
+use Rattle.std.proofs.lemmas.Bool.{cases_lt, le-leb, lt-leb}
 use Rattle.std.proofs.lemmas.Option.{none-some, same_Some, slice_get_within}
 use Rattle.std.proofs.Math.Nat.{mul-le-mul_left, add-mul}
 use Rattle.node_store.specs.declared.edge.NodeId.{NodeId}
@@ -13,15 +13,12 @@ use Rattle.prefix_min.specs.declared.piece.Piece.{Piece}
 use Rattle.prefix_min.specs.Pieces.{Follow, reach, label_at, weight_from}
 use Rattle.table_compose.specs.Labels.{IsPiece, ArePieces}
 
-gt_test : (v hi : ℕ) → hi < v → nat_le v hi ≡ false
-gt_test v hi h = grind arith
-
 -- where the first piece holds the value, and where it doesn't
 label_within : (p : Piece) (ps : List Piece) (v : ℕ) → v ≤ p.hi → label_at (p ∷ ps) v ≡ p.label
 label_within p ps v h = ap (λ t. cond t p.label (label_at ps v)) (le-leb v p.hi h)
 
 label_past : (p : Piece) (ps : List Piece) (v : ℕ) → p.hi < v → label_at (p ∷ ps) v ≡ label_at ps v
-label_past p ps v h = ap (λ t. cond t p.label (label_at ps v)) (gt_test v p.hi h)
+label_past p ps v h = ap (λ t. cond t p.label (label_at ps v)) (lt-leb v p.hi h)
 
 module _ (children : List NodeId) where
   -- the child at the place of the value's label is the one to which the value leads

@@ -1,7 +1,6 @@
 -- Children of nodes, and marks.
-use Rattle.std.proofs.Common.{◌≡◌, ℕ, zero, suc, List, [], ◌∷◌, ◌<◌, ◌≤◌, Bool, true, false, length, ap, arith, refl, sym, ◌∙◌, subst}
-use Rattle.std.specs.Prelude.{slice_get, slice_index_or, Option, Some, None}
-use Rattle.std.proofs.lemmas.Option.{none-some, same_Some, slice_get-get_or}
+use Rattle.std.proofs.Common.{◌≡◌, ℕ, List, ◌<◌, ◌≤◌, Bool, arith, refl, subst}
+use Rattle.std.specs.Prelude.{slice_get, Option, Some, None}
 use Rattle.node_store.specs.Levels.{HasField, next, top_of}
 use Rattle.node_store.specs.Edges.{child_of}
 use Rattle.node_store.specs.Diagram.{Node, node_level, node_edges, level_of, edges_of}
@@ -30,15 +29,6 @@ inner_by nodes id (Some (Inner f es)) s at five = s.fits id (Inner f es) at
 -- a node above the leaves is an inner node
 pub inner_of : (nodes : List Node) (id : ℕ) → IsStore nodes → HasField (level_of nodes id) → IsInner nodes id (level_of nodes id) (edges_of nodes id)
 inner_of nodes id s five = inner_by nodes id (slice_get nodes id) s refl five
-
--- a mark as a value
-pub mark_of : (marks : List Bool) (id : ℕ) → IsMarked marks id → slice_index_or marks id false ≡ true
-mark_of [] id h = absurd (none-some true h)
-mark_of (m ∷ marks) zero h = same_Some m true h
-mark_of (m ∷ marks) (suc id) h = mark_of marks id h
-
-pub of_mark : (marks : List Bool) (id : ℕ) → id < length marks → slice_index_or marks id false ≡ true → IsMarked marks id
-of_mark marks id less h = slice_get-get_or marks id false less ∙ ap Some h
 
 -- a root's least cost is that of rule lists over the fields of its level
 pub root_cost : (nodes : List Node) (fields : List ℕ) (root n : ℕ) → level_of nodes root ≡ fields → IsCosted nodes root n → IsCostOf nodes fields root n

@@ -1,8 +1,8 @@
 -- From the children of a node to the node: what every rule list that decides as it answers costs.
 use Rattle.std.proofs.Common.{◌≡◌, ◌∷◌, ℕ, zero, suc, List, [], ◌<◌, ◌≤◌, ◌^◌, length, ap, arith, refl, sym, ◌∙◌, subst}
+use Rattle.node_store.proofs.Values.{in_width}
 use Rattle.std.specs.Prelude.{map, Option, Some, slice_get, slice_index, slice_index_or}
 use Rattle.std.specs.List.{All}
-use Rattle.std.proofs.lemmas.Nat.{pow_pos}
 use Rattle.std.proofs.lemmas.Option.{none-some, same_Some, slice_get-get_or}
 use Rattle.std.proofs.lemmas.List.Elements.{All-weaker}
 use Rattle.std.proofs.lemmas.List.{length-map}
@@ -42,9 +42,6 @@ map_at g (y ∷ xs) (suc k) x h = map_at g xs k x h
 
 pub up_to : (f v : ℕ) → v < 2 ^ width f → v ≤ greatest_of f
 up_to f v h = omega (arith, h)
-
-pub in_width : (f v : ℕ) → v ≤ greatest_of f → v < 2 ^ width f
-in_width f v h = let p = pow_pos (width f) in omega (arith, h, p)
 
 module _ (nodes : List Node) (s : IsStore nodes) (id f : ℕ) (rest : List ℕ) (has : HasField (f ∷ rest)) (level : level_of nodes id ≡ f ∷ rest) (full : AreFull (greatest_of f) (edges_of nodes id))
     (pieces : List Piece) (are : ArePieces (children_of (edges_of nodes id)) (edges_of nodes id) pieces) where

@@ -1,11 +1,11 @@
 -- Plans with room for more nodes behind them.
 use Rattle.std.proofs.Common.{◌≡◌, ◌∷◌, ◌++◌, ℕ, zero, suc, List, [], ◌<◌, Bool, true, false, length, ap, arith, refl, sym, ◌∙◌, subst}
-use Rattle.std.specs.Prelude.{All, replicate, slice_get, slice_index}
+use Rattle.std.specs.Prelude.{All, replicate, slice_index}
 use Rattle.std.specs.Option.{option_map_or}
 use Rattle.std.specs.Global.{Vec}
 use Rattle.std.proofs.lemmas.Bool.{true≢false}
 use Rattle.std.proofs.lemmas.Option.{none-some, same_Some, slice_get_within}
-use Rattle.std.proofs.lemmas.List.{append-nil, length-append}
+use Rattle.std.proofs.lemmas.List.{length-append, get_or_append_left}
 use Rattle.std.proofs.lemmas.List.Elements.{All-head, All-tail, All-weaker}
 use Rattle.std.proofs.lemmas.List.Sums.{sum_by-cons}
 use Rattle.node_store.specs.declared.edge.Edge.{Edge}
@@ -17,7 +17,6 @@ use Rattle.prefix_min.specs.declared.row.PrefixRow.{PrefixRow}
 use Rattle.prefix_min.specs.PrefixList.{weight}
 use Rattle.table_compose.specs.declared.diagram_plans.Plans.{Plans}
 use Rattle.table_compose.specs.declared.row.Row.{Row}
-use Rattle.table_compose.specs.Room.{IsLonger, IsPadded}
 use Rattle.table_compose.specs.Rows.{rows_of, rows_at}
 use Rattle.table_compose.specs.Plans.{IsMarked, IsChild, IsPlanned, IsKeptPlan, ArePlansOf, HasMoreRoom, KeepsPlans}
 use Rattle.table_compose.proofs.Later.{child_marked, inner_of}
@@ -36,31 +35,18 @@ marked_before (m ∷ old) n (suc k) h = marked_before old n k h
 pub marked_still : (old more : List Bool) (k : ℕ) → IsMarked old k → IsMarked (old ++ more) k
 marked_still old more k h = kept_place old more k (slice_get_within old k true h) ∙ h
 
--- an old place of a list of numbers
-kept_number : (xs more : List ℕ) (i : ℕ) → i < length xs → slice_index (xs ++ more) i ≡ slice_index xs i
-kept_number [] more i h = absurd (omega (arith, h))
-kept_number (x ∷ xs) more zero h = refl
-kept_number (x ∷ xs) more (suc i) h = kept_number xs more i (omega (arith, h))
-
 -- rows with old labels weigh the same
 weight_kept : (costs more : List ℕ) (rows : List PrefixRow) → All (λ r. r.label < length costs) rows → weight (costs ++ more) rows ≡ weight costs rows
 weight_kept costs more [] h = refl
 weight_kept costs more (r ∷ rows) h =
     let a = sum_by-cons (λ x. slice_index (costs ++ more) x.label) r rows in
     let b = sum_by-cons (λ x. slice_index costs x.label) r rows in
-    let e = kept_number costs more r.label (All-head (λ x. x.label < length costs) r rows h) in
+    let e = get_or_append_left costs more 0 r.label (All-head (λ x. x.label < length costs) r rows h) in
     let i = weight_kept costs more rows (All-tail (λ x. x.label < length costs) r rows h) in
     omega (arith, a, b, e, i)
 
 rows_kept : (lists more : List (Vec Row)) (k : ℕ) → k < length lists → rows_at (lists ++ more) k ≡ rows_at lists k
 rows_kept lists more k less = ap (λ o. option_map_or (λ l. rows_of l.items) o []) (kept_place lists more k less)
-
--- nothing is added
-pub padded_none : {X : Type 0} (x : X) (xs : List X) → IsPadded x xs xs
-padded_none x xs = (0, sym (append-nil xs))
-
-pub longer_none : {X : Type 0} (xs : List X) → IsLonger xs xs
-longer_none xs = ([], sym (append-nil xs))
 
 module _ (nodes : List Node) (old new : Plans) (s : IsStore nodes) (are : ArePlansOf nodes old) (more : HasMoreRoom old new) where
   before : (k : ℕ) → IsMarked new.known.items k → IsMarked old.known.items k
@@ -70,7 +56,7 @@ module _ (nodes : List Node) (old new : Plans) (s : IsStore nodes) (are : ArePla
   still k mark = subst (λ ks. IsMarked ks k) (sym more.known.1) (marked_still old.known.items (replicate more.known.0 false) k mark)
 
   same_cost : (k : ℕ) → IsMarked old.known.items k → slice_index new.costs.items k ≡ slice_index old.costs.items k
-  same_cost k mark = ap (λ cs. slice_index cs k) more.costs.1 ∙ kept_number old.costs.items (replicate more.costs.0 0) k (are.kept k mark).room
+  same_cost k mark = ap (λ cs. slice_index cs k) more.costs.1 ∙ get_or_append_left old.costs.items (replicate more.costs.0 0) 0 k (are.kept k mark).room
 
   same_rows : (k : ℕ) → IsMarked old.known.items k → rows_at new.lists.items k ≡ rows_at old.lists.items k
   same_rows k mark = ap (λ ls. rows_at ls k) more.lists.1 ∙ rows_kept old.lists.items more.lists.0 k (are.kept k mark).listed

@@ -1,13 +1,10 @@
 -- Places of nodes among one another: each stands under its node's number.
-use Rattle.std.proofs.Common.{◌≡◌, ◌≢◌, ◌∷◌, ◌++◌, ℕ, zero, suc, List, [], ◌<◌, ◌≤◌, Bool, true, false, length, ap, arith, refl, sym, ◌∙◌, subst, inl, inr, set, eq-eqb}
-use Rattle.std.specs.Prelude.{◌⊎◌, ◌||◌, cond, nat_eq, Some, slice_get, slice_index_or}
-use Rattle.std.specs.Bool.{OnTrue, OnFalse}
+use Rattle.std.proofs.Common.{◌≡◌, ◌≢◌, ◌∷◌, ◌++◌, ℕ, zero, suc, List, [], ◌<◌, Bool, true, false, length, ap, refl, sym, ◌∙◌, subst, inl, inr, set, eq-eqb}
+use Rattle.std.specs.Prelude.{◌||◌, cond, nat_eq, Some, slice_get}
 use Rattle.std.specs.List.{list_any}
-use Rattle.std.proofs.lemmas.Bool.{cases_eq, true≢false}
 use Rattle.std.proofs.lemmas.Bool.Decides.{eqb_tells}
-use Rattle.std.proofs.lemmas.Option.{none-some, same_Some, slice_get-get_or, slice_get_within}
+use Rattle.std.proofs.lemmas.Option.{none-some, same_Some}
 use Rattle.node_store.specs.declared.edge.NodeId.{NodeId}
-use Rattle.node_store.proofs.Growth.{kept_place, last_place}
 use Rattle.table_compose.specs.Labels.{with_child, ArePlaced}
 use Rattle.table_compose.proofs.Children.{place_of, same_id}
 use Rattle.table_compose.proofs.KeptCosts.{set_here, set_elsewhere}
@@ -54,13 +51,3 @@ are_placed places nodes node are room new i c h = elim (place_of nodes node c i 
       subst (λ (x : NodeId). slice_get (set places node.0 (length nodes)) x.0 ≡ Some i) last.1
       (set_here places node.0 (length nodes) room ∙ ap Some (sym last.0))
 ]
-
--- whether a node stands at a place, by its number
-pub stands_by : (nodes : List NodeId) (place : ℕ) (node d : NodeId) (t : Bool) → place < length nodes → nat_eq (slice_index_or nodes place d).0 node.0 ≡ t →
-    OnTrue t (slice_get nodes place ≡ Some node) × OnFalse t (slice_get nodes place ≢ Some node)
-stands_by nodes place node d true less is = (slice_get-get_or nodes place d less ∙ ap Some (same_id (slice_index_or nodes place d) node is), tt)
-stands_by nodes place node d false less is =
-    (tt, λ there. true≢false (sym (eq-eqb (slice_index_or nodes place d).0 node.0 (ap (λ (x : NodeId). x.0) (same_Some (slice_index_or nodes place d) node (sym (slice_get-get_or nodes place d less) ∙ there)))) ∙ is))
-
-pub past_end : (nodes : List NodeId) (place : ℕ) (node : NodeId) → length nodes ≤ place → slice_get nodes place ≢ Some node
-past_end nodes place node past there = let less = slice_get_within nodes place node there in absurd (omega (arith, past, less))

@@ -1,11 +1,11 @@
 -- What a node's plan is made of: what a minimiser asks, and what its rows come to.
-use Rattle.std.proofs.Common.{◌≡◌, ◌∷◌, ℕ, zero, suc, List, [], ◌+◌, ◌-◌, ◌*◌, ◌<◌, ◌≤◌, ◌^◌, Bool, true, false, length, ap, arith, refl, sym, ◌∙◌, subst, take, ◌++◌}
+use Rattle.std.proofs.Common.{◌≡◌, ◌∷◌, ℕ, suc, List, [], ◌+◌, ◌-◌, ◌*◌, ◌<◌, ◌≤◌, ◌^◌, Bool, true, false, length, ap, arith, refl, sym, ◌∙◌, subst, take, ◌++◌}
 use Rattle.std.specs.Prelude.{cond, nat_eq, find, map, Option, Some, option_map, slice_get, slice_index, slice_index_or}
 use Rattle.std.specs.List.{All}
 use Rattle.std.specs.Option.{option_map_or}
 use Rattle.std.proofs.lemmas.Bool.{eqb-true}
 use Rattle.std.proofs.lemmas.Nat.{pow_pos, pow-add}
-use Rattle.std.proofs.lemmas.Option.{none-some, same_Some, slice_get-get_or}
+use Rattle.std.proofs.lemmas.Option.{slice_get-get_or, get_or_from_slice_get, slice_get_within}
 use Rattle.std.proofs.lemmas.List.{length-map, get_or-map, map-append}
 use Rattle.std.proofs.Math.Seq.{take-suc}
 use Rattle.std.proofs.lemmas.List.Elements.{All-head, All-tail, All-map, All-weaker}
@@ -36,7 +36,7 @@ use Rattle.table_compose.proofs.Choices.{row_of, rows_of, front-rows, weight-row
 use Rattle.table_compose.proofs.Singles.{AreSingles, singles}
 use Rattle.table_compose.proofs.Children.{taken}
 use Rattle.table_compose.proofs.Labelled.{follow, whole, light}
-use Rattle.table_compose.proofs.NodeCost.{AreMinimal, up_to, in_width, map_at, leaf-cost}
+use Rattle.table_compose.proofs.NodeCost.{AreMinimal, up_to, leaf-cost}
 use Rattle.table_compose.proofs.NodeCost as node
 
 -- the headers of a level's fields
@@ -103,9 +103,7 @@ singles_right w lab Costs most plan h = record {
 
 -- what holds of each item holds of the one at a place
 All_at : {X : Type 0} (P : X → Type 0) (xs : List X) (k : ℕ) (x : X) → All P xs → slice_get xs k ≡ Some x → P x
-All_at P [] k x all h = absurd (none-some x h)
-All_at P (y ∷ xs) zero x all h = subst P (same_Some y x h) (All-head P y xs all)
-All_at P (y ∷ xs) (suc k) x all h = All_at P xs k x (All-tail P y xs all) h
+All_at P xs k x all h = subst P (get_or_from_slice_get xs k x x h) (all k x (slice_get_within xs k x h))
 
 -- the children are older than the node
 pub older : (nodes : List Node) (id : ℕ) (level : List ℕ) (es : List Edge) → IsInner nodes id level es → (k : ℕ) (c : NodeId) → slice_get (children_of es) k ≡ Some c → c.0 < id
@@ -238,9 +236,9 @@ pub width_head : (level : List ℕ) (d : ℕ) → HasField level → width (slic
 width_head [] d has = absurd has
 width_head (f ∷ rest) d has = refl
 
-pub few_at : (level : List ℕ) (es : List Edge) → HasField level → AreFull (top_of level) es → length es ≤ 2 ^ 32
-few_at [] es has full = absurd has
-few_at (f ∷ rest) es has full = few f es full
+pub few_at : (level : List ℕ) (edges : List Edge) → HasField level → AreFull (top_of level) edges → length edges ≤ 2 ^ 32
+few_at [] edges has full = absurd has
+few_at (f ∷ rest) edges has full = few f edges full
 
 pub no_fields : (level : List ℕ) → nat_eq (length level) 0 ≡ true → level ≡ []
 no_fields [] h = refl

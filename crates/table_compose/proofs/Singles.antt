@@ -1,5 +1,6 @@
 -- A plan of one choice for each value of a field.
 use Rattle.std.proofs.Common.{◌≡◌, ◌∷◌, ℕ, zero, suc, List, [], ◌+◌, ◌-◌, ◌*◌, ◌/◌, ◌%◌, ◌<◌, ◌≤◌, ◌^◌, Bool, true, false, ap, arith, refl, sym, ◌∙◌, inl, inr}
+use Rattle.std.proofs.lemmas.Bool.{eqb-true}
 use Rattle.std.specs.Prelude.{cond, nat_eq, Some}
 use Rattle.std.specs.List.{All}
 use Rattle.std.proofs.lemmas.Bool.Decides.{eqb_tells}
@@ -33,10 +34,7 @@ first_step w k v c plan true is t here rest = (c, refl, is ∙ here refl)
 first_step w k v c plan false is t here rest = rest refl
 
 same_value : (w k v : ℕ) → nat_eq (v / 2 ^ (w - w)) (k / 2 ^ (w - w)) ≡ true → k ≡ v
-same_value w k v h = elim (eqb_tells (v / 2 ^ (w - w)) (k / 2 ^ (w - w))) [
-  | inl t ↦ sym (div_none w k) ∙ sym t.1 ∙ div_none w v
-  | inr t ↦ cc
-]
+same_value w k v h = sym (div_none w k) ∙ sym (eqb-true (v / 2 ^ (w - w)) (k / 2 ^ (w - w)) h) ∙ div_none w v
 
 other_value : (w k v : ℕ) → nat_eq (v / 2 ^ (w - w)) (k / 2 ^ (w - w)) ≡ false → k ≡ v → ⊥
 other_value w k v h e = elim (eqb_tells (v / 2 ^ (w - w)) (k / 2 ^ (w - w))) [

@@ -1,5 +1,6 @@
 -- What the entries of a whole table say.
-use Rattle.std.proofs.Common.{◌≡◌, ◌∷◌, ◌++◌, ℕ, suc, List, [], Bool, true, false, length, ap, arith, refl, sym, ◌∙◌, subst}
+use Rattle.std.proofs.Common.{◌≡◌, ◌∷◌, ◌++◌, ℕ, List, [], Bool, true, false, length, ap, refl, sym, ◌∙◌, subst}
+use Rattle.std.proofs.lemmas.Slice.Zip.{AllZip-long}
 use Rattle.std.specs.Prelude.{cond, find, Option, Some, option_map, slice_index}
 use Rattle.std.specs.List.{All, AllZip}
 use Rattle.std.proofs.lemmas.List.Elements.{All-nil, All-cons, All-head, All-tail}
@@ -18,12 +19,6 @@ use Rattle.field_boxes.specs.Orders.{picked, AreDistinct}
 use Rattle.table_compose.proofs.Placing.{box_at}
 use Rattle.node_store.proofs.Orders.{picked_values}
 use Rattle.table_compose.proofs.Boxes.{prefix_count, count, decide_by, first_of}
-
-same_length : (level : List ℕ) (bs : List Box) (es : List Entry) → AllZip (IsPlaced level open_all) bs es → length es ≡ length bs
-same_length level [] [] z = refl
-same_length level [] (e ∷ es) z = absurd z
-same_length level (b ∷ bs) [] z = absurd z
-same_length level (b ∷ bs) (e ∷ es) z = ap suc (same_length level bs es z.1)
 
 entry_step : (t u : Bool) (e : Entry) (b : Box) (o : Option Entry) (p : Option Box) → t ≡ u → e.decision ≡ b.decision →
     option_map (λ x. x.decision) o ≡ option_map (λ x. x.decision) p → option_map (λ x. x.decision) (cond t (Some e) o) ≡ option_map (λ x. x.decision) (cond u (Some b) p)
@@ -53,7 +48,7 @@ prefix_words level (b ∷ bs) (e ∷ es) z = All-cons (λ x. IsPrefixWord x.word
 -- as many entries as the diagram costs
 pub counted : (nodes : List Node) (fields : List ℕ) (root : ℕ) (costs : List ℕ) (lists : ℕ → List PrefixRow) (es : List Entry) → HaveCosts nodes lists costs fields root →
     AllZip (IsPlaced fields open_all) (boxes nodes lists fields root) es → length es ≡ slice_index costs root
-counted nodes fields root costs lists es have z = same_length fields (boxes nodes lists fields root) es z ∙ count nodes lists costs fields root have
+counted nodes fields root costs lists es have z = AllZip-long (IsPlaced fields open_all) (boxes nodes lists fields root) es z ∙ count nodes lists costs fields root have
 
 -- the first entry that matches a header has the diagram's answer
 pub answers : (nodes : List Node) (fields : List ℕ) (root : ℕ) (lists : ℕ → List PrefixRow) (es : List Entry) → IsStore nodes → IsLevel fields → AreDistinct fields → level_of nodes root ≡ fields → HaveLists nodes lists fields root →

@@ -1,5 +1,4 @@
-use Rattle.std.proofs.Common.{ap, arith, length}
-use Rattle.std.proofs.lemmas.List.{length-append}
+use Rattle.std.proofs.Common.{ap, arith, length, length-append}
 use Rattle.range_prefix.specs.Shortest.{shortest_below}
 use Rattle.range_prefix.specs.Spans.{union_of}
 use Rattle.range_prefix.proofs.Few.{within_below}
@@ -8,13 +7,12 @@ use Rattle.range_prefix.proofs.counting.+count_below.Goals as goal
 pub overflow_add-result : goal.overflow_add-result
 overflow_add-result t c =
     let width = c.args.width in
-    let shares = c.in-Part.ensures in
     let h = c.in-Part.halved in
     let set = union_of h.spans.now in
     omega (
       arith,
       within_below width (union_of c.args.spans.now) c.args.prefix c.requires.fits.wide,
-      ap length shares.joined,
+      ap length c.in-Part.ensures.joined,
       length-append (shortest_below width set h.low) (shortest_below width set h.high),
       c.count_below.ensures,
       c.count_below-in-Part.ensures,

@@ -2,7 +2,7 @@ use Rattle.std.proofs.Common.{◌+◌, ◌∙◌, arith, sym}
 use Rattle.std.specs.Prelude.{◌<◌, length, slice_index_or}
 use Rattle.node_store.specs.declared.edge.Edge.{Edge}
 use Rattle.table_compose.proofs.Edges.{edge_older, marked_all, marked_here, marked_more}
-use Rattle.table_compose.proofs.KeptPlans.{learns_none, learns_twice, learns_most, less_room, not_marked}
+use Rattle.table_compose.proofs.KeptPlans.{learns_here, learns_none, learns_part, learns_twice, less_room, not_marked}
 use Rattle.table_compose.proofs.diagram_plans.Plans.+learn_node.Goals as goal
 
 pub returns-then-index-clause-learns : goal.returns-then-index-clause-learns
@@ -64,21 +64,21 @@ pub returns-in_err-whole-clause-learns : goal.returns-in_err-whole-clause-learns
 returns-in_err-whole-clause-learns t c =
     let d : Edge = record { hi = 0; to = record { 0 = 0 } } in
     let l = c.loop-edge in
+    let nodes = c.args.store.now in
     let id = c.args.id.0 in
     let child = (slice_index_or c.edges-edges.result.now l.edge-index d).to.0 in
-    let low = edge_older c.args.store.now id c.edges-edges.result.now l.edge-index d c.same_answers.ensures.store c.edges-edges.ensures.edges c.loop-edge-test.true in
-    let nodes = c.args.store.now in
-    learns_most nodes c.args.self.now c.learn_node.new.self id (id + 1) (omega arith) (learns_twice nodes c.args.self.now l.self c.learn_node.new.self (child + 1) id (omega (arith, low)) l.invariant.learns c.learn_node.ensures.learns)
+    let low = edge_older nodes id c.edges-edges.result.now l.edge-index d c.same_answers.ensures.store c.edges-edges.ensures.edges c.loop-edge-test.true in
+    learns_part nodes c.args.self.now l.self c.learn_node.new.self child id low l.invariant.learns c.learn_node.ensures.learns
 
 pub returns-then-not-whole-clause-learns : goal.returns-then-not-whole-clause-learns
 returns-then-not-whole-clause-learns t c =
     let d : Edge = record { hi = 0; to = record { 0 = 0 } } in
     let l = c.loop-edge in
+    let nodes = c.args.store.now in
     let id = c.args.id.0 in
     let child = (slice_index_or c.edges-edges.result.now l.edge-index d).to.0 in
-    let low = edge_older c.args.store.now id c.edges-edges.result.now l.edge-index d c.same_answers.ensures.store c.edges-edges.ensures.edges c.loop-edge-test.true in
-    let nodes = c.args.store.now in
-    learns_most nodes c.args.self.now c.learn_node.new.self id (id + 1) (omega arith) (learns_twice nodes c.args.self.now l.self c.learn_node.new.self (child + 1) id (omega (arith, low)) l.invariant.learns c.learn_node.ensures.learns)
+    let low = edge_older nodes id c.edges-edges.result.now l.edge-index d c.same_answers.ensures.store c.edges-edges.ensures.edges c.loop-edge-test.true in
+    learns_part nodes c.args.self.now l.self c.learn_node.new.self child id low l.invariant.learns c.learn_node.ensures.learns
 
 pub work_out-requires-clause-room : goal.work_out-requires-clause-room
 work_out-requires-clause-room t c = c.loop-edge.invariant.learns.room (c.args.id.0 + 1) c.requires.room
@@ -96,13 +96,9 @@ work_out-requires-clause-children t c =
 pub returns-clause-learns : goal.returns-clause-learns
 returns-clause-learns t c =
     let l = c.loop-edge in
-    let id = c.args.id.0 in
-    let nodes = c.args.store.now in
-    learns_twice nodes c.args.self.now l.self c.work_out.new.self (id + 1) (id + 1) (omega arith) (learns_most nodes c.args.self.now l.self id (id + 1) (omega arith) l.invariant.learns) c.work_out.ensures.learns
+    learns_here c.args.store.now c.args.self.now l.self c.work_out.new.self c.args.id.0 l.invariant.learns c.work_out.ensures.learns
 
 pub returns-in_err-cost-clause-learns : goal.returns-in_err-cost-clause-learns
 returns-in_err-cost-clause-learns t c =
     let l = c.loop-edge in
-    let id = c.args.id.0 in
-    let nodes = c.args.store.now in
-    learns_twice nodes c.args.self.now l.self c.work_out.new.self (id + 1) (id + 1) (omega arith) (learns_most nodes c.args.self.now l.self id (id + 1) (omega arith) l.invariant.learns) c.work_out.ensures.learns
+    learns_here c.args.store.now c.args.self.now l.self c.work_out.new.self c.args.id.0 l.invariant.learns c.work_out.ensures.learns
