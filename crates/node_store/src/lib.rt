@@ -35,7 +35,7 @@ mod split;
 mod store;
 
 pub use answer::edge_at;
-pub use edge::{Edge, NodeId};
+pub use edge::{Edge, NodeId, joined};
 pub use level::stated_order;
 pub use split::{Part, Parts};
 pub use store::Store;
