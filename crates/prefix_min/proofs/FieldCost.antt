@@ -1,5 +1,5 @@
 -- The rows of the field, as they are written: no right list weighs less.
-use Rattle.std.proofs.Common.{◌∷◌, ◌++◌, ℕ, List, [], ◌<◌, ◌≤◌, ◌∙◌, arith, subst, length}
+use Rattle.std.proofs.Common.{Bool, ◌∷◌, ◌++◌, ℕ, List, [], ◌<◌, ◌≤◌, ◌∙◌, arith, subst, length}
 use Rattle.std.proofs.lemmas.List.Elements.{All-from_recursion}
 use Rattle.prefix_min.specs.declared.piece.Piece.{Piece}
 use Rattle.prefix_min.specs.declared.plan.Choice.{Choice}
@@ -13,8 +13,8 @@ use Rattle.prefix_min.proofs.FieldRows.{field-right}
 use Rattle.prefix_min.proofs.Whole.{IsFresh, least}
 
 -- what the whole field costs is the least weight, whatever label its row has
-pub least-weight : {weights : List ℕ} {pieces : List Piece} {width label cost : ℕ} {choices : List Choice} {also : List ℕ} →
-    IsWhole weights pieces width label cost choices also →
+pub least-weight : {keeps : Bool} {weights : List ℕ} {pieces : List Piece} {width label cost : ℕ} {choices : List Choice} {also : List ℕ} →
+    IsWhole keeps weights pieces width label cost choices also →
     IsLeastWeight weights width (label_at pieces) cost
 least-weight {weights = weights} {pieces = pieces} {width = width} {label = label} whole =
     let f = label_at pieces in

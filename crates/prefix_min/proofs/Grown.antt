@@ -1,6 +1,6 @@
 -- How a part grows by its other half, and by what lies about it.
-use Rattle.std.proofs.Common.{◌≡◌, ◌∷◌, ◌++◌, ℕ, suc, List, [], ◌+◌, ◌-◌, ◌%◌, ◌^◌, ◌<◌, ◌≤◌, refl, ap, arith, sym, ◌∙◌, inl, inr, subst, length, get_or, take, drop}
-use Rattle.std.specs.Prelude.{slice_index}
+use Rattle.std.proofs.Common.{Bool, ◌≡◌, ◌∷◌, ◌++◌, ℕ, suc, List, [], ◌+◌, ◌-◌, ◌%◌, ◌^◌, ◌<◌, ◌≤◌, refl, ap, arith, sym, ◌∙◌, inl, inr, subst, length, get_or, take, drop}
+use Rattle.std.specs.Prelude.{IsTrue, slice_index}
 use Rattle.std.proofs.Math.Nat.{add-mod_right}
 use Rattle.std.proofs.Math.Seq.{drop-append_seam}
 use Rattle.std.proofs.lemmas.Bool.{cases_lt}
@@ -18,8 +18,8 @@ use Rattle.prefix_min.specs.Growth.{IsBeside, IsHalf, IsPut, IsStretch, end_of}
 use Rattle.prefix_min.specs.Merging.{AreKept, IsJoined}
 use Rattle.prefix_min.specs.NextPiece.{AreFit, IsNext, weight_below}
 use Rattle.prefix_min.specs.Parts.{IsAbout}
-use Rattle.prefix_min.specs.Pieces.{label_at, reach}
-use Rattle.prefix_min.specs.Plan.{AreChosen, more_choices, more_labels, own_choice, rows_of}
+use Rattle.prefix_min.specs.Pieces.{reach}
+use Rattle.prefix_min.specs.Plan.{more_choices, more_labels, own_choice, rows_of}
 use Rattle.prefix_min.specs.Savings.{AreSavings, AreSums, IsGain, alone, lowered, saved}
 use Rattle.prefix_min.specs.Trie.{costs_of}
 use Rattle.prefix_min.proofs.Blocks.{about-aligned, about-ends, from-within, sides, to-within}
@@ -31,8 +31,8 @@ use Rattle.field_boxes.proofs.Powers.{double}
 use Rattle.prefix_min.proofs.Planned.{both-chosen}
 
 -- the part so far: within the part that is to be done, and it begins in the first piece
-pub record IsGrown (weights : List ℕ) (pieces : List Piece) (bits low first : ℕ) (part : Part) (before after : List LabelCost) (old new following : ℕ) (cs0 cs1 : List Choice) (al0 al1 : List ℕ) : Type 0 where
-  pub built : IsBuilt weights pieces part.bits part.low before after old new following cs0 cs1 al0 al1
+pub record IsGrown (keeps : Bool) (weights : List ℕ) (pieces : List Piece) (bits low first : ℕ) (part : Part) (before after : List LabelCost) (old new following : ℕ) (cs0 cs1 : List Choice) (al0 al1 : List ℕ) : Type 0 where
+  pub built : IsBuilt keeps weights pieces part.bits part.low before after old new following cs0 cs1 al0 al1
   pub less : part.bits ≤ bits
   pub aligned : part.low % 2 ^ part.bits ≡ 0
   pub from : low ≤ part.low
@@ -55,9 +55,9 @@ sums-turned t = record {
 }
 
 -- what a part saves
-kept-of : {weights : List ℕ} {pieces : List Piece} {bits low : ℕ} {before after : List LabelCost} {old new following : ℕ} {cs0 cs1 : List Choice}
+kept-of : {keeps : Bool} {weights : List ℕ} {pieces : List Piece} {bits low : ℕ} {before after : List LabelCost} {old new following : ℕ} {cs0 cs1 : List Choice}
     {al0 al1 : List ℕ}
-    (b : IsBuilt weights pieces bits low before after old new following cs0 cs1 al0 al1) → AreKept weights b.savings
+    (b : IsBuilt keeps weights pieces bits low before after old new following cs0 cs1 al0 al1) → AreKept weights b.savings
 kept-of b = record { rise = b.rise; within = λ d h. b.within d (b.saves.lists d h); most = b.saves.most; above = b.above }
 
 -- the next piece is known from the last value that is done
@@ -79,13 +79,13 @@ behind-next weights pieces fit place v limit inside le lt is next = record {
 }
 
 -- the first part: the greatest that ends where the first piece does
-module _ {weights : List ℕ} {pieces : List Piece} {low first : ℕ} {part : Part} {before after : List LabelCost} {old new was following : ℕ}
+module _ {keeps : Bool} {weights : List ℕ} {pieces : List Piece} {low first : ℕ} {part : Part} {before after : List LabelCost} {old new was following : ℕ}
     {cs0 cs1 : List Choice} {al0 al1 : List ℕ} (bits : ℕ)
     (fit : AreFit weights pieces) (next : IsNext pieces first low) (within : low + 2 ^ bits ≤ reach 0 pieces) (whole : low % 2 ^ bits ≡ 0)
     (ends : end_of pieces first + 1 < low + 2 ^ bits)
     (about : IsAbout (end_of pieces first) 0 bits (end_of pieces first + 1) part)
-    (put : IsPut weights (get_or pieces first no_piece).label part before after old new was following cs0 cs1 al0 al1) where
-  pub grown-first : IsGrown weights pieces bits low first part before after old new (first + 1) cs0 cs1 al0 al1
+    (put : IsPut keeps weights (get_or pieces first no_piece).label part before after old new was following cs0 cs1 al0 al1) where
+  pub grown-first : IsGrown keeps weights pieces bits low first part before after old new (first + 1) cs0 cs1 al0 al1
   grown-first =
       let inside = part-inside fit bits next within in
       let hi = end_of pieces first in
@@ -103,23 +103,23 @@ module _ {weights : List ℕ} {pieces : List Piece} {low first : ℕ} {part : Pa
         begins = about.from;
       }
 
-module _ {weights : List ℕ} {pieces : List Piece} {bits low first : ℕ} {part : Part} {before mid : List LabelCost} {c0 c1 next1 : ℕ} {cs0 cs1 : List Choice}
+module _ {keeps : Bool} {weights : List ℕ} {pieces : List Piece} {bits low first : ℕ} {part : Part} {before mid : List LabelCost} {c0 c1 next1 : ℕ} {cs0 cs1 : List Choice}
     {al0 al1 : List ℕ}
-    (g : IsGrown weights pieces bits low first part before mid c0 c1 next1 cs0 cs1 al0 al1) where
+    (g : IsGrown keeps weights pieces bits low first part before mid c0 c1 next1 cs0 cs1 al0 al1) where
   -- the last part is the whole
-  pub grown-last : bits ≤ part.bits → IsBuilt weights pieces bits low before mid c0 c1 next1 cs0 cs1 al0 al1
+  pub grown-last : bits ≤ part.bits → IsBuilt keeps weights pieces bits low before mid c0 c1 next1 cs0 cs1 al0 al1
   grown-last ge =
       let e : part.bits ≡ bits = omega (arith, g.less, ge) in
       let l : part.low ≡ low = omega (arith, g.from, g.to, ap (λ k. 2 ^ k) e) in
-      subst (λ v. IsBuilt weights pieces bits v before mid c0 c1 next1 cs0 cs1 al0 al1) l
-      (subst (λ k. IsBuilt weights pieces k part.low before mid c0 c1 next1 cs0 cs1 al0 al1) e g.built)
+      subst (λ v. IsBuilt keeps weights pieces bits v before mid c0 c1 next1 cs0 cs1 al0 al1) l
+      (subst (λ k. IsBuilt keeps weights pieces k part.low before mid c0 c1 next1 cs0 cs1 al0 al1) e g.built)
 
   -- what is done so far costs no more than its values weigh
   pub grown-light : c0 ≤ weight_below weights 0 pieces low → c1 ≤ weight_below weights 0 pieces (part.low + 2 ^ part.bits)
   grown-light light = omega (arith, light, below-rises weights 0 low part.low pieces g.from, g.built.light, g.built.cost)
 
 -- the savings of the other half, and the part that both make
-record IsOther (weights : List ℕ) (pieces : List Piece) (about : Part) (xs before mid after : List LabelCost) (c0 c2 next2 : ℕ) (cs0 cs2 : List Choice)
+record IsOther (keeps : Bool) (weights : List ℕ) (pieces : List Piece) (about : Part) (xs before mid after : List LabelCost) (c0 c2 next2 : ℕ) (cs0 cs2 : List Choice)
     (al0 al2 : List ℕ) : Type 0 where
   ys : List LabelCost
   pushed : after ≡ mid ++ ys
@@ -128,8 +128,8 @@ record IsOther (weights : List ℕ) (pieces : List Piece) (about : Part) (xs bef
   fits : (top : Gain) (sums : List LabelCost) → IsGain weights xs ys top.gain top.best → AreSums xs ys sums → top.gain ≤ c2
   both : (top : Gain) (sums new : List LabelCost) (cs3 : List Choice) (al3 : List ℕ) → IsGain weights xs ys top.gain top.best → AreSums xs ys sums →
       new ≡ before ++ lowered top.gain sums →
-      al3 ≡ al2 ++ more_labels top sums → cs3 ≡ cs2 ++ more_choices top about.low about.bits (length cs0) (length al2) (length al3) →
-      IsBuilt weights pieces about.bits about.low before new c0 (c2 - top.gain) next2 cs0 cs3 al0 al3
+      (IsTrue keeps → al3 ≡ al2 ++ more_labels top sums) → (IsTrue keeps → cs3 ≡ cs2 ++ more_choices top about.low about.bits (length cs0) (length al2) (length al3)) →
+      IsBuilt keeps weights pieces about.bits about.low before new c0 (c2 - top.gain) next2 cs0 cs3 al0 al3
 
 -- what two parts save, one behind the other
 pub record AreReady (weights : List ℕ) (after : List LabelCost) (s m : ℕ) : Type 0 where
@@ -139,10 +139,10 @@ pub record AreReady (weights : List ℕ) (after : List LabelCost) (s m : ℕ) : 
   pub high : AreKept weights (drop m after)
   pub room : (d : ℕ) → saved (take (m - s) (drop s after)) d + saved (drop m after) d < 2 ^ 128
 
-module _ {weights : List ℕ} {pieces : List Piece} {bits low first : ℕ} {part : Part} {before mid : List LabelCost} {c0 c1 next1 : ℕ} {cs0 cs1 : List Choice}
+module _ {keeps : Bool} {weights : List ℕ} {pieces : List Piece} {bits low first : ℕ} {part : Part} {before mid : List LabelCost} {c0 c1 next1 : ℕ} {cs0 cs1 : List Choice}
     {al0 al1 : List ℕ}
     (fit : AreFit weights pieces) (next : IsNext pieces first low) (within : low + 2 ^ bits ≤ reach 0 pieces) (whole : low % 2 ^ bits ≡ 0)
-    (g : IsGrown weights pieces bits low first part before mid c0 c1 next1 cs0 cs1 al0 al1) where
+    (g : IsGrown keeps weights pieces bits low first part before mid c0 c1 next1 cs0 cs1 al0 al1) where
   module _ {about : Part} (lt : part.bits < bits) (wide : about.bits ≡ part.bits + 1) (is : about.low ≡ part.low - part.low % 2 ^ (part.bits + 1)) where
     size : about.bits ≡ suc part.bits
     size = omega (arith, wide)
@@ -168,10 +168,10 @@ module _ {weights : List ℕ} {pieces : List Piece} {bits low first : ℕ} {part
     ]
 
     module _ {after : List LabelCost} {c2 next2 s m : ℕ} {cs2 : List Choice} {al2 : List ℕ}
-        (b : IsBeside weights pieces first part about mid after c1 c2 next1 next2 cs1 cs2 al1 al2)
+        (b : IsBeside keeps weights pieces first part about mid after c1 c2 next1 next2 cs1 cs2 al1 al2)
         (ls : s ≡ length before) (lm : m ≡ length mid) where
-      above : about.low ≡ part.low → IsBuilt weights pieces part.bits (part.low + 2 ^ part.bits) mid after c1 c2 next2 cs1 cs2 al1 al2 →
-          IsOther weights pieces about g.built.savings before mid after c0 c2 next2 cs0 cs2 al0 al2
+      above : about.low ≡ part.low → IsBuilt keeps weights pieces part.bits (part.low + 2 ^ part.bits) mid after c1 c2 next2 cs1 cs2 al1 al2 →
+          IsOther keeps weights pieces about g.built.savings before mid after c0 c2 next2 cs0 cs2 al0 al2
       above same hi = record {
         ys = hi.savings;
         pushed = hi.pushed;
@@ -179,15 +179,15 @@ module _ {weights : List ℕ} {pieces : List Piece} {bits low first : ℕ} {part
         room = room-built fit size refl g.built hi;
         fits = λ top sums i t. omega (arith, halves-row fit size refl g.built hi top i t, g.built.cost, hi.cost);
         both = λ top sums new cs3 al3 i t put put_also put_choices.
-            subst (λ v. IsBuilt weights pieces about.bits v before new c0 (c2 - top.gain) next2 cs0 cs3 al0 al3) (sym same)
+            subst (λ v. IsBuilt keeps weights pieces about.bits v before new c0 (c2 - top.gain) next2 cs0 cs3 al0 al3) (sym same)
             (halves-built fit size refl g.built hi top i t
             (both-chosen g.built.chosen hi.chosen about.bits part.low g.built.node hi.node size (inl (refl, refl)) (λ d. refl)) put
             (omega (arith, g.built.cost, hi.cost)) put_also
-            (put_choices ∙ ap (λ v. cs2 ++ more_choices top v about.bits (length cs0) (length al2) (length al3)) same));
+            (λ yes. put_choices yes ∙ ap (λ v. cs2 ++ more_choices top v about.bits (length cs0) (length al2) (length al3)) same));
       }
 
-      below : about.low + 2 ^ part.bits ≡ part.low → IsBuilt weights pieces part.bits about.low mid after c1 c2 first cs1 cs2 al1 al2 → next2 ≡ next1 →
-          IsOther weights pieces about g.built.savings before mid after c0 c2 next2 cs0 cs2 al0 al2
+      below : about.low + 2 ^ part.bits ≡ part.low → IsBuilt keeps weights pieces part.bits about.low mid after c1 c2 first cs1 cs2 al1 al2 → next2 ≡ next1 →
+          IsOther keeps weights pieces about g.built.savings before mid after c0 c2 next2 cs0 cs2 al0 al2
       below half lo stays = record {
         ys = lo.savings;
         pushed = lo.pushed;
@@ -197,13 +197,13 @@ module _ {weights : List ℕ} {pieces : List Piece} {bits low first : ℕ} {part
         both = λ top sums new cs3 al3 i t put put_also put_choices.
             let turned : (d : ℕ) → least_cost (costs_of lo.node) d + least_cost (costs_of g.built.node) d ≡ least_cost (costs_of g.built.node) d + least_cost
             (costs_of lo.node) d = λ d. omega arith in
-            subst (λ k. IsBuilt weights pieces about.bits about.low before new c0 (c2 - top.gain) k cs0 cs3 al0 al3) (sym stays)
+            subst (λ k. IsBuilt keeps weights pieces about.bits about.low before new c0 (c2 - top.gain) k cs0 cs3 al0 al3) (sym stays)
             (halves-built fit size (sym half) lo g.built top (gain-turned i) (sums-turned t)
             (both-chosen g.built.chosen lo.chosen about.bits about.low lo.node g.built.node size (inr (sym half, refl)) turned) put
             (omega (arith, g.built.cost, lo.cost)) put_also put_choices);
       }
 
-      other : IsOther weights pieces about g.built.savings before mid after c0 c2 next2 cs0 cs2 al0 al2
+      other : IsOther keeps weights pieces about g.built.savings before mid after c0 c2 next2 cs0 cs2 al0 al2
       other = elim b [ inl h ↦ above h.0 h.1 | inr h ↦ below h.0 h.1 h.2 ]
 
       pub ready : AreReady weights after s m
@@ -219,7 +219,7 @@ module _ {weights : List ℕ} {pieces : List Piece} {bits low first : ℕ} {part
           }
 
       module _ {top : Gain} {new : List LabelCost} {al3 : List ℕ}
-          (j : IsJoined weights (take (m - s) (drop s after)) (drop m after) (take s after) new al2 al3 top) where
+          (j : IsJoined keeps weights (take (m - s) (drop s after)) (drop m after) (take s after) new al2 al3 top) where
         gained : IsGain weights g.built.savings other.ys top.gain top.best
         gained = cut before mid after g.built.savings other.ys g.built.pushed other.pushed ls lm (λ us vs. IsGain weights us vs top.gain top.best) j.gain
 
@@ -230,13 +230,13 @@ module _ {weights : List ℕ} {pieces : List Piece} {bits low first : ℕ} {part
         both-fits = other.fits top j.sums gained summed
 
         pub grown-both : {cs3 : List Choice} {below also end : ℕ} → below ≡ length cs0 → also ≡ length al2 → end ≡ length al3 →
-            cs3 ≡ cs2 ++ more_choices top about.low about.bits below also end →
-            IsGrown weights pieces bits low first about before new c0 (c2 - top.gain) next2 cs0 cs3 al0 al3
+            (IsTrue keeps → cs3 ≡ cs2 ++ more_choices top about.low about.bits below also end) →
+            IsGrown keeps weights pieces bits low first about before new c0 (c2 - top.gain) next2 cs0 cs3 al0 al3
         grown-both {cs3 = cs3} {below = below} {also = also} {end = end} p q r put = record {
           built = other.both top j.sums new cs3 al3 gained summed
               (j.savings ∙ ap (λ zs. zs ++ lowered top.gain j.sums) (front-is before mid after g.built.savings other.ys g.built.pushed other.pushed ls lm))
               j.also
-              (put ∙ ap (λ x. cs2 ++ more_choices top about.low about.bits x also end) p
+              (λ yes. put yes ∙ ap (λ x. cs2 ++ more_choices top about.low about.bits x also end) p
               ∙ ap (λ x. cs2 ++ more_choices top about.low about.bits (length cs0) x end) q
               ∙ ap (λ x. cs2 ++ more_choices top about.low about.bits (length cs0) (length al2) x) r);
           less = omega (arith, wide, lt);
@@ -251,7 +251,7 @@ module _ {weights : List ℕ} {pieces : List Piece} {bits low first : ℕ} {part
       part.bits < wide.bits →
       IsStretch weights pieces (drop s mid) label part bits next1 wide → IsNext pieces next2 (wide.low + 2 ^ wide.bits) → below ≡ length cs0 →
       also ≡ length al1 →
-      cs2 ≡ cs1 ++ own_choice wide.low wide.bits label below also also ∷ [] → IsGrown weights pieces bits low first wide before mid c0 c1 next2 cs0 cs2 al0 al1
+      (IsTrue keeps → cs2 ≡ cs1 ++ own_choice wide.low wide.bits label below also also ∷ []) → IsGrown keeps weights pieces bits low first wide before mid c0 c1 next2 cs0 cs2 al0 al1
   grown-wide {wide = wide} {label = label} {below = below} {also = also} ls lab lt st then p q put =
       let built = g.built in
       let about = st.about in
@@ -276,7 +276,7 @@ module _ {weights : List ℕ} {pieces : List Piece} {bits low first : ℕ} {part
         (λ u from below. next-label fit u next inside (omega (arith, start, from)) (omega (arith, below, g.begins)) ∙ lab),
         (λ u from below. next-label fit u built.next st.inside from (omega (arith, below, about.ends)) ∙ st.label_is),
       ) in
-      let choices = put ∙ ap (λ x. cs1 ++ own_choice wide.low wide.bits label x also also ∷ []) p
+      let choices = λ (yes : IsTrue keeps). put yes ∙ ap (λ x. cs1 ++ own_choice wide.low wide.bits label x also also ∷ []) p
       ∙ ap (λ x. cs1 ++ own_choice wide.low wide.bits label (length cs0) x x ∷ []) q in
       record {
         built = record {
@@ -292,8 +292,7 @@ module _ {weights : List ℕ} {pieces : List Piece} {bits low first : ℕ} {part
           cost = omega (arith, built.cost, o.inner.row);
           next = then;
           light = omega (arith, o.inner.row, built.light, below-rises weights 0 wide.low part.low pieces about.from, below-rises weights 0 (part.low + 2 ^ part.bits) (wide.low + 2 ^ wide.bits) pieces about.to);
-          chosen = subst (λ cs. AreChosen weights (label_at pieces) wide.bits wide.low o.inner.node cs0 cs al0 al1) (sym choices)
-              (stretch-chosen built.chosen o);
+          chosen = stretch-chosen built.chosen o choices;
         };
         less = about.short;
         aligned = about.aligned;
@@ -303,11 +302,11 @@ module _ {weights : List ℕ} {pieces : List Piece} {bits low first : ℕ} {part
       }
 
 -- a part of one label below another that begins in the same piece
-pub below-built : {weights : List ℕ} {pieces : List Piece} {first top : ℕ} {part : Part} {before after : List LabelCost} {old new was following : ℕ}
+pub below-built : {keeps : Bool} {weights : List ℕ} {pieces : List Piece} {first top : ℕ} {part : Part} {before after : List LabelCost} {old new was following : ℕ}
     {cs0 cs1 : List Choice} {al0 al1 : List ℕ} (fit : AreFit weights pieces) →
     first < length pieces → IsNext pieces first part.low → part.low + 2 ^ part.bits ≡ top → top ≤ end_of pieces first → top ≤ reach 0 pieces →
-    IsPut weights (get_or pieces first no_piece).label part before after old new was following cs0 cs1 al0 al1 →
-    IsBuilt weights pieces part.bits part.low before after old new first cs0 cs1 al0 al1
+    IsPut keeps weights (get_or pieces first no_piece).label part before after old new was following cs0 cs1 al0 al1 →
+    IsBuilt keeps weights pieces part.bits part.low before after old new first cs0 cs1 al0 al1
 below-built fit inside next is reached within put =
     constant-built fit next (omega (arith, is, within)) (omega (arith, is, reached)) put (still-next inside next (omega arith) (omega (arith, is, reached)))
 

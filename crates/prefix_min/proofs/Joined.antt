@@ -1,9 +1,9 @@
 -- What a part saves, once one label more is joined with it.
-use Rattle.std.proofs.Common.{◌≡◌, ◌≢◌, ◌∷◌, ◌++◌, ℕ, suc, List, [], ◌+◌, ◌-◌, ◌^◌, ◌<◌, ◌≤◌, Bool, true, false, refl, ap, arith, sym, ◌∙◌, inl, inr, eq-eqb, ne_eqb, subst, length, get_or, set, take, drop}
-use Rattle.std.specs.Prelude.{◌⊎◌, ◌==◌, cond, nat_lt, slice_index}
+use Rattle.std.proofs.Common.{append-nil, ◌≡◌, ◌≢◌, ◌∷◌, ◌++◌, ℕ, suc, List, [], ◌+◌, ◌-◌, ◌^◌, ◌<◌, ◌≤◌, Bool, true, false, refl, ap, arith, sym, ◌∙◌, inl, inr, eq-eqb, ne_eqb, subst, length, get_or, set, take, drop}
+use Rattle.std.specs.Prelude.{IsTrue, ◌⊎◌, ◌&&◌, ◌==◌, cond, nat_le, nat_lt, not, slice_index}
 use Rattle.std.specs.List.{insert}
 use Rattle.std.proofs.Math.Seq.{take-append_seam, take-length, drop-append_seam}
-use Rattle.std.proofs.lemmas.Bool.{cases_eq, cases_lt, eqb-true, false≢true, ltb-true, ltb-false}
+use Rattle.std.proofs.lemmas.Bool.{cases_eq, cases_lt, eqb-true, false≢true, le-ltb, lt-ltb, ltb-true, ltb-false}
 use Rattle.std.proofs.lemmas.List.{drop-take, get_or-drop, get_or_default, length-drop, length-take-le, set-append_right, take-append-drop, take-take}
 use Rattle.std.proofs.lemmas.List.Edits.{insert-append_right}
 use Rattle.prefix_min.specs.declared.savings.Gain.{Gain}
@@ -11,7 +11,7 @@ use Rattle.prefix_min.specs.declared.savings.LabelCost.{LabelCost}
 use Rattle.prefix_min.specs.Costs.{Lists, RisesFrom}
 use Rattle.prefix_min.specs.Merging.{AreAbove, AreKept, IsJoined, StandsAt, count_below, merged, no_entry}
 use Rattle.prefix_min.specs.Plan.{more_labels}
-use Rattle.prefix_min.specs.Savings.{AreSums, IsGain, less, lowered, saved}
+use Rattle.prefix_min.specs.Savings.{AreSums, IsGain, alone, less, lowered, saved}
 use Rattle.prefix_min.proofs.Listed.{below_all}
 
 -- the entry that is put in, or added to another
@@ -245,8 +245,8 @@ place-of {zs = zs} {start = start} x le h e =
     record { le = le; is = ap (λ k. start + k) (h ∙ ap (count_below x.label) (rest_all start zs) ∙ ap (λ ys. count_below x.label (drop start ys)) e) }
 
 -- an entry that was read
-pub read-at : {e : LabelCost} (es : List LabelCost) (place : ℕ) → place < length es → e ≡ get_or es place e → e.cost ≡ (get_or es place no_entry).cost
-read-at {e = e} es place within is = ap (λ r. r.cost) (is ∙ get_or_default es place e no_entry within)
+pub read-at : {e : LabelCost} (es : List LabelCost) (place : ℕ) → place < length es → e ≡ get_or es place e → e ≡ get_or es place no_entry
+read-at {e = e} es place within is = is ∙ get_or_default es place e no_entry within
 
 kept_step : (t : Bool) (e : LabelCost) (es : List LabelCost) → nat_lt 0 e.cost ≡ t → 0 < e.cost → lowered 0 es ≡ es → cond t (less 0 e ∷ lowered 0 es) (lowered 0 es) ≡ e ∷ es
 kept_step true e es t some h = ap (λ n. (record { label = e.label; cost = n }) ∷ lowered 0 es) (let same : e.cost - 0 ≡ e.cost = omega arith in same) ∙ ap (λ zs. e ∷ zs) h
@@ -287,17 +287,55 @@ module _ {weights : List ℕ} {mid : List LabelCost} {x : LabelCost} (old : List
   pub mid-above : AreAbove (drop start mid)
   mid-above = subst AreAbove (sym mid_left) (merged-above x (drop start old) one.above.0 list.above)
 
-  pub joined-one : {new : List LabelCost} {al0 al1 : List ℕ} (g : Gain) → g.best ≡ x.label →
+  pub joined-one : {keeps : Bool} {new : List LabelCost} {al0 al1 : List ℕ} (g : Gain) → g.best ≡ x.label →
       g.gain ≡ saved (drop start old) x.label + x.cost - slice_index weights x.label →
-      new ≡ take start mid ++ lowered g.gain (drop start mid) → al1 ≡ al0 ++ more_labels g (drop start mid) → IsJoined weights (drop start old) (x ∷ []) (take start old) new al0 al1 g
+      new ≡ take start mid ++ lowered g.gain (drop start mid) → (IsTrue keeps → al1 ≡ al0 ++ more_labels g (drop start mid)) → IsJoined keeps weights (drop start old) (x ∷ []) (take start old) new al0 al1 g
   joined-one {al0 = al0} g best gain is labels = record {
     sums = merged x (drop start old);
     are = merged_sums x (drop start old) list.rise;
     gain = subst (λ y. IsGain weights (drop start old) (x ∷ []) g.gain y) (sym best) (subst (λ n. IsGain weights (drop start old) (x ∷ []) n x.label) (sym gain)
         (merged_gain x weights (drop start old) list.most (omega (arith, one.most x.label, ap (λ t. cond t x.cost 0) (eq-eqb x.label x.label refl)))));
     savings = is ∙ ap (λ zs. zs ++ lowered g.gain (drop start mid)) mid_front ∙ ap (λ zs. take start old ++ lowered g.gain zs) mid_left;
-    also = labels ∙ ap (λ zs. al0 ++ more_labels g zs) mid_left;
+    also = λ yes. labels yes ∙ ap (λ zs. al0 ++ more_labels g zs) mid_left;
   }
+
+-- a label that alone saves its weight is doubled, gains that, and saves as much as before
+module _ (y w : ℕ) where
+  doubled : merged (record { label = y; cost = w }) (record { label = y; cost = w } ∷ []) ≡ record { label = y; cost = w + w } ∷ []
+  doubled = let less : nat_lt y y ≡ false = le-ltb y y (omega arith) in let same : y == y ≡ true = eq-eqb y y refl in rw less (rw same refl)
+
+  halved : 0 < w → lowered w (record { label = y; cost = w + w } ∷ []) ≡ record { label = y; cost = w } ∷ []
+  halved some =
+      let more : nat_lt w (w + w) ≡ true = lt-ltb w (w + w) (omega (arith, some)) in
+      let left : w + w - w ≡ w = omega arith in
+      rw more (ap (λ n. record { label = y; cost = n } ∷ []) left)
+
+  none_of : (t u : Bool) → cond t (cond (u && not true) (y ∷ []) []) [] ≡ []
+  none_of true true = refl
+  none_of true false = refl
+  none_of false u = refl
+
+  no_other : more_labels (record { gain = w; best = y }) (record { label = y; cost = w + w } ∷ []) ≡ []
+  no_other = let same : y == y ≡ true = eq-eqb y y refl in rw same (none_of (nat_lt 0 w) (nat_le w (w + w)))
+
+pub joined-alone : {keeps : Bool} {weights : List ℕ} {x : LabelCost} {al : List ℕ} {zs : List LabelCost} (old : List LabelCost) (start : ℕ) → start ≤ length old →
+    AreKept weights (drop start old) → AreKept weights (x ∷ []) → zs ≡ old → take (length zs - start) (drop start zs) ≡ alone weights x.label → x.cost ≡ slice_index weights x.label →
+    IsJoined keeps weights (drop start old) (x ∷ []) (take start old) old al al (record { gain = slice_index weights x.label; best = x.label })
+joined-alone {keeps = keeps} {weights = weights} {x = x} {al = al} {zs = zs} old start le list one same is whole =
+    let y = x.label in
+    let w = x.cost in
+    let mid = take start old ++ merged x (drop start old) in
+    let g : Gain = record { gain = w; best = y } in
+    let single : drop start old ≡ x ∷ [] = ap (drop start) (sym same) ∙ sym (rest_all start zs) ∙ is ∙ ap (λ n. record { label = y; cost = n } ∷ []) (sym whole) in
+    let left : drop start mid ≡ record { label = y; cost = w + w } ∷ [] = mid_left old start le list one refl ∙ ap (merged x) single ∙ doubled y w in
+    let front : take start mid ≡ take start old = mid_front old start le list one refl in
+    let own : saved (drop start old) y ≡ w = ap (λ es. saved es y) single ∙ ap (λ t. cond t w 0) (eq-eqb y y refl) in
+    let after : drop start old ≡ lowered w (drop start mid) = single ∙ sym (halved y w one.above.0) ∙ ap (lowered w) (sym left) in
+    let none : more_labels g (drop start mid) ≡ [] = ap (more_labels g) left ∙ no_other y w in
+    subst (λ n. IsJoined keeps weights (drop start old) (x ∷ []) (take start old) old al al (record { gain = n; best = y })) whole
+    (joined-one old start le list one refl g refl (omega (arith, own, whole))
+    (sym (take-append-drop start old) ∙ ap (λ es. take start old ++ es) after ∙ ap (λ es. es ++ lowered w (drop start mid)) (sym front))
+    (λ yes. sym (ap (λ ls. al ++ ls) none ∙ append-nil al)))
 
 -- what stands before the middle, once the other part is cut off
 module _ {cut : List LabelCost} (old : List LabelCost) (start middle : ℕ) (le : start ≤ middle) (is : cut ≡ take middle old) where
@@ -315,11 +353,11 @@ module _ {cut : List LabelCost} (old : List LabelCost) (start middle : ℕ) (le 
         let own : saved (drop middle old) x.label ≡ x.cost = ap (λ ys. saved ys x.label) one ∙ ap (λ t. cond t x.cost 0) (eq-eqb x.label x.label refl) in
         omega (arith, h x.label, own, ap (λ xs. saved xs x.label) cut_left)
 
-    pub joined-cut : {weights : List ℕ} {new : List LabelCost} {al0 al1 : List ℕ} {g : Gain} →
-        IsJoined weights (drop start cut) (x ∷ []) (take start cut) new al0 al1 g →
-        IsJoined weights (take (middle - start) (drop start old)) (drop middle old) (take start old) new al0 al1 g
-    joined-cut {weights = weights} {new = new} {al0 = al0} {al1 = al1} {g = g} j =
+    pub joined-cut : {keeps : Bool} {weights : List ℕ} {new : List LabelCost} {al0 al1 : List ℕ} {g : Gain} →
+        IsJoined keeps weights (drop start cut) (x ∷ []) (take start cut) new al0 al1 g →
+        IsJoined keeps weights (take (middle - start) (drop start old)) (drop middle old) (take start old) new al0 al1 g
+    joined-cut {keeps = keeps} {weights = weights} {new = new} {al0 = al0} {al1 = al1} {g = g} j =
         let front : take start cut ≡ take start old = ap (take start) is ∙ take-take start middle old le in
-        subst (λ ys. IsJoined weights (take (middle - start) (drop start old)) ys (take start old) new al0 al1 g) (sym one)
-        (subst (λ xs. IsJoined weights xs (x ∷ []) (take start old) new al0 al1 g) cut_left
-        (subst (λ fs. IsJoined weights (drop start cut) (x ∷ []) fs new al0 al1 g) front j))
+        subst (λ ys. IsJoined keeps weights (take (middle - start) (drop start old)) ys (take start old) new al0 al1 g) (sym one)
+        (subst (λ xs. IsJoined keeps weights xs (x ∷ []) (take start old) new al0 al1 g) cut_left
+        (subst (λ fs. IsJoined keeps weights (drop start cut) (x ∷ []) fs new al0 al1 g) front j))

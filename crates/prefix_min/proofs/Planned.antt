@@ -1,6 +1,6 @@
 -- What the parts choose, and the rows that they write.
 use Rattle.std.proofs.Common.{◌≡◌, ◌≢◌, ◌∷◌, ◌++◌, ℕ, suc, List, [], ◌+◌, ◌-◌, ◌^◌, ◌<◌, ◌≤◌, Bool, true, false, refl, ap, arith, sym, ◌∙◌, inl, inr, ne_eqb, subst, length, get_or, take, drop, append_assoc}
-use Rattle.std.specs.Prelude.{◌⊎◌, ◌&&◌, ◌==◌, cond, nat_le, nat_lt, not}
+use Rattle.std.specs.Prelude.{IsTrue, ◌⊎◌, ◌&&◌, ◌==◌, cond, nat_le, nat_lt, not}
 use Rattle.std.proofs.Math.Seq.{drop-append_seam, get_or-append_seam, take-length}
 use Rattle.std.proofs.lemmas.Bool.Decides.{eqb_tells}
 use Rattle.std.proofs.lemmas.Bool.{eqb-true, leb-true, leb-false, ltb-true, ltb-false}
@@ -9,7 +9,7 @@ use Rattle.prefix_min.specs.declared.plan.Choice.{Choice}
 use Rattle.prefix_min.specs.declared.savings.LabelCost.{LabelCost}
 use Rattle.prefix_min.specs.declared.savings.Gain.{Gain}
 use Rattle.prefix_min.specs.Costs.{Costs, IsConstant, IsSplit, RisesFrom, least_cost, without_row}
-use Rattle.prefix_min.specs.Plan.{AreChosen, Bare, Forest, Grown, IsLaid, IsPlaced, among, beside, more_choices, more_labels, no_choice, own_choice, rows_of, silent}
+use Rattle.prefix_min.specs.Plan.{AreAdded, AreChosen, Bare, Forest, Grown, IsLaid, IsPlaced, among, beside, more_choices, more_labels, no_choice, own_choice, rows_of, silent}
 use Rattle.prefix_min.specs.Rows.{ArePartRows, IsPart, row_of}
 use Rattle.prefix_min.specs.Savings.{AreSavings, AreSums, IsGain, further, saved}
 use Rattle.prefix_min.specs.Trie.{Constant, GivesAll, Halves, Node, StandsFor, costs_of}
@@ -99,78 +99,84 @@ labels_behind al al1 labels e =
     ap (λ xs. take (length al1 - length al) (drop (length al) xs)) e ∙ ap (take (length al1 - length al)) (drop-append_seam al labels)
     ∙ ap (λ m. take m labels) rest ∙ take-length labels
 
--- one choice more, on top of those that are laid
-pub top-chosen : {weights : List ℕ} {f : ℕ → ℕ} {bits low : ℕ} {node : Node} {cs0 : List Choice} {al0 al1 : List ℕ} (cs more : List Choice)
-    (al more_also : List ℕ) (label : ℕ) (labels : List ℕ) (forest : Forest)
-    (laid : IsLaid cs al (length cs0) (length cs) forest) (added : cs ≡ cs0 ++ more) (added_also : al ≡ al0 ++ more_also) (e : al1 ≡ al ++ labels) →
-    ((width d : ℕ) → IsPart width bits low →
-    ArePartRows weights f width bits low d (least_cost (costs_of node) d)
-    (rows_of width (Grown Bare (own_choice low bits label (length cs0) (length al) (length al1)) labels forest) d)) →
-    AreChosen weights f bits low node cs0 (cs ++ own_choice low bits label (length cs0) (length al) (length al1) ∷ []) al0 al1
-top-chosen {bits = bits} {low = low} {cs0 = cs0} {al0 = al0} {al1 = al1} cs more al more_also label labels forest laid added added_also e writes =
-    let top = own_choice low bits label (length cs0) (length al) (length al1) in
+-- nothing is added
+pub none-added : (cs : List Choice) (al : List ℕ) → AreAdded Bare cs cs al al
+none-added cs al = record { laid = refl; more = []; added = sym (append-nil cs); more_also = []; added_also = sym (append-nil al) }
+
+-- one choice more, on top of those that were added
+pub top-added : {low bits label end : ℕ} {labels : List ℕ} {forest : Forest} {cs0 cs cs1 : List Choice} {al0 al al1 : List ℕ} →
+    AreAdded forest cs0 cs al0 al → cs1 ≡ cs ++ own_choice low bits label (length cs0) (length al) end ∷ [] → al1 ≡ al ++ labels → end ≡ length al1 →
+    AreAdded (Grown Bare (own_choice low bits label (length cs0) (length al) end) labels forest) cs0 cs1 al0 al1
+top-added {low = low} {bits = bits} {label = label} {end = end} {labels = labels} {forest = forest} {cs0 = cs0} {cs = cs} {al0 = al0} {al = al} {al1 = al1} a put e at =
+    let top = own_choice low bits label (length cs0) (length al) end in
     let left : length (cs ++ top ∷ []) - 1 ≡ length cs = omega (arith, length-append cs (top ∷ [])) in
-    record {
-      forest = Grown Bare top labels forest;
+    subst (λ xs. AreAdded (Grown Bare top labels forest) cs0 xs al0 al1) (sym put) (record {
       laid = (
         record {
           some = omega (arith, length-append cs (top ∷ []));
           inside = omega arith;
           is = ap (λ k. get_or (cs ++ top ∷ []) k no_choice) left ∙ get_or-append_seam cs top [] no_choice;
-          ends = omega (arith, ap length e, length-append al labels);
-          within = omega arith;
-          labels_are = labels_behind al al1 labels e;
+          ends = omega (arith, at, ap length e, length-append al labels);
+          within = omega (arith, at);
+          labels_are = ap (λ n. take (n - length al) (drop (length al) al1)) at ∙ labels_behind al al1 labels e;
         },
         subst (λ m. IsLaid (cs ++ top ∷ []) al1 (length cs0) m forest) (sym left)
-            (laid-later cs (top ∷ []) al labels (length cs0) (length cs) forest refl e laid),
+            (laid-later cs (top ∷ []) al labels (length cs0) (length cs) forest refl e a.laid),
         refl,
       );
-      more = more ++ top ∷ [];
-      added = ap (λ xs. xs ++ top ∷ []) added ∙ append_assoc cs0 more (top ∷ []);
-      more_also = more_also ++ labels;
-      added_also = e ∙ ap (λ xs. xs ++ labels) added_also ∙ append_assoc al0 more_also labels;
-      writes = writes;
-    }
+      more = a.more ++ top ∷ [];
+      added = ap (λ xs. xs ++ top ∷ []) a.added ∙ append_assoc cs0 a.more (top ∷ []);
+      more_also = a.more_also ++ labels;
+      added_also = e ∙ ap (λ xs. xs ++ labels) a.added_also ∙ append_assoc al0 a.more_also labels;
+    })
+
+-- what was added by two parts, one after the other
+pub both-added : {f g : Forest} {cs0 cs1 cs2 : List Choice} {al0 al1 al2 : List ℕ} → AreAdded f cs0 cs1 al0 al1 → AreAdded g cs1 cs2 al1 al2 →
+    AreAdded (beside f g) cs0 cs2 al0 al2
+both-added {f = f} {g = g} {cs0 = cs0} {cs1 = cs1} {cs2 = cs2} {al0 = al0} {al1 = al1} {al2 = al2} a b = record {
+  laid = laid-beside cs2 al2 (length cs0) (length cs1) (length cs2) f g
+      (laid-later cs1 b.more al1 b.more_also (length cs0) (length cs1) f b.added b.added_also a.laid) b.laid;
+  more = a.more ++ b.more;
+  added = b.added ∙ ap (λ cs. cs ++ b.more) a.added ∙ append_assoc cs0 a.more b.more;
+  more_also = a.more_also ++ b.more_also;
+  added_also = b.added_also ∙ ap (λ al. al ++ b.more_also) a.added_also ∙ append_assoc al0 a.more_also b.more_also;
+}
 
 -- a part of one label writes its row
-module _ {weights : List ℕ} {f : ℕ → ℕ} {bits low : ℕ} {c : Costs} (k : IsConstant weights c) (gives : GivesAll f bits low c.label) (cs : List Choice)
-    (al : List ℕ) where
+module _ {weights : List ℕ} {f : ℕ → ℕ} {bits low : ℕ} {c : Costs} (k : IsConstant weights c) (gives : GivesAll f bits low c.label) where
   one_writes : (width d : ℕ) → IsPart width bits low →
       ArePartRows weights f width bits low d (least_cost c d) (cond (cond (c.label == d) true false) [] (row_of width bits low c.label ∷ []))
   one_writes width d p = elim (eqb_tells c.label d) [ inl t ↦ rw t.0 (constant-inherited k gives t.1) | inr t ↦ rw t.0 (constant-written k gives p t.1) ]
 
-  pub one-chosen : AreChosen weights f bits low (Constant c) cs (cs ++ own_choice low bits c.label (length cs) (length al) (length al) ∷ []) al al
-  one-chosen = top-chosen cs [] al [] c.label [] Bare refl (sym (append-nil cs)) (sym (append-nil al)) (sym (append-nil al)) one_writes
+  pub one-chosen : {keeps : Bool} {cs cs1 : List Choice} {al al1 : List ℕ} →
+      (IsTrue keeps → cs1 ≡ cs ++ own_choice low bits c.label (length cs) (length al) (length al) ∷ []) → al1 ≡ al →
+      AreChosen keeps weights f bits low (Constant c) cs cs1 al al1
+  one-chosen {cs = cs} {al = al} put same = record {
+    forest = Grown Bare (own_choice low bits c.label (length cs) (length al) (length al)) [] Bare;
+    kept = λ yes. top-added (none-added cs al) (put yes) (same ∙ sym (append-nil al)) (sym (ap length same));
+    writes = one_writes;
+  }
 
 -- what two parts choose, and the rows that they write as the halves of one
-pub record AreBoth (weights : List ℕ) (f : ℕ → ℕ) (bits low : ℕ) (lo hi : Node) (cs0 cs2 : List Choice) (al0 al2 : List ℕ) : Type 0 where
+pub record AreBoth (keeps : Bool) (weights : List ℕ) (f : ℕ → ℕ) (bits low : ℕ) (lo hi : Node) (cs0 cs2 : List Choice) (al0 al2 : List ℕ) : Type 0 where
   pub forest : Forest
-  pub laid : IsLaid cs2 al2 (length cs0) (length cs2) forest
-  pub more : List Choice
-  pub added : cs2 ≡ cs0 ++ more
-  pub more_also : List ℕ
-  pub added_also : al2 ≡ al0 ++ more_also
+  pub kept : IsTrue keeps → AreAdded forest cs0 cs2 al0 al2
   pub rows : (width d : ℕ) → IsPart width bits low →
       AreHalfRows weights f width bits low d (least_cost (costs_of lo) d + least_cost (costs_of hi) d) (rows_of width forest d)
 
 -- parts that were done one after the other, in either order
-module _ {weights : List ℕ} {f : ℕ → ℕ} {n one two : ℕ} {first second : Node} {cs0 cs1 cs2 : List Choice} {al0 al1 al2 : List ℕ}
-    (p : AreChosen weights f n one first cs0 cs1 al0 al1) (q : AreChosen weights f n two second cs1 cs2 al1 al2) where
+module _ {keeps : Bool} {weights : List ℕ} {f : ℕ → ℕ} {n one two : ℕ} {first second : Node} {cs0 cs1 cs2 : List Choice} {al0 al1 al2 : List ℕ}
+    (p : AreChosen keeps weights f n one first cs0 cs1 al0 al1) (q : AreChosen keeps weights f n two second cs1 cs2 al1 al2) where
   place : (width bits low at : ℕ) → bits ≡ suc n → IsPart width bits low → (at ≡ low) ⊎ (at ≡ low + 2 ^ n) → IsPart width n at
   place width bits low at size part (inl e) = subst (IsPart width n) (sym e) (low-half (subst (λ m. IsPart width m low) size part))
   place width bits low at size part (inr e) = subst (IsPart width n) (sym e) (high-half (subst (λ m. IsPart width m low) size part))
 
   pub both-chosen : (bits low : ℕ) (lo hi : Node) → bits ≡ suc n → AreHalves n low one two →
       ((d : ℕ) → least_cost (costs_of lo) d + least_cost (costs_of hi) d ≡ least_cost (costs_of first) d + least_cost (costs_of second) d) →
-      AreBoth weights f bits low lo hi cs0 cs2 al0 al2
+      AreBoth keeps weights f bits low lo hi cs0 cs2 al0 al2
   both-chosen bits low lo hi size halves sum = record {
     forest = beside p.forest q.forest;
-    laid = laid-beside cs2 al2 (length cs0) (length cs1) (length cs2) p.forest q.forest
-        (laid-later cs1 q.more al1 q.more_also (length cs0) (length cs1) p.forest q.added q.added_also p.laid) q.laid;
-    more = p.more ++ q.more;
-    added = q.added ∙ ap (λ cs. cs ++ q.more) p.added ∙ append_assoc cs0 p.more q.more;
-    more_also = p.more_also ++ q.more_also;
-    added_also = q.added_also ∙ ap (λ al. al ++ q.more_also) p.added_also ∙ append_assoc al0 p.more_also q.more_also;
+    kept = λ yes. both-added (p.kept yes) (q.kept yes);
     rows = λ width d part.
         let us = p.writes width d (place width bits low one size part (elim halves [ inl e ↦ inl e.0 | inr e ↦ inr e.0 ])) in
         let vs = q.writes width d (place width bits low two size part (elim halves [ inl e ↦ inr e.1 | inr e ↦ inl e.1 ])) in
@@ -181,9 +187,9 @@ module _ {weights : List ℕ} {f : ℕ → ℕ} {n one two : ℕ} {first second 
   }
 
 -- a part of two halves writes what they write, and its own row where its halves save less than the gain
-module _ {weights : List ℕ} {f : ℕ → ℕ} {n bits low : ℕ} {lo hi : Node} {c : Costs} {cs0 cs2 : List Choice} {al0 al2 : List ℕ} {xs ys sums : List LabelCost}
+module _ {keeps : Bool} {weights : List ℕ} {f : ℕ → ℕ} {n bits low : ℕ} {lo hi : Node} {c : Costs} {cs0 cs2 : List Choice} {al0 al2 : List ℕ} {xs ys sums : List LabelCost}
     (size : bits ≡ suc n) (s : IsSplit weights (costs_of lo) (costs_of hi) c) (h : StandsFor weights f n low lo) (k : StandsFor weights f n (low + 2 ^ n) hi)
-    (both : AreBoth weights f bits low lo hi cs0 cs2 al0 al2)
+    (both : AreBoth keeps weights f bits low lo hi cs0 cs2 al0 al2)
     (a : AreSavings weights (costs_of lo) xs) (b : AreSavings weights (costs_of hi) ys) (g : Gain) (i : IsGain weights xs ys g.gain g.best)
     (t : AreSums xs ys sums) where
   silent_none : (d : ℕ) → g.gain ≤ saved sums d → without_row c d ≤ c.row
@@ -196,38 +202,36 @@ module _ {weights : List ℕ} {f : ℕ → ℕ} {n bits low : ℕ} {lo hi : Node
     abbrev labels : List ℕ
     labels = further g.gain g.best sums
 
-    own_chosen : (al3 : List ℕ) → al3 ≡ al2 ++ labels →
-        AreChosen weights f bits low (Halves c lo hi) cs0 (cs2 ++ own_choice low bits g.best (length cs0) (length al2) (length al3) ∷ []) al0 al3
-    own_chosen al3 e =
+    own_chosen : {cs3 : List Choice} {al3 : List ℕ} → (IsTrue keeps → al3 ≡ al2 ++ labels) →
+        (IsTrue keeps → cs3 ≡ cs2 ++ own_choice low bits g.best (length cs0) (length al2) (length al3) ∷ []) →
+        AreChosen keeps weights f bits low (Halves c lo hi) cs0 cs3 al0 al3
+    own_chosen {al3 = al3} put_also put =
         let own = own_choice low bits g.best (length cs0) (length al2) (length al3) in
-        top-chosen cs2 both.more al2 both.more_also g.best labels both.forest both.laid both.added both.added_also e
-        (λ width d part. elim (silent-tells own g.gain d sums some t.rise (omega (arith, t.saves g.best, i.whole some))) [
-          | inl r ↦ rw r.0 (halves-inherit lo hi s (both.rows width d part) (silent_none d r.1))
-          | inr r ↦ rw r.0 (halves-own lo hi s (both.rows width g.best part) d size h k (sym (own-label s a b i some)) part (less_own d r.1))
-        ])
+        record {
+          forest = Grown Bare own labels both.forest;
+          kept = λ yes. top-added (both.kept yes) (put yes) (put_also yes) refl;
+          writes = λ width d part. elim (silent-tells own g.gain d sums some t.rise (omega (arith, t.saves g.best, i.whole some))) [
+            | inl r ↦ rw r.0 (halves-inherit lo hi s (both.rows width d part) (silent_none d r.1))
+            | inr r ↦ rw r.0 (halves-own lo hi s (both.rows width g.best part) d size h k (sym (own-label s a b i some)) part (less_own d r.1))
+          ];
+        }
 
-  none_chosen : g.gain ≡ 0 → AreChosen weights f bits low (Halves c lo hi) cs0 cs2 al0 al2
-  none_chosen none = record {
+  none_chosen : {cs3 : List Choice} {al3 : List ℕ} → g.gain ≡ 0 → (IsTrue keeps → al3 ≡ al2 ++ []) → (IsTrue keeps → cs3 ≡ cs2 ++ []) →
+      AreChosen keeps weights f bits low (Halves c lo hi) cs0 cs3 al0 al3
+  none_chosen {cs3 = cs3} none put_also put = record {
     forest = both.forest;
-    laid = both.laid;
-    more = both.more;
-    added = both.added;
-    more_also = both.more_also;
-    added_also = both.added_also;
+    kept = λ yes. subst (λ al. AreAdded both.forest cs0 cs3 al0 al) (sym (put_also yes ∙ append-nil al2))
+        (subst (λ cs. AreAdded both.forest cs0 cs al0 al2) (sym (put yes ∙ append-nil cs2)) (both.kept yes));
     writes = λ width d part. halves-inherit lo hi s (both.rows width d part) (silent_none d (omega (arith, none)));
   }
 
-  chosen_step : (u : Bool) → nat_lt 0 g.gain ≡ u → (cs3 : List Choice) (al3 : List ℕ) → al3 ≡ al2 ++ cond u (further g.gain g.best sums) [] →
-      cs3 ≡ cs2 ++ cond u (own_choice low bits g.best (length cs0) (length al2) (length al3) ∷ []) [] → AreChosen weights f bits low (Halves c lo hi) cs0 cs3 al0 al3
-  chosen_step true u cs3 al3 e r =
-      let some = ltb-true 0 g.gain u in
-      subst (λ cs. AreChosen weights f bits low (Halves c lo hi) cs0 cs al0 al3) (sym r) (own_chosen some al3 e)
-  chosen_step false u cs3 al3 e r =
-      let none = ltb-false 0 g.gain u in
-      subst (λ al. AreChosen weights f bits low (Halves c lo hi) cs0 cs3 al0 al) (sym (e ∙ append-nil al2))
-      (subst (λ cs. AreChosen weights f bits low (Halves c lo hi) cs0 cs al0 al2) (sym (r ∙ append-nil cs2)) (none_chosen (omega (arith, none))))
+  chosen_step : (u : Bool) → nat_lt 0 g.gain ≡ u → {cs3 : List Choice} {al3 : List ℕ} → (IsTrue keeps → al3 ≡ al2 ++ cond u (further g.gain g.best sums) []) →
+      (IsTrue keeps → cs3 ≡ cs2 ++ cond u (own_choice low bits g.best (length cs0) (length al2) (length al3) ∷ []) []) →
+      AreChosen keeps weights f bits low (Halves c lo hi) cs0 cs3 al0 al3
+  chosen_step true u e r = own_chosen (ltb-true 0 g.gain u) e r
+  chosen_step false u e r = none_chosen (omega (arith, ltb-false 0 g.gain u)) e r
 
-  pub halves-chosen : {cs3 : List Choice} {al3 : List ℕ} → al3 ≡ al2 ++ more_labels g sums →
-      cs3 ≡ cs2 ++ more_choices g low bits (length cs0) (length al2) (length al3) →
-      AreChosen weights f bits low (Halves c lo hi) cs0 cs3 al0 al3
-  halves-chosen {cs3 = cs3} {al3 = al3} e r = chosen_step (nat_lt 0 g.gain) refl cs3 al3 e r
+  pub halves-chosen : {cs3 : List Choice} {al3 : List ℕ} → (IsTrue keeps → al3 ≡ al2 ++ more_labels g sums) →
+      (IsTrue keeps → cs3 ≡ cs2 ++ more_choices g low bits (length cs0) (length al2) (length al3)) →
+      AreChosen keeps weights f bits low (Halves c lo hi) cs0 cs3 al0 al3
+  halves-chosen e r = chosen_step (nat_lt 0 g.gain) refl e r

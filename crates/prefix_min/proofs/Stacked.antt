@@ -1,6 +1,6 @@
 -- What a part saves, behind what was saved before.
-use Rattle.std.proofs.Common.{◌≡◌, ◌++◌, ℕ, suc, List, [], ◌+◌, ◌-◌, ◌^◌, ◌<◌, ◌≤◌, refl, ap, arith, sym, ◌∙◌, inl, inr, subst, length, get_or, take, drop, append_assoc}
-use Rattle.std.specs.Prelude.{◌⊎◌, slice_index}
+use Rattle.std.proofs.Common.{Bool, ◌≡◌, ◌++◌, ℕ, suc, List, [], ◌+◌, ◌-◌, ◌^◌, ◌<◌, ◌≤◌, refl, ap, arith, sym, ◌∙◌, inl, inr, subst, length, get_or, take, drop, append_assoc}
+use Rattle.std.specs.Prelude.{IsTrue, ◌⊎◌, slice_index}
 use Rattle.std.proofs.Math.Seq.{take-append_seam, drop-append_seam}
 use Rattle.std.proofs.lemmas.Bool.{cases_lt}
 use Rattle.std.proofs.lemmas.List.{length-append}
@@ -10,7 +10,7 @@ use Rattle.prefix_min.specs.declared.plan.Choice.{Choice}
 use Rattle.prefix_min.specs.declared.savings.Gain.{Gain}
 use Rattle.prefix_min.specs.Built.{IsBuilt}
 use Rattle.prefix_min.specs.Field.{IsFull, IsFullLabel, IsWhole, SomeFull, no_piece}
-use Rattle.prefix_min.specs.Plan.{AreChosen, Bare, IsLaid, more_choices, more_labels}
+use Rattle.prefix_min.specs.Plan.{Bare, IsLaid, more_choices, more_labels}
 use Rattle.prefix_min.specs.Costs.{Costs, Has, IsConstant, IsSplit, Lists, RisesFrom, without_row}
 use Rattle.prefix_min.specs.NextPiece.{AreFit, IsNext, weight_below}
 use Rattle.prefix_min.specs.Pieces.{label_at, reach}
@@ -41,10 +41,10 @@ lowered-none weights c xs r a = record {
 }
 
 -- a part within the next piece
-module _ {weights : List ℕ} {pieces : List Piece} {first : ℕ} {part : Part} {before after : List LabelCost} {old new was following next2 : ℕ}
+module _ {keeps : Bool} {weights : List ℕ} {pieces : List Piece} {first : ℕ} {part : Part} {before after : List LabelCost} {old new was following next2 : ℕ}
     {cs0 cs1 : List Choice} {al0 al1 : List ℕ} (fit : AreFit weights pieces)
     (next : IsNext pieces first part.low) (within : part.low + 2 ^ part.bits ≤ reach 0 pieces) (covered : part.low + 2 ^ part.bits ≤ end_of pieces first + 1)
-    (put : IsPut weights (get_or pieces first no_piece).label part before after old new was following cs0 cs1 al0 al1)
+    (put : IsPut keeps weights (get_or pieces first no_piece).label part before after old new was following cs0 cs1 al0 al1)
     (then : IsNext pieces next2 (part.low + 2 ^ part.bits)) where
   abbrev y : ℕ
   y = (get_or pieces first no_piece).label
@@ -52,7 +52,7 @@ module _ {weights : List ℕ} {pieces : List Piece} {first : ℕ} {part : Part} 
   constant : IsConstant weights (one_label weights y)
   constant = one-constant weights y (piece-place fit first (part-inside fit part.bits next within))
 
-  pub constant-built : IsBuilt weights pieces part.bits part.low before after old new next2 cs0 cs1 al0 al1
+  pub constant-built : IsBuilt keeps weights pieces part.bits part.low before after old new next2 cs0 cs1 al0 al1
   constant-built =
       let gives = constant_gives fit part.bits next within covered in
       record {
@@ -67,17 +67,15 @@ module _ {weights : List ℕ} {pieces : List Piece} {first : ℕ} {part : Part} 
         pushed = put.savings;
         cost = put.cost;
         next = then;
-        chosen = subst (λ al. AreChosen weights (label_at pieces) part.bits part.low (Constant (one_label weights y)) cs0 cs1 al0 al) (sym put.also)
-            (subst (λ cs. AreChosen weights (label_at pieces) part.bits part.low (Constant (one_label weights y)) cs0 cs al0 al0) (sym put.choices)
-            (one-chosen constant gives cs0 al0));
+        chosen = one-chosen constant gives put.choices put.also;
         light = omega (arith, ap (slice_index weights) (first_label fit part.bits next within covered), first-weighs fit part.bits part.low within);
       }
 
 -- two halves are a part
-module _ {weights : List ℕ} {pieces : List Piece} {n bits low at : ℕ} {lo0 lo1 hi0 hi1 : List LabelCost} {c0 c1 d0 d1 next1 next2 : ℕ}
+module _ {keeps : Bool} {weights : List ℕ} {pieces : List Piece} {n bits low at : ℕ} {lo0 lo1 hi0 hi1 : List LabelCost} {c0 c1 d0 d1 next1 next2 : ℕ}
     {ls0 ls1 hs0 hs1 : List Choice} {ll0 ll1 hl0 hl1 : List ℕ}
     (fit : AreFit weights pieces) (size : bits ≡ suc n) (is : at ≡ low + 2 ^ n)
-    (lo : IsBuilt weights pieces n low lo0 lo1 c0 c1 next1 ls0 ls1 ll0 ll1) (hi : IsBuilt weights pieces n at hi0 hi1 d0 d1 next2 hs0 hs1 hl0 hl1) where
+    (lo : IsBuilt keeps weights pieces n low lo0 lo1 c0 c1 next1 ls0 ls1 ll0 ll1) (hi : IsBuilt keeps weights pieces n at hi0 hi1 d0 d1 next2 hs0 hs1 hl0 hl1) where
   abbrev lower : Costs
   lower = costs_of lo.node
 
@@ -119,10 +117,10 @@ module _ {weights : List ℕ} {pieces : List Piece} {n bits low at : ℕ} {lo0 l
     halves-saves = joined-saves split lo.saves hi.saves g sums t
 
     pub halves-built : {before new : List LabelCost} {old all : ℕ} {cs0 cs2 cs3 : List Choice} {al0 al2 al3 : List ℕ} →
-        AreBoth weights (label_at pieces) bits low lo.node hi.node cs0 cs2 al0 al2 →
-        new ≡ before ++ lowered top.gain sums → all ≡ old + lower.row + upper.row → al3 ≡ al2 ++ more_labels top sums →
-        cs3 ≡ cs2 ++ more_choices top low bits (length cs0) (length al2) (length al3) →
-        IsBuilt weights pieces bits low before new old (all - top.gain) next2 cs0 cs3 al0 al3
+        AreBoth keeps weights (label_at pieces) bits low lo.node hi.node cs0 cs2 al0 al2 →
+        new ≡ before ++ lowered top.gain sums → all ≡ old + lower.row + upper.row → (IsTrue keeps → al3 ≡ al2 ++ more_labels top sums) →
+        (IsTrue keeps → cs3 ≡ cs2 ++ more_choices top low bits (length cs0) (length al2) (length al3)) →
+        IsBuilt keeps weights pieces bits low before new old (all - top.gain) next2 cs0 cs3 al0 al3
     halves-built both put cost put_also put_choices = record {
       node = Halves node_costs lo.node hi.node;
       savings = lowered top.gain sums;
@@ -171,10 +169,10 @@ pub record IsLeft (weights : List ℕ) (pieces : List Piece) (savings : List Lab
   pub some : SomeFull weights savings pieces
 
 -- the halves of the whole field
-module _ {weights : List ℕ} {pieces : List Piece} {n bits at : ℕ} {before mid after : List LabelCost} {c0 c1 c2 next1 next2 s m : ℕ}
+module _ {keeps : Bool} {weights : List ℕ} {pieces : List Piece} {n bits at : ℕ} {before mid after : List LabelCost} {c0 c1 c2 next1 next2 s m : ℕ}
     {cs0 cs1 cs2 : List Choice} {al0 al1 al2 : List ℕ}
-    (fit : AreFit weights pieces) (size : bits ≡ suc n) (is : at ≡ 0 + 2 ^ n) (lo : IsBuilt weights pieces n 0 before mid c0 c1 next1 cs0 cs1 al0 al1)
-    (hi : IsBuilt weights pieces n at mid after c1 c2 next2 cs1 cs2 al1 al2)
+    (fit : AreFit weights pieces) (size : bits ≡ suc n) (is : at ≡ 0 + 2 ^ n) (lo : IsBuilt keeps weights pieces n 0 before mid c0 c1 next1 cs0 cs1 al0 al1)
+    (hi : IsBuilt keeps weights pieces n at mid after c1 c2 next2 cs1 cs2 al1 al2)
     (ls : s ≡ length before) (lm : m ≡ length mid) where
   places_of : (d : ℕ) → Lists lo.savings d ⊎ Lists hi.savings d → d < length weights
   places_of d (inl h) = lo.within d (lo.saves.lists d h)
@@ -207,7 +205,7 @@ module _ {weights : List ℕ} {pieces : List Piece} {n bits at : ℕ} {before mi
     gain-fits = omega (arith, halves-row fit size is lo hi top gained summed, lo.cost, hi.cost)
 
     -- where the label of its row is known
-    whole-built : (y : ℕ) → bits ≤ 32 → cs0 ≡ [] → c0 ≡ 0 → y ≡ costs.label → IsWhole weights pieces bits y (c2 - top.gain) cs2 al2
+    whole-built : (y : ℕ) → bits ≤ 32 → cs0 ≡ [] → c0 ≡ 0 → y ≡ costs.label → IsWhole keeps weights pieces bits y (c2 - top.gain) cs2 al2
     whole-built y wide bare zero_cost label =
         let both = both-chosen lo.chosen hi.chosen bits 0 lo.node hi.node size (inl (refl, is)) (λ d. refl) in
         record {
@@ -216,13 +214,13 @@ module _ {weights : List ℕ} {pieces : List Piece} {n bits at : ℕ} {before mi
           row = omega (arith, halves-row fit size is lo hi top gained summed, lo.cost, hi.cost, zero_cost);
           within = all-within fit size is lo hi;
           forest = both.forest;
-          laid = subst (λ k. IsLaid cs2 al2 k (length cs2) both.forest) (ap length bare) both.laid;
+          laid = λ yes. subst (λ k. IsLaid cs2 al2 k (length cs2) both.forest) (ap length bare) (both.kept yes).laid;
           rows = field-halves lo.node hi.node size lo.stands (high-stands fit size is lo hi) label (field-part bits wide) halves
               (both.rows bits y (field-part bits wide));
         }
 
     -- that label, where there is a gain
-    pub gain-whole : bits ≤ 32 → cs0 ≡ [] → c0 ≡ 0 → 0 < top.gain → IsWhole weights pieces bits top.best (c2 - top.gain) cs2 al2
+    pub gain-whole : bits ≤ 32 → cs0 ≡ [] → c0 ≡ 0 → 0 < top.gain → IsWhole keeps weights pieces bits top.best (c2 - top.gain) cs2 al2
     gain-whole wide bare zero_cost some = whole-built top.best wide bare zero_cost (sym (own-label halves lo.saves hi.saves gained some))
 
     -- and where there is none
@@ -262,15 +260,15 @@ module _ {weights : List ℕ} {pieces : List Piece} {n bits at : ℕ} {before mi
           ]
 
       pub full-whole : (y : ℕ) → bits ≤ 32 → cs0 ≡ [] → c0 ≡ 0 → top.gain ≡ 0 → 2 ^ bits ≡ reach 0 pieces → IsFullLabel weights new pieces (length pieces) y →
-          IsWhole weights pieces bits y (c2 - top.gain) cs2 al2
+          IsWhole keeps weights pieces bits y (c2 - top.gain) cs2 al2
       full-whole y wide bare zero_cost none all l =
           whole-built y wide bare zero_cost (full_label y none all (subst (λ xs. IsFullLabel weights xs pieces (length pieces) y) new_is l))
 
 -- the whole field within the first piece
-pub one-whole : {weights : List ℕ} {pieces : List Piece} {width cost : ℕ} {cs : List Choice} {al : List ℕ} → AreFit weights pieces → IsNext pieces 0 0 →
+pub one-whole : {keeps : Bool} {weights : List ℕ} {pieces : List Piece} {width cost : ℕ} {cs : List Choice} {al : List ℕ} → AreFit weights pieces → IsNext pieces 0 0 →
     0 + 2 ^ width ≤ reach 0 pieces → 0 + 2 ^ width ≤ end_of pieces 0 + 1 →
     cs ≡ [] → width ≤ 32 → cost ≡ slice_index weights (get_or pieces 0 no_piece).label →
-    IsWhole weights pieces width (get_or pieces 0 no_piece).label cost cs al
+    IsWhole keeps weights pieces width (get_or pieces 0 no_piece).label cost cs al
 one-whole {weights = weights} {pieces = pieces} {width = width} fit next within covered bare wide costs =
     let y = (get_or pieces 0 no_piece).label in
     let k = one-constant weights y (piece-place fit 0 (part-inside fit width next within)) in
@@ -281,6 +279,6 @@ one-whole {weights = weights} {pieces = pieces} {width = width} fit next within 
       row = sym costs;
       within = one-has (λ d. d < length weights) y k.place;
       forest = Bare;
-      laid = sym (ap length bare);
+      laid = λ yes. sym (ap length bare);
       rows = field-constant k gives (field-part width wide);
     }

@@ -1,6 +1,6 @@
 -- A part about which only one label stands.
-use Rattle.std.proofs.Common.{◌≡◌, ◌≢◌, ◌∷◌, ◌++◌, ℕ, zero, suc, List, [], ◌+◌, ◌%◌, ◌^◌, ◌<◌, ◌≤◌, true, false, refl, ap, arith, sym, ◌∙◌, inl, inr, subst, length, get_or}
-use Rattle.std.specs.Prelude.{◌==◌, cond, slice_index}
+use Rattle.std.proofs.Common.{Bool, ◌≡◌, ◌≢◌, ◌∷◌, ◌++◌, ℕ, zero, suc, List, [], ◌+◌, ◌%◌, ◌^◌, ◌<◌, ◌≤◌, true, false, refl, ap, arith, sym, ◌∙◌, inl, inr, subst, length, get_or}
+use Rattle.std.specs.Prelude.{IsTrue, ◌==◌, cond, slice_index}
 use Rattle.std.proofs.lemmas.Bool.Decides.{eqb_tells}
 use Rattle.std.proofs.lemmas.Bool.{cases_lt}
 use Rattle.std.proofs.lemmas.List.{append-nil}
@@ -12,13 +12,13 @@ use Rattle.prefix_min.specs.declared.row.PrefixRow.{PrefixRow}
 use Rattle.prefix_min.specs.Costs.{Costs, Has, IsSplit, least_cost}
 use Rattle.prefix_min.specs.Field.{no_piece}
 use Rattle.prefix_min.specs.Pieces.{label_at}
-use Rattle.prefix_min.specs.Plan.{AreChosen, own_choice, rows_of}
+use Rattle.prefix_min.specs.Plan.{AreChosen, Bare, Grown, own_choice, rows_of}
 use Rattle.prefix_min.specs.Rows.{ArePartRows, IsPart, row_of}
 use Rattle.prefix_min.specs.Savings.{AreSavings, alone}
 use Rattle.prefix_min.specs.Trie.{Constant, GivesAll, Halves, Node, StandsFor, costs_of}
 use Rattle.prefix_min.proofs.Blocks.{to-within}
 use Rattle.prefix_min.proofs.PartRows.{AreHalfRows, half-rows}
-use Rattle.prefix_min.proofs.Planned.{top-chosen}
+use Rattle.prefix_min.proofs.Planned.{top-added}
 use Rattle.prefix_min.proofs.Saved.{IsUnchanged, alone_at, one-saves, unchanged}
 use Rattle.prefix_min.proofs.Shapes.{high-half, low-half}
 use Rattle.prefix_min.proofs.Splitting.{both-has, both-split, both_halves, has-low, one-constant, one-has, one_label}
@@ -142,8 +142,8 @@ module _ (weights : List ℕ) (pieces : List Piece) (y cost : ℕ) (rows : ℕ �
         ]
 
 -- the choice of a part that stretches
-module _ {weights : List ℕ} {pieces : List Piece} {y cost bits low inner_bits inner_low : ℕ} {node : Node} {cs0 cs : List Choice} {al0 al : List ℕ}
-    (c : AreChosen weights (label_at pieces) inner_bits inner_low node cs0 cs al0 al) (o : IsOver weights pieces y cost (λ width. rows_of width c.forest y) bits low) where
+module _ {keeps : Bool} {weights : List ℕ} {pieces : List Piece} {y cost bits low inner_bits inner_low : ℕ} {node : Node} {cs0 cs : List Choice} {al0 al : List ℕ}
+    (c : AreChosen keeps weights (label_at pieces) inner_bits inner_low node cs0 cs al0 al) (o : IsOver weights pieces y cost (λ width. rows_of width c.forest y) bits low) where
   own_writes : (width d : ℕ) → IsPart width bits low →
       ArePartRows weights (label_at pieces) width bits low d (least_cost (costs_of o.inner.node) d)
       (cond (cond (y == d) true false) (rows_of width c.forest d) (rows_of width c.forest y ++ row_of width bits low y ∷ []))
@@ -153,6 +153,10 @@ module _ {weights : List ℕ} {pieces : List Piece} {y cost bits low inner_bits 
     | inr t ↦ rw t.0 (o.writes width d t.1 part)
   ]
 
-  pub stretch-chosen : AreChosen weights (label_at pieces) bits low o.inner.node cs0 (cs ++ own_choice low bits y (length cs0) (length al) (length al) ∷ [])
-      al0 al
-  stretch-chosen = top-chosen cs c.more al c.more_also y [] c.forest c.laid c.added c.added_also (sym (append-nil al)) own_writes
+  pub stretch-chosen : {cs1 : List Choice} → (IsTrue keeps → cs1 ≡ cs ++ own_choice low bits y (length cs0) (length al) (length al) ∷ []) →
+      AreChosen keeps weights (label_at pieces) bits low o.inner.node cs0 cs1 al0 al
+  stretch-chosen put = record {
+    forest = Grown Bare (own_choice low bits y (length cs0) (length al) (length al)) [] c.forest;
+    kept = λ yes. top-added (c.kept yes) (put yes) (sym (append-nil al)) refl;
+    writes = own_writes;
+  }

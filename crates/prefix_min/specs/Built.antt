@@ -1,5 +1,5 @@
 -- The parts of the field that are done.
-use Rattle.std.specs.Prelude.{◌≡◌, ℕ, ◌+◌, ◌^◌, ◌<◌, ◌≤◌, List, ◌++◌, length, slice_index_or}
+use Rattle.std.specs.Prelude.{Bool, ◌≡◌, ℕ, ◌+◌, ◌^◌, ◌<◌, ◌≤◌, List, ◌++◌, length, slice_index_or}
 use Rattle.prefix_min.specs.declared.piece.Piece.{Piece}
 use Rattle.prefix_min.specs.declared.savings.LabelCost.{LabelCost}
 use Rattle.prefix_min.specs.Costs.{Has, RisesFrom}
@@ -13,7 +13,7 @@ use Rattle.prefix_min.specs.Trie.{Node, StandsFor, costs_of}
 
 -- the part of so many bits from low on is done: what it saves stands behind what was there before, and
 -- what it costs, at most the weights of its values, is added to the cost
-pub record IsBuilt (weights : List ℕ) (pieces : List Piece) (bits low : ℕ) (before after : List LabelCost) (old new following : ℕ)
+pub record IsBuilt (keeps : Bool) (weights : List ℕ) (pieces : List Piece) (bits low : ℕ) (before after : List LabelCost) (old new following : ℕ)
     (choices_before choices_after : List Choice) (also_before also_after : List ℕ) : Type 0 where
   pub node : Node
   pub savings : List LabelCost
@@ -27,4 +27,4 @@ pub record IsBuilt (weights : List ℕ) (pieces : List Piece) (bits low : ℕ) (
   pub cost : new ≡ old + (costs_of node).row
   pub next : IsNext pieces following (low + 2 ^ bits)
   pub light : (costs_of node).row + weight_below weights 0 pieces low ≤ weight_below weights 0 pieces (low + 2 ^ bits)
-  pub chosen : AreChosen weights (label_at pieces) bits low node choices_before choices_after also_before also_after
+  pub chosen : AreChosen keeps weights (label_at pieces) bits low node choices_before choices_after also_before also_after

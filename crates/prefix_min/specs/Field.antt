@@ -1,5 +1,5 @@
 -- The whole field.
-use Rattle.std.specs.Prelude.{Option, Some, None, min, ◌⊎◌, ◌≡◌, ℕ, ◌<◌, ◌≤◌, List, [], ◌∷◌, ◌++◌, length, slice_index, slice_index_or}
+use Rattle.std.specs.Prelude.{Bool, IsTrue, Option, Some, None, min, ◌⊎◌, ◌≡◌, ℕ, ◌<◌, ◌≤◌, List, [], ◌∷◌, ◌++◌, length, slice_index, slice_index_or}
 use Rattle.prefix_min.specs.declared.piece.Piece.{Piece}
 use Rattle.prefix_min.specs.declared.plan.Choice.{Choice}
 use Rattle.prefix_min.specs.declared.savings.LabelCost.{LabelCost}
@@ -30,14 +30,14 @@ pub record IsFullLabel (weights : List ℕ) (savings : List LabelCost) (pieces :
   pub least : (d : ℕ) → Lists savings d → IsFull weights savings d → y ≤ d
   pub least_piece : (k : ℕ) → k < count → slice_index weights (slice_index_or pieces k no_piece).label ≡ 0 → y ≤ (slice_index_or pieces k no_piece).label
 
--- the choices and the label write the field's rows
-pub record IsWhole (weights : List ℕ) (pieces : List Piece) (width label cost : ℕ) (choices : List Choice) (also : List ℕ) : Type 0 where
+-- the label and the choices, which were put down where choices are kept, write the field's rows
+pub record IsWhole (keeps : Bool) (weights : List ℕ) (pieces : List Piece) (width label cost : ℕ) (choices : List Choice) (also : List ℕ) : Type 0 where
   pub node : Node
   pub stands : StandsFor weights (label_at pieces) width 0 node
   pub row : (costs_of node).row ≡ cost
   pub within : (d : ℕ) → Has (costs_of node).labels d → d < length weights
   pub forest : Forest
-  pub laid : IsLaid choices also 0 (length choices) forest
+  pub laid : IsTrue keeps → IsLaid choices also 0 (length choices) forest
   pub rows : AreFieldRows weights (label_at pieces) width (costs_of node).row (rows_of width forest label ++ row_of width width 0 label ∷ [])
 
 -- the lesser one of the label and the best so far

@@ -1,5 +1,5 @@
 -- How a part of the field grows.
-use Rattle.std.specs.Prelude.{◌≡◌, ℕ, ◌+◌, ◌%◌, ◌^◌, ◌<◌, ◌≤◌, ◌⊎◌, List, [], ◌∷◌, ◌++◌, length, slice_index, slice_index_or}
+use Rattle.std.specs.Prelude.{Bool, IsTrue, ◌≡◌, ℕ, ◌+◌, ◌%◌, ◌^◌, ◌<◌, ◌≤◌, ◌⊎◌, List, [], ◌∷◌, ◌++◌, length, slice_index, slice_index_or}
 use Rattle.prefix_min.specs.declared.piece.Piece.{Piece}
 use Rattle.prefix_min.specs.declared.parts.Part.{Part}
 use Rattle.prefix_min.specs.declared.plan.Choice.{Choice}
@@ -31,15 +31,15 @@ IsHalf pieces first part about =
     ⊎ ((about.low + 2 ^ part.bits ≡ part.low) × (first < length pieces) × IsNext pieces first about.low × (part.low ≤ end_of pieces first) × (part.low ≤ reach 0 pieces))
 
 -- the other half is done
-abbrev pub IsBeside : List ℕ → List Piece → ℕ → Part → Part → List LabelCost → List LabelCost → ℕ → ℕ → ℕ → ℕ → List Choice → List Choice → List ℕ → List ℕ → Type 0
-IsBeside weights pieces first part about before after old new next following cs0 cs1 al0 al1 =
-    ((about.low ≡ part.low) × IsBuilt weights pieces part.bits (part.low + 2 ^ part.bits) before after old new following cs0 cs1 al0 al1)
-    ⊎ ((about.low + 2 ^ part.bits ≡ part.low) × IsBuilt weights pieces part.bits about.low before after old new first cs0 cs1 al0 al1 × (following ≡ next))
+abbrev pub IsBeside : Bool → List ℕ → List Piece → ℕ → Part → Part → List LabelCost → List LabelCost → ℕ → ℕ → ℕ → ℕ → List Choice → List Choice → List ℕ → List ℕ → Type 0
+IsBeside keeps weights pieces first part about before after old new next following cs0 cs1 al0 al1 =
+    ((about.low ≡ part.low) × IsBuilt keeps weights pieces part.bits (part.low + 2 ^ part.bits) before after old new following cs0 cs1 al0 al1)
+    ⊎ ((about.low + 2 ^ part.bits ≡ part.low) × IsBuilt keeps weights pieces part.bits about.low before after old new first cs0 cs1 al0 al1 × (following ≡ next))
 
--- a part of one label is put down
-pub record IsPut (weights : List ℕ) (label : ℕ) (part : Part) (before after : List LabelCost) (old new next following : ℕ) (cs0 cs1 : List Choice) (al0 al1 : List ℕ) : Type 0 where
+-- a part of one label is done, and its choice put down where choices are kept
+pub record IsPut (keeps : Bool) (weights : List ℕ) (label : ℕ) (part : Part) (before after : List LabelCost) (old new next following : ℕ) (cs0 cs1 : List Choice) (al0 al1 : List ℕ) : Type 0 where
   pub savings : after ≡ before ++ lowered 0 (alone weights label)
   pub cost : new ≡ old + slice_index weights label
   pub next_is : following ≡ next
-  pub choices : cs1 ≡ cs0 ++ own_choice part.low part.bits label (length cs0) (length al0) (length al0) ∷ []
+  pub choices : IsTrue keeps → cs1 ≡ cs0 ++ own_choice part.low part.bits label (length cs0) (length al0) (length al0) ∷ []
   pub also : al1 ≡ al0

@@ -1,5 +1,5 @@
 -- What a part saves, once the part beside it is joined with it.
-use Rattle.std.specs.Prelude.{◌≡◌, ℕ, suc, ◌+◌, ◌<◌, ◌≤◌, ◌==◌, List, [], ◌∷◌, ◌++◌, cond, nat_lt, length, slice_index, slice_index_or, take, drop}
+use Rattle.std.specs.Prelude.{Bool, IsTrue, ◌≡◌, ℕ, suc, ◌+◌, ◌<◌, ◌≤◌, ◌==◌, List, [], ◌∷◌, ◌++◌, cond, nat_lt, length, slice_index, slice_index_or, take, drop}
 use Rattle.prefix_min.specs.declared.savings.Gain.{Gain}
 use Rattle.prefix_min.specs.declared.savings.LabelCost.{LabelCost}
 use Rattle.prefix_min.specs.Costs.{Lists, RisesFrom}
@@ -36,13 +36,13 @@ pub record AreKept (weights : List ℕ) (savings : List LabelCost) : Type 0 wher
   pub above : AreAbove savings
 
 -- two parts are joined: what they save together, less the gain, stands behind what was there before, and the
--- further labels of the gain behind the others
-pub record IsJoined (weights : List ℕ) (low high before after : List LabelCost) (also_before also_after : List ℕ) (g : Gain) : Type 0 where
+-- further labels of the gain behind the others where choices are kept
+pub record IsJoined (keeps : Bool) (weights : List ℕ) (low high before after : List LabelCost) (also_before also_after : List ℕ) (g : Gain) : Type 0 where
   pub sums : List LabelCost
   pub are : AreSums low high sums
   pub gain : IsGain weights low high g.gain g.best
   pub savings : after ≡ before ++ lowered g.gain sums
-  pub also : also_after ≡ also_before ++ more_labels g sums
+  pub also : IsTrue keeps → also_after ≡ also_before ++ more_labels g sums
 
 -- the list is cut at the place, behind which one entry alone stood
 pub record IsTaken (cut all : List LabelCost) (middle : ℕ) (one : LabelCost) : Type 0 where

@@ -1,5 +1,5 @@
 -- What parts choose to write.
-use Rattle.std.specs.Prelude.{◌≡◌, ℕ, ◌-◌, ◌<◌, ◌≤◌, Bool, true, false, List, [], ◌∷◌, ◌++◌, cond, ◌==◌, nat_lt, length, slice_index_or, take, drop}
+use Rattle.std.specs.Prelude.{◌≡◌, ℕ, ◌-◌, ◌<◌, ◌≤◌, Bool, IsTrue, true, false, List, [], ◌∷◌, ◌++◌, cond, ◌==◌, nat_lt, length, slice_index_or, take, drop}
 use Rattle.prefix_min.specs.declared.row.PrefixRow.{PrefixRow}
 use Rattle.prefix_min.specs.declared.savings.Gain.{Gain}
 use Rattle.prefix_min.specs.declared.savings.LabelCost.{LabelCost}
@@ -51,14 +51,18 @@ abbrev pub IsLaid : List Choice → List ℕ → ℕ → ℕ → Forest → Type
 IsLaid choices also from to Bare = from ≡ to
 IsLaid choices also from to (Grown rest x labels below) = IsPlaced choices also to x labels × IsLaid choices also x.below (to - 1) below × IsLaid choices also from x.below rest
 
--- the choices that were added write the cheapest rows of the part, whatever it inherits
-pub record AreChosen (weights : List ℕ) (f : ℕ → ℕ) (bits low : ℕ) (node : Node) (old new : List Choice) (also_old also_new : List ℕ) : Type 0 where
-  pub forest : Forest
+-- the choices were added, and their further labels
+pub record AreAdded (forest : Forest) (old new : List Choice) (also_old also_new : List ℕ) : Type 0 where
   pub laid : IsLaid new also_new (length old) (length new) forest
   pub more : List Choice
   pub added : new ≡ old ++ more
   pub more_also : List ℕ
   pub added_also : also_new ≡ also_old ++ more_also
+
+-- choices that write the cheapest rows of the part, whatever it inherits, were added where choices are kept
+pub record AreChosen (keeps : Bool) (weights : List ℕ) (f : ℕ → ℕ) (bits low : ℕ) (node : Node) (old new : List Choice) (also_old also_new : List ℕ) : Type 0 where
+  pub forest : Forest
+  pub kept : IsTrue keeps → AreAdded forest old new also_old also_new
   pub writes : (width d : ℕ) → IsPart width bits low → ArePartRows weights f width bits low d (least_cost (costs_of node) d) (rows_of width forest d)
 
 -- what a gain puts behind the further labels and the choices

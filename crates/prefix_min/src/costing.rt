@@ -37,7 +37,7 @@ impl<'a> Costing<'a> {
     /// What the cheapest prefix list of the pieces' function over the values of `width` bits costs: the cost
     /// that [`minimise`](crate::minimise) gives with it.
     ///
-    /// The weight of label `k` is the `k`-th of `weights`. No rows are written, and nothing is allocated once an
+    /// The weight of label `k` is the `k`-th of `weights`. No rows are chosen, and nothing is allocated once an
     /// earlier call has made the room. After a refusal of memory the room serves as before.
     pub fn minimum(&mut self, pieces: &[Piece], weights: &[u128], width: u8) -> Result<u128, Memory>
         requires wide { width ≤ 32 }
@@ -51,7 +51,11 @@ impl<'a> Costing<'a> {
         ensures { IfOk result (λ n. IsLeastWeight weights.now width (label_at pieces.now) n) }
     {
         self.stack.clear();
-        let field = Field { pieces, weights };
+        let field = Field {
+            pieces,
+            weights,
+            keeps: false,
+        };
         let _label = field.whole(&mut self.stack, width)?;
         Ok(self.stack.cost)
     }
@@ -89,7 +93,11 @@ impl<'a> Costing<'a> {
         ensures chosen { IfOk result (λ c. All (λ r. 0 < slice_index weights.now r.label → IsChosen weights.now (label_at pieces.now) width c.rows.items r) c.rows.items) }
     {
         self.stack.clear();
-        let field = Field { pieces, weights };
+        let field = Field {
+            pieces,
+            weights,
+            keeps: true,
+        };
         let label = field.whole(&mut self.stack, width)?;
         let plan = Plan {
             width,

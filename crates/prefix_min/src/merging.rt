@@ -1,12 +1,12 @@
 //! What a part that grows saves, once the part beside it is joined with it.
 ghost use Rattle.std.specs.Prelude.{◌≡◌, ◌≢◌, ℕ, ◌++◌, ◌∷◌, ◌<◌, ◌≤◌, ◌+◌, ◌-◌, ◌^◌, [], IfOk, IfSome, IsFalse, IsSome, IsTrue, MatchOption, OnOk, length, slice_index, take, drop};
+ghost use Rattle.std.specs.List.{insert};
 ghost use Rattle.prefix_min.specs.Costs.{RisesFrom};
 ghost use Rattle.prefix_min.specs.Merging.{AreAbove, AreKept, IsJoined, IsTaken, StandsAt, count_below, merged};
 ghost use Rattle.prefix_min.specs.Plan.{more_labels};
 ghost use Rattle.prefix_min.specs.Savings.{lowered, saved, with_one};
 
-use crate::appending::append;
-use crate::savings::{Gain, LabelCost, join, put_more};
+use crate::savings::{Gain, LabelCost, is_alone, join, put_more};
 use bumpalo::Bump;
 use razor_base::Memory;
 
@@ -32,6 +32,19 @@ fn stands_at(savings: &[LabelCost], place: usize, label: u32) -> bool
     place < savings.len() && savings[place].label == label
 }
 
+/// Puts an entry before the one at the place, or behind the last one. Often it comes last, so this is told apart.
+fn put_in(savings: &mut Vec<LabelCost>, place: usize, entry: LabelCost) -> Result<(), Memory>
+    requires { place ≤ length savings.old.items }
+    ensures { OnOk result (savings.new.items ≡ insert savings.old.items place entry) }
+{
+    if place == savings.len() {
+        savings.push(entry)?;
+        return Ok(());
+    }
+    savings.insert(place, entry)?;
+    Ok(())
+}
+
 /// Adds what one label saves to what stands from `start` on, and gives what it saves above its weight then.
 fn merge(
     savings: &mut Vec<LabelCost>,
@@ -48,52 +61,56 @@ fn merge(
 {
     let place = start + count_below(&savings[start..], one.label);
     if stands_at(savings, place, one.label) {
-        let cost = savings[place].cost + one.cost;
-        savings[place] = LabelCost {
-            label: one.label,
-            cost,
-        };
-        return Ok(cost.saturating_sub(weight));
+        let mut entry = savings[place];
+        entry.cost += one.cost;
+        savings[place] = entry;
+        return Ok(entry.cost.saturating_sub(weight));
     }
     // Made anew, so that no padding is carried along to here.
     let entry = LabelCost {
         label: one.label,
         cost: one.cost,
     };
-    savings.insert(place, entry)?;
+    put_in(savings, place, entry)?;
     Ok(0)
 }
 
-/// Takes the gain off what stands from `start` on, and puts its further labels behind the others.
+/// Takes the gain off what stands from `start` on, and moves up what is left above 0.
+fn lower_from(savings: &mut Vec<LabelCost>, start: usize, gain: u128)
+    requires { start ≤ length savings.old.items }
+    ensures { savings.new.items ≡ take start savings.old.items ++ lowered gain (drop start savings.old.items) }
+{
+    let mut kept = start;
+    for place in start..savings.len() {
+        let mut entry = savings[place];
+        if gain < entry.cost {
+            entry.cost -= gain;
+            savings[kept] = entry;
+            kept += 1;
+        }
+    }
+    savings.truncate(kept);
+}
+
+/// Takes the gain off what stands from `start` on, and puts its further labels behind the others where choices are
+/// kept.
 fn settle(
     savings: &mut Vec<LabelCost>,
     also: &mut Vec<u32, &Bump>,
+    keeps: bool,
     start: usize,
     gain: Gain,
 ) -> Result<(), Memory>
     requires start { start ≤ length savings.old.items }
     requires above { AreAbove (drop start savings.old.items) }
     ensures savings { OnOk result (savings.new.items ≡ take start savings.old.items ++ lowered gain.gain (drop start savings.old.items)) }
-    ensures also { OnOk result (also.new.items ≡ also.old.items ++ more_labels gain (drop start savings.old.items)) }
+    ensures also { OnOk result (IsTrue keeps → also.new.items ≡ also.old.items ++ more_labels gain (drop start savings.old.items)) }
 {
     if gain.gain == 0 {
         return Ok(());
     }
-    let mut kept = start;
-    for place in start..savings.len() {
-        let entry = savings[place];
-        if gain.gain <= entry.cost && entry.label != gain.best {
-            append(also, entry.label)?;
-        }
-        if gain.gain < entry.cost {
-            savings[kept] = LabelCost {
-                label: entry.label,
-                cost: entry.cost - gain.gain,
-            };
-            kept += 1;
-        }
-    }
-    savings.truncate(kept);
+    put_more(also, keeps, &savings[start..], gain)?;
+    lower_from(savings, start, gain.gain);
     Ok(())
 }
 
@@ -102,6 +119,7 @@ fn settle(
 fn join_one(
     savings: &mut Vec<LabelCost>,
     also: &mut Vec<u32, &Bump>,
+    keeps: bool,
     start: usize,
     one: LabelCost,
     weights: &[u128],
@@ -110,15 +128,22 @@ fn join_one(
     requires list { AreKept weights.now (drop start savings.old.items) }
     requires one { AreKept weights.now (one ∷ []) }
     requires room { saved (drop start savings.old.items) one.label + one.cost < 2 ^ 128 }
-    ensures { IfOk result (λ g. IsJoined weights.now (drop start savings.old.items) (one ∷ []) (take start savings.old.items) savings.new.items also.old.items also.new.items g) }
+    ensures { IfOk result (λ g. IsJoined keeps weights.now (drop start savings.old.items) (one ∷ []) (take start savings.old.items) savings.new.items also.old.items also.new.items g) }
 {
     let weight = weights[one.label as usize];
+    // A label that alone saves its weight, and does so beside: it gains that, and saves as much as before.
+    if is_alone(&savings[start..], one.label, weights) && one.cost == weight {
+        return Ok(Gain {
+            gain: weight,
+            best: one.label,
+        });
+    }
     let over = merge(savings, start, one, weight)?;
     let gain = Gain {
         gain: over,
         best: one.label,
     };
-    settle(savings, also, start, gain)?;
+    settle(savings, also, keeps, start, gain)?;
     Ok(gain)
 }
 
@@ -127,6 +152,7 @@ fn join_lists(
     savings: &mut Vec<LabelCost>,
     sums: &mut Vec<LabelCost>,
     also: &mut Vec<u32, &Bump>,
+    keeps: bool,
     start: usize,
     middle: usize,
     weights: &[u128],
@@ -136,10 +162,10 @@ fn join_lists(
     requires low { AreKept weights.now (take (middle - start) (drop start savings.old.items)) }
     requires high { AreKept weights.now (drop middle savings.old.items) }
     requires room { (d : ℕ) → saved (take (middle - start) (drop start savings.old.items)) d + saved (drop middle savings.old.items) d < 2 ^ 128 }
-    ensures { IfOk result (λ g. IsJoined weights.now (take (middle - start) (drop start savings.old.items)) (drop middle savings.old.items) (take start savings.old.items) savings.new.items also.old.items also.new.items g) }
+    ensures { IfOk result (λ g. IsJoined keeps weights.now (take (middle - start) (drop start savings.old.items)) (drop middle savings.old.items) (take start savings.old.items) savings.new.items also.old.items also.new.items g) }
 {
     let gain = join(savings, sums, start, middle, weights)?;
-    put_more(also, sums, gain)?;
+    put_more(also, keeps, sums, gain)?;
     Ok(gain)
 }
 
@@ -172,7 +198,8 @@ fn taken(savings: &mut Vec<LabelCost>, middle: usize, other: Option<LabelCost>) 
 }
 
 /// Joins what two parts save, which stands from `start` and from `middle` on, and puts the further labels of their
-/// gain behind the others. What the other part saves by one label alone may be handed over in place of that.
+/// gain behind the others where choices are kept. What the other part saves by one label alone may be handed over in
+/// place of that.
 ///
 /// Where the other part saves by one label alone, as most do, no list is read but for a gain.
 #[inline(always)]
@@ -180,6 +207,7 @@ pub fn join_parts(
     savings: &mut Vec<LabelCost>,
     sums: &mut Vec<LabelCost>,
     also: &mut Vec<u32, &Bump>,
+    keeps: bool,
     start: usize,
     middle: usize,
     other: Option<LabelCost>,
@@ -191,10 +219,10 @@ pub fn join_parts(
     requires low { AreKept weights.now (take (middle - start) (drop start (with_one savings.old.items other))) }
     requires high { AreKept weights.now (drop middle (with_one savings.old.items other)) }
     requires room { (d : ℕ) → saved (take (middle - start) (drop start (with_one savings.old.items other))) d + saved (drop middle (with_one savings.old.items other)) d < 2 ^ 128 }
-    ensures { IfOk result (λ g. IsJoined weights.now (take (middle - start) (drop start (with_one savings.old.items other))) (drop middle (with_one savings.old.items other)) (take start (with_one savings.old.items other)) savings.new.items also.old.items also.new.items g) }
+    ensures { IfOk result (λ g. IsJoined keeps weights.now (take (middle - start) (drop start (with_one savings.old.items other))) (drop middle (with_one savings.old.items other)) (take start (with_one savings.old.items other)) savings.new.items also.old.items also.new.items g) }
 {
     let Some(one) = taken(savings, middle, other) else {
-        return join_lists(savings, sums, also, start, middle, weights);
+        return join_lists(savings, sums, also, keeps, start, middle, weights);
     };
-    join_one(savings, also, start, one, weights)
+    join_one(savings, also, keeps, start, one, weights)
 }

@@ -1,5 +1,5 @@
 //! What the parts choose to write.
-ghost use Rattle.std.specs.Prelude.{◌≡◌, ◌++◌, ◌∷◌, [], ◌+◌, ◌<◌, ◌^◌, ℕ, OnOk, length, ◌≤◌, ◌-◌, reverse, take, drop};
+ghost use Rattle.std.specs.Prelude.{◌≡◌, ◌++◌, ◌∷◌, [], ◌+◌, ◌<◌, ◌^◌, ℕ, IsTrue, OnOk, length, ◌≤◌, ◌-◌, reverse, take, drop};
 ghost use Rattle.prefix_min.specs.Plan.{Forest, IsLaid, among, more_choices, own_choice, rows_of, silent};
 
 use crate::appending::append;
@@ -14,7 +14,7 @@ use razor_base::Memory;
 #[derive(Clone, Copy)]
 pub struct Choice {
     pub value: u32,
-    pub bits: u8,
+    pub bits: u32,
     pub label: u32,
     /// Place of the first choice below this part.
     pub below: usize,
@@ -36,19 +36,23 @@ fn among(labels: &[u32], label: u32) -> bool
     false
 }
 
-/// Puts down that a part writes a row of the label unless it inherits it.
+/// Puts down that a part writes a row of the label unless it inherits it, where choices are kept.
 pub fn put(
     choices: &mut Vec<Choice, &Bump>,
+    keeps: bool,
     also: usize,
     label: u32,
     part: Part,
     below: usize,
 ) -> Result<(), Memory>
-    ensures { OnOk result (choices.new.items ≡ choices.old.items ++ own_choice part.low part.bits label below also also ∷ []) }
+    ensures { OnOk result (IsTrue keeps → choices.new.items ≡ choices.old.items ++ own_choice part.low part.bits label below also also ∷ []) }
 {
+    if !keeps {
+        return Ok(());
+    }
     let choice = Choice {
         value: part.low,
-        bits: part.bits,
+        bits: u32::from(part.bits),
         label,
         below,
         also,
@@ -57,23 +61,24 @@ pub fn put(
     append(choices, choice)
 }
 
-/// Puts down what a part with this gain chooses, where its further labels stand between two places.
+/// Puts down what a part with this gain chooses, where choices are kept. Its further labels stand between two places.
 pub fn choose(
     choices: &mut Vec<Choice, &Bump>,
+    keeps: bool,
     gain: Gain,
     part: Part,
     below: usize,
     also: usize,
     end: usize,
 ) -> Result<(), Memory>
-    ensures { OnOk result (choices.new.items ≡ choices.old.items ++ more_choices gain part.low part.bits below also end) }
+    ensures { OnOk result (IsTrue keeps → choices.new.items ≡ choices.old.items ++ more_choices gain part.low part.bits below also end) }
 {
-    if gain.gain == 0 {
+    if !keeps || gain.gain == 0 {
         return Ok(());
     }
     let choice = Choice {
         value: part.low,
-        bits: part.bits,
+        bits: u32::from(part.bits),
         label: gain.best,
         below,
         also,
@@ -120,7 +125,7 @@ impl Plan<'_> {
             }
             let prefix = Prefix {
                 value: choice.value,
-                len: self.width.saturating_sub(choice.bits),
+                len: u32::from(self.width).saturating_sub(choice.bits) as u8,
             };
             rows.push(PrefixRow {
                 prefix,

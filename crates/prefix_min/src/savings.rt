@@ -1,8 +1,8 @@
 //! What a part saves, from what its halves save.
-ghost use Rattle.std.specs.Prelude.{◌≡◌, ℕ, List, ◌++◌, ◌∷◌, ◌⊎◌, ◌<◌, ◌≤◌, ◌+◌, ◌-◌, ◌^◌, [], IfOk, OnOk, MatchOption, length, take, drop};
+ghost use Rattle.std.specs.Prelude.{◌≡◌, ℕ, List, ◌++◌, ◌∷◌, ◌⊎◌, ◌<◌, ◌≤◌, ◌+◌, ◌-◌, ◌^◌, [], IfOk, IsTrue, OnOk, MatchOption, length, slice_index, take, drop};
 ghost use Rattle.prefix_min.specs.Costs.{IsHead, Lists, RisesFrom, after};
 ghost use Rattle.prefix_min.specs.Plan.{more_labels};
-ghost use Rattle.prefix_min.specs.Savings.{AreSums, IsGain, further, lowered, raised, saved, with_one};
+ghost use Rattle.prefix_min.specs.Savings.{AreSums, IsGain, alone, further, lowered, raised, saved, with_one};
 ghost use Rattle.prefix_min.specs.declared.savings.LabelCost.{LabelCost};
 
 use crate::appending::append;
@@ -144,6 +144,18 @@ pub fn keep(savings: &mut Vec<LabelCost>, one: Option<LabelCost>) -> Result<(), 
     Ok(())
 }
 
+/// Whether something is saved by this label alone, and all that it weighs.
+#[inline(always)]
+pub fn is_alone(savings: &[LabelCost], label: u32, weights: &[u128]) -> bool
+    requires { label < length weights.now }
+    ensures { IsTrue result → (savings.now ≡ alone weights.now label) × (0 < slice_index weights.now label) }
+{
+    let [one] = savings else {
+        return false;
+    };
+    one.label == label && one.cost > 0 && one.cost == weights[label as usize]
+}
+
 /// Puts the labels beside the best that save the gain or more behind the others.
 fn put_further(also: &mut Vec<u32, &Bump>, sums: &[LabelCost], gain: Gain) -> Result<(), Memory>
     ensures { OnOk result (also.new.items ≡ also.old.items ++ further gain.gain gain.best sums.now) }
@@ -156,11 +168,16 @@ fn put_further(also: &mut Vec<u32, &Bump>, sums: &[LabelCost], gain: Gain) -> Re
     Ok(())
 }
 
-/// Puts the further labels of a gain behind the others.
-pub fn put_more(also: &mut Vec<u32, &Bump>, sums: &[LabelCost], gain: Gain) -> Result<(), Memory>
-    ensures { OnOk result (also.new.items ≡ also.old.items ++ more_labels gain sums.now) }
+/// Puts the further labels of a gain behind the others, where choices are kept.
+pub fn put_more(
+    also: &mut Vec<u32, &Bump>,
+    keeps: bool,
+    sums: &[LabelCost],
+    gain: Gain,
+) -> Result<(), Memory>
+    ensures { OnOk result (IsTrue keeps → also.new.items ≡ also.old.items ++ more_labels gain sums.now) }
 {
-    if gain.gain == 0 {
+    if !keeps || gain.gain == 0 {
         return Ok(());
     }
     put_further(also, sums, gain)

@@ -1,10 +1,10 @@
 //! What each part of the field costs and saves.
-ghost use Rattle.std.specs.Prelude.{◌≡◌, ◌≤◌, ◌<◌, ◌+◌, ◌%◌, ◌^◌, ℕ, [], length, OnOk, IfOk, IsSome, IsTrue, MatchOption, slice_index, drop};
+ghost use Rattle.std.specs.Prelude.{◌≡◌, ◌≤◌, ◌<◌, ◌+◌, ◌%◌, ◌^◌, ℕ, [], length, OnOk, IfOk, IfSome, IsSome, IsTrue, MatchOption, slice_index, drop};
 ghost use Rattle.prefix_min.specs.Costs.{Lists, RisesFrom};
 ghost use Rattle.prefix_min.specs.Built.{IsBuilt};
 ghost use Rattle.prefix_min.specs.Growth.{IsBeside, IsHalf, IsPut, IsStretch, end_of};
 ghost use Rattle.prefix_min.specs.Field.{IsFull, IsFullLabel, IsLeastFull, IsWhole, SomeFull, lesser};
-ghost use Rattle.prefix_min.specs.Savings.{alone, saved, with_one};
+ghost use Rattle.prefix_min.specs.Savings.{saved, with_one};
 ghost use Rattle.prefix_min.specs.Pieces.{reach};
 ghost use Rattle.prefix_min.specs.NextPiece.{AreFit, IsNext, weight_below};
 
@@ -12,7 +12,7 @@ use crate::merging::join_parts;
 use crate::parts::{Part, about, end, middle, top, widest};
 use crate::piece::Piece;
 use crate::plan::{Choice, choose, put};
-use crate::savings::{LabelCost, join, keep, saving_of};
+use crate::savings::{LabelCost, is_alone, join, keep, saving_of};
 use bumpalo::Bump;
 use razor_base::Memory;
 use std::alloc::Global;
@@ -26,7 +26,8 @@ pub struct Stack<'a> {
     /// Place of the first piece that reaches above the parts that are done.
     pub next: usize,
     pub cost: u128,
-    /// What the parts that are done choose, those below a part before its own, in the call's arena.
+    /// What the parts that are done choose, where that is put down: those below a part before its own, in the call's
+    /// arena.
     pub choices: Vec<Choice, &'a Bump>,
     /// The further labels of the choices.
     pub also: Vec<u32, &'a Bump>,
@@ -70,6 +71,8 @@ impl<'a> Stack<'a> {
 pub struct Field<'b> {
     pub pieces: &'b [Piece],
     pub weights: &'b [u128],
+    /// Whether what the parts choose is put down.
+    pub keeps: bool,
 }
 
 impl Field<'_> {
@@ -81,7 +84,7 @@ impl Field<'_> {
         requires aligned { low % 2 ^ bits ≡ 0 }
         requires within { low + 2 ^ bits ≤ reach 0 self.now.pieces.now }
         requires light { stack.old.cost ≤ weight_below self.now.weights.now 0 self.now.pieces.now low }
-        ensures { OnOk result (IsBuilt self.now.weights.now self.now.pieces.now bits low stack.old.savings.items stack.new.savings.items stack.old.cost stack.new.cost stack.new.next stack.old.choices.items stack.new.choices.items stack.old.also.items stack.new.also.items) }
+        ensures { OnOk result (IsBuilt self.now.keeps self.now.weights.now self.now.pieces.now bits low stack.old.savings.items stack.new.savings.items stack.old.cost stack.new.cost stack.new.next stack.old.choices.items stack.new.choices.items stack.old.also.items stack.new.also.items) }
     {
         let one = self.apart(stack, bits, low)?;
         keep(&mut stack.savings, one)
@@ -98,7 +101,7 @@ impl Field<'_> {
         requires aligned { low % 2 ^ bits ≡ 0 }
         requires within { low + 2 ^ bits ≤ reach 0 self.now.pieces.now }
         requires light { stack.old.cost ≤ weight_below self.now.weights.now 0 self.now.pieces.now low }
-        ensures built { IfOk result (λ one. IsBuilt self.now.weights.now self.now.pieces.now bits low stack.old.savings.items (with_one stack.new.savings.items one) stack.old.cost stack.new.cost stack.new.next stack.old.choices.items stack.new.choices.items stack.old.also.items stack.new.also.items) }
+        ensures built { IfOk result (λ one. IsBuilt self.now.keeps self.now.weights.now self.now.pieces.now bits low stack.old.savings.items (with_one stack.new.savings.items one) stack.old.cost stack.new.cost stack.new.next stack.old.choices.items stack.new.choices.items stack.old.also.items stack.new.also.items) }
         ensures apart { IfOk result (λ one. IsSome one → stack.new.savings.items ≡ stack.old.savings.items) }
     {
         let first = stack.next;
@@ -125,8 +128,9 @@ impl Field<'_> {
         requires within { low + 2 ^ bits ≤ reach 0 self.now.pieces.now }
         requires light { stack.old.cost ≤ weight_below self.now.weights.now 0 self.now.pieces.now low }
         requires ends { end_of self.now.pieces.now stack.old.next + 1 < low + 2 ^ bits }
-        ensures { OnOk result (IsBuilt self.now.weights.now self.now.pieces.now bits low stack.old.savings.items stack.new.savings.items stack.old.cost stack.new.cost stack.new.next stack.old.choices.items stack.new.choices.items stack.old.also.items stack.new.also.items) }
+        ensures { OnOk result (IsBuilt self.now.keeps self.now.weights.now self.now.pieces.now bits low stack.old.savings.items stack.new.savings.items stack.old.cost stack.new.cost stack.new.next stack.old.choices.items stack.new.choices.items stack.old.also.items stack.new.also.items) }
     {
+        let keeps = self.keeps;
         let first = stack.next;
         let piece = self.pieces[first];
         let start = stack.savings.len();
@@ -138,12 +142,11 @@ impl Field<'_> {
         let mut part = widest(last, bits, u64::from(piece.hi) + 1);
         self.one(stack, piece.label, part)?;
         stack.next = first + 1;
-        let mut stretches = true;
+        let mut stretches = false;
         while part.bits < bits {
-            let wide = self.stretch(stack, start, piece.label, part, bits, stretches);
-            if part.bits < wide.bits {
+            if let Some(wide) = self.stretch(stack, start, piece.label, part, bits, stretches) {
                 let also = stack.also.len();
-                put(&mut stack.choices, also, piece.label, wide, below)?;
+                put(&mut stack.choices, keeps, also, piece.label, wide, below)?;
                 stack.next = self.behind(stack.next, end(wide));
                 part = wide;
                 stretches = false;
@@ -157,6 +160,7 @@ impl Field<'_> {
                 &mut stack.savings,
                 &mut stack.sums,
                 &mut stack.also,
+                keeps,
                 start,
                 middle,
                 other,
@@ -164,8 +168,15 @@ impl Field<'_> {
             )?;
             stack.cost -= gain.gain;
             stretches = gain.best == piece.label;
-            let end_also = stack.also.len();
-            choose(&mut stack.choices, gain, about, below, start_also, end_also)?;
+            choose(
+                &mut stack.choices,
+                keeps,
+                gain,
+                about,
+                below,
+                start_also,
+                stack.also.len(),
+            )?;
             part = about;
         }
         Ok(())
@@ -187,7 +198,7 @@ impl Field<'_> {
         requires wide { part.bits < 32 }
         requires half { IsHalf self.now.pieces.now first part about }
         requires light { stack.old.cost ≤ weight_below self.now.weights.now 0 self.now.pieces.now (part.low + 2 ^ part.bits) }
-        ensures built { IfOk result (λ one. IsBeside self.now.weights.now self.now.pieces.now first part about stack.old.savings.items (with_one stack.new.savings.items one) stack.old.cost stack.new.cost stack.old.next stack.new.next stack.old.choices.items stack.new.choices.items stack.old.also.items stack.new.also.items) }
+        ensures built { IfOk result (λ one. IsBeside self.now.keeps self.now.weights.now self.now.pieces.now first part about stack.old.savings.items (with_one stack.new.savings.items one) stack.old.cost stack.new.cost stack.old.next stack.new.next stack.old.choices.items stack.new.choices.items stack.old.also.items stack.new.also.items) }
         ensures apart { IfOk result (λ one. IsSome one → stack.new.savings.items ≡ stack.old.savings.items) }
     {
         if about.low < part.low {
@@ -205,7 +216,7 @@ impl Field<'_> {
     fn one(&self, stack: &mut Stack, label: u32, part: Part) -> Result<(), Memory>
         requires place { label < length self.now.weights.now }
         requires room { stack.old.cost + slice_index self.now.weights.now label < 2 ^ 128 }
-        ensures { OnOk result (IsPut self.now.weights.now label part stack.old.savings.items stack.new.savings.items stack.old.cost stack.new.cost stack.old.next stack.new.next stack.old.choices.items stack.new.choices.items stack.old.also.items stack.new.also.items) }
+        ensures { OnOk result (IsPut self.now.keeps self.now.weights.now label part stack.old.savings.items stack.new.savings.items stack.old.cost stack.new.cost stack.old.next stack.new.next stack.old.choices.items stack.new.choices.items stack.old.also.items stack.new.also.items) }
     {
         let saving = self.lone(stack, label, part)?;
         keep(&mut stack.savings, saving)
@@ -216,14 +227,14 @@ impl Field<'_> {
     fn lone(&self, stack: &mut Stack, label: u32, part: Part) -> Result<Option<LabelCost>, Memory>
         requires place { label < length self.now.weights.now }
         requires room { stack.old.cost + slice_index self.now.weights.now label < 2 ^ 128 }
-        ensures put { IfOk result (λ one. IsPut self.now.weights.now label part stack.old.savings.items (with_one stack.new.savings.items one) stack.old.cost stack.new.cost stack.old.next stack.new.next stack.old.choices.items stack.new.choices.items stack.old.also.items stack.new.also.items) }
+        ensures put { IfOk result (λ one. IsPut self.now.keeps self.now.weights.now label part stack.old.savings.items (with_one stack.new.savings.items one) stack.old.cost stack.new.cost stack.old.next stack.new.next stack.old.choices.items stack.new.choices.items stack.old.also.items stack.new.also.items) }
         ensures apart { stack.new.savings.items ≡ stack.old.savings.items }
     {
         let weight = self.weights[label as usize];
         stack.cost += weight;
         let below = stack.choices.len();
         let also = stack.also.len();
-        put(&mut stack.choices, also, label, part, below)?;
+        put(&mut stack.choices, self.keeps, also, label, part, below)?;
         Ok(saving_of(label, weight))
     }
 
@@ -242,7 +253,7 @@ impl Field<'_> {
     }
 
     /// The greatest part about this one, of no more than `most` bits, beside which there is only the label
-    /// by which alone this one saves anything; or this one. It is looked for only where it may be.
+    /// by which alone this one saves anything, if there is a greater one. It is looked for only where it may be.
     #[inline(always)]
     fn stretch(
         &self,
@@ -252,25 +263,29 @@ impl Field<'_> {
         part: Part,
         most: u8,
         may: bool,
-    ) -> Part
+    ) -> Option<Part>
         requires place { label < length self.now.weights.now }
         requires start { start ≤ length stack.now.savings.items }
         requires next { IsNext self.now.pieces.now stack.now.next (part.low + 2 ^ part.bits) }
         requires wide { most ≤ 32 }
         requires less { part.bits ≤ most }
         requires aligned { part.low % 2 ^ part.bits ≡ 0 }
-        ensures { part.bits < result.bits → IsStretch self.now.weights.now self.now.pieces.now (drop start stack.now.savings.items) label part most stack.now.next result }
+        ensures { IfSome result (λ wide. (part.bits < wide.bits) × IsStretch self.now.weights.now self.now.pieces.now (drop start stack.now.savings.items) label part most stack.now.next wide) }
     {
         if !may || !is_alone(&stack.savings[start..], label, self.weights) {
-            return part;
+            return None;
         }
         let Some(piece) = self.pieces.get(stack.next) else {
-            return part;
+            return None;
         };
         if piece.label != label {
-            return part;
+            return None;
         }
-        widest(part, most, u64::from(piece.hi) + 1)
+        let wide = widest(part, most, u64::from(piece.hi) + 1);
+        if wide.bits <= part.bits {
+            return None;
+        }
+        Some(wide)
     }
 
     /// Does the halves of the whole field, and gives the label of its row.
@@ -282,7 +297,7 @@ impl Field<'_> {
         requires cost { stack.old.cost ≡ 0 }
         requires choices { stack.old.choices.items ≡ [] }
         requires savings { stack.old.savings.items ≡ [] }
-        ensures { IfOk result (λ y. IsWhole self.now.weights.now self.now.pieces.now width y stack.new.cost stack.new.choices.items stack.new.also.items) }
+        ensures { IfOk result (λ y. IsWhole self.now.keeps self.now.weights.now self.now.pieces.now width y stack.new.cost stack.new.choices.items stack.new.also.items) }
     {
         let piece = self.pieces[0];
         let top = top(width, 0);
@@ -327,17 +342,6 @@ impl Field<'_> {
         }
         best.unwrap_or(0)
     }
-}
-
-/// Whether something is saved by this label alone, and all that it weighs.
-fn is_alone(savings: &[LabelCost], label: u32, weights: &[u128]) -> bool
-    requires { label < length weights.now }
-    ensures { IsTrue result → (savings.now ≡ alone weights.now label) × (0 < slice_index weights.now label) }
-{
-    let [one] = savings else {
-        return false;
-    };
-    one.label == label && one.cost > 0 && one.cost == weights[label as usize]
 }
 
 /// The first label that saves all that it weighs.

@@ -1,4 +1,4 @@
-use Rattle.std.proofs.Common.{◌∙◌, ◌≤◌, sym, subst, arith, length}
+use Rattle.std.proofs.Common.{◌∙◌, ◌≤◌, refl, sym, subst, arith, length}
 use Rattle.prefix_min.specs.Pieces.{label_at}
 use Rattle.prefix_min.specs.PrefixList.{weight}
 use Rattle.prefix_min.specs.Rows.{AreFieldRows}
@@ -15,7 +15,7 @@ returns c =
     let f = label_at c.args.pieces.now in
     let width = c.args.width in
     let whole = c.in_ok-label.ensures in
-    let is = all-rows width c.in_ok-label.label whole.forest whole.laid c.deref.ensures.value c.deref-2.ensures.value
+    let is = all-rows width c.in_ok-label.label whole.forest (whole.laid refl) c.deref.ensures.value c.deref-2.ensures.value
     (c.len.ensures ∙ c.whole.new.stack.choices.ok.0)
     c.new-rows.ensures.items c.in_ok-push.ensures.items c.in_ok-write.ensures c.reverse.ensures.items in
     let rows = subst (AreFieldRows weights f width (costs_of whole.node).row) (sym is) whole.rows in

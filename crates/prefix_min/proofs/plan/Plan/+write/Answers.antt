@@ -1,4 +1,4 @@
-use Rattle.std.proofs.Common.{rules, arith, ap, sym, ◌∙◌, ◌++◌, ◌∷◌, [], ℕ}
+use Rattle.std.proofs.Common.{rules, arith, ap, sym, ◌∙◌, ◌-◌, ◌++◌, ◌∷◌, [], ℕ}
 use Rattle.prefix_min.specs.declared.row.PrefixRow.{PrefixRow}
 use Rattle.prefix_min.proofs.Walking.{choice_at, here, here-below, here-inside, walk-end, walk-loud, walk-quiet}
 use Rattle.prefix_min.proofs.plan.Plan.+write.Goals as goal
@@ -36,7 +36,7 @@ loop-until-preserved t c =
     let l = c.loop-until in
     let x = choice_at c.args.self.now.choices.now l.until in
     let row : ℕ → PrefixRow = λ n. record { prefix = record { value = x.value; len = n }; label = x.label } in
-    let pushed = c.in_ok-push.ensures.items ∙ ap (λ n. l.rows.items ++ row n ∷ []) c.saturating_sub.ensures in
+    let pushed = c.in_ok-push.ensures.items ∙ ap (λ n. l.rows.items ++ row n ∷ []) (c.saturating_sub.ensures ∙ ap (λ n. n - x.bits) c.from.ensures) in
     walk-loud l.invariant c.loop-until-test.true pushed c.in_ok-write.ensures (sym c.is_silent.ensures ∙ c.if-is_silent.false)
 
 pub returns : goal.returns

@@ -62,7 +62,7 @@ beside-returns-clause-built t c =
     let new = c.apart.new.stack in
     IfOk-weaker c.apart.result _ _ (λ one b. inl (
       (above-half c.args.self.now.pieces.now c.args.first c.args.part c.args.about c.requires.half c.if-about-part.false).0,
-      subst (λ v. IsBuilt c.args.self.now.weights.now c.args.self.now.pieces.now c.args.part.bits v old.savings.items (with_one new.savings.items one) old.cost new.cost
+      subst (λ v. IsBuilt c.args.self.now.keeps c.args.self.now.weights.now c.args.self.now.pieces.now c.args.part.bits v old.savings.items (with_one new.savings.items one) old.cost new.cost
           new.next old.choices.items new.choices.items old.also.items new.also.items) c.end.ensures b,
     )) c.apart.ensures.built
 
@@ -141,8 +141,8 @@ grown-loop-part-init t c =
     let about = subst (λ k. IsAbout hi 0 c.args.bits (k + 1) c.widest-part.result) c.from.ensures c.widest-part.ensures in
     grown-first c.args.bits c.requires.fit c.requires.next c.requires.within c.requires.aligned c.requires.ends about c.in_ok-one.ensures
 
-pub grown-stretch-wide-requires : goal.grown-stretch-wide-requires
-grown-stretch-wide-requires t c =
+pub grown-stretch-requires : goal.grown-stretch-requires
+grown-stretch-requires t c =
     let g = c.loop-part.invariant in
     record {
       place = piece-place c.requires.fit c.args.stack.now.next (part-inside c.requires.fit c.args.bits c.requires.next c.requires.within);
@@ -161,22 +161,22 @@ grown-stretch-wide-requires t c =
     }
 
 pub grown-end-requires : goal.grown-end-requires
-grown-end-requires t c = omega (arith, (c.stretch-wide.ensures c.if-part-wide.true).about.short, c.requires.wide)
+grown-end-requires t c = omega (arith, c.in-Some.ensures.1.about.short, c.requires.wide)
 
 pub grown-behind-stack-requires : goal.grown-behind-stack-requires
 grown-behind-stack-requires t c =
-    let st = c.stretch-wide.ensures c.if-part-wide.true in
+    let st = c.in-Some.ensures.1 in
     record { fit = c.requires.fit; inside = st.inside; reached = omega (arith, st.about.ends, c.end.ensures) }
 
-pub grown-loop-part-preserved-then-part-wide : goal.grown-loop-part-preserved-then-part-wide
-grown-loop-part-preserved-then-part-wide t c =
+pub grown-loop-part-preserved-in-Some : goal.grown-loop-part-preserved-in-Some
+grown-loop-part-preserved-in-Some t c =
     let l = c.loop-part in
-    let st = c.stretch-wide.ensures c.if-part-wide.true in
+    let st = c.in-Some.ensures.1 in
     let ps = c.args.self.now.pieces.now in
     let reached : l.part.low + 2 ^ l.part.bits < end_of ps l.stack.next + 1 = omega (arith, l.invariant.built.next.here no_piece st.inside) in
     let then = subst (IsNext ps c.behind-stack.result) c.end.ensures (c.behind-stack.ensures (l.part.low + 2 ^ l.part.bits) (omega (arith, c.end.ensures, st.about.to)) reached l.invariant.built.next) in
     grown-wide c.requires.fit c.requires.next c.requires.within c.requires.aligned l.invariant (c.len-start.ensures ∙ c.args.stack.now.savings.ok.0) refl
-    c.if-part-wide.true st then
+    c.in-Some.ensures.0 st then
     (c.len-below.ensures ∙ c.args.stack.now.choices.ok.0) (c.len-also.ensures ∙ l.stack.also.ok.0) c.in_ok-put.ensures
 
 pub grown-beside-requires : goal.grown-beside-requires
@@ -224,7 +224,7 @@ grown-loop-part-preserved t c =
     c.about-about.ensures.low c.in_ok-other.ensures.built
     (c.len-start.ensures ∙ c.args.stack.now.savings.ok.0) (c.len-middle.ensures ∙ c.loop-part.stack.savings.ok.0) c.in_ok-gain.ensures
     (c.len-below.ensures ∙ c.args.stack.now.choices.ok.0)
-    (c.len-start_also.ensures ∙ c.beside.new.stack.also.ok.0) (c.len-end_also.ensures ∙ c.join_parts.new.also.ok.0) c.in_ok-choose.ensures
+    (c.len-start_also.ensures ∙ c.beside.new.stack.also.ok.0) (c.len.ensures ∙ c.join_parts.new.also.ok.0) c.in_ok-choose.ensures
 
 pub grown-returns : goal.grown-returns
 grown-returns t c = grown-last c.loop-part.invariant (omega (arith, c.loop-part-test.false))

@@ -12,7 +12,7 @@ abbrev pub decreases-grown : goal.decreases-grown
 decreases-grown l = 3 * l.bits + 1
 
 abbrev pub invariant-grown-loop-part : goal.invariant-grown-loop-part
-invariant-grown-loop-part l = IsGrown l.fn.self.weights.now l.fn.self.pieces.now l.fn.bits l.fn.low l.first l.part l.fn.stack.savings.items l.stack.savings.items l.fn.stack.cost l.stack.cost l.stack.next l.fn.stack.choices.items l.stack.choices.items l.fn.stack.also.items l.stack.also.items
+invariant-grown-loop-part l = IsGrown l.fn.self.keeps l.fn.self.weights.now l.fn.self.pieces.now l.fn.bits l.fn.low l.first l.part l.fn.stack.savings.items l.stack.savings.items l.fn.stack.cost l.stack.cost l.stack.next l.fn.stack.choices.items l.stack.choices.items l.fn.stack.also.items l.stack.also.items
 
 abbrev pub decreases-grown-loop-part : goal.decreases-grown-loop-part
 decreases-grown-loop-part l = l.bits - l.part.bits

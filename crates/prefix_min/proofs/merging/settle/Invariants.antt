@@ -1,8 +1,0 @@
-use Rattle.std.proofs.Common.{◌≡◌, ◌++◌, ◌≤◌, drop, length, take}
-use Rattle.prefix_min.specs.Savings.{further, lowered}
-use Rattle.prefix_min.proofs.merging.settle.Given as goal
-
-abbrev pub invariant-loop-place : goal.invariant-loop-place
-invariant-loop-place l = (l.kept ≤ l.place) × (length l.savings.items ≡ length l.initial.savings.items)
-    × (take l.kept l.savings.items ++ lowered l.gain.gain (drop l.place l.savings.items) ≡ take l.start l.initial.savings.items ++ lowered l.gain.gain (drop l.start l.initial.savings.items))
-    × (l.also.items ++ further l.gain.gain l.gain.best (drop l.place l.savings.items) ≡ l.initial.also.items ++ further l.gain.gain l.gain.best (drop l.start l.initial.savings.items))
