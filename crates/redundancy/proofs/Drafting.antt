@@ -1,6 +1,6 @@
 -- What was kept of the first runs of a layer, and one run more.
 use Rattle.std.proofs.Common.{◌≡◌, ◌∷◌, ◌++◌, ◌⊎◌, ℕ, suc, List, [], ◌<◌, ◌≤◌, Bool, true, false, length, append_assoc, append-nil, refl, ap, arith, sym, ◌∙◌, subst, inl, inr}
-use Rattle.std.specs.Prelude.{All, cond, map, Some, None, unwrap_or, slice_index_or}
+use Rattle.std.specs.Prelude.{All, cond, map, Some, None, unwrap_or}
 use Rattle.smallvec.specs.SmallVec.{SmallVec}
 use Rattle.std.specs.List.{list_any}
 use Rattle.std.proofs.lemmas.Bool.{cases_lt, le-leb, true≢false, lt-leb}
@@ -21,8 +21,7 @@ use Rattle.redundancy_laws.specs.declared.context.Context.{Context}
 use Rattle.redundancy_laws.specs.declared.sifted.Sifted.{Sifted}
 use Rattle.redundancy_laws.specs.Rows.{Row, in_front}
 use Rattle.redundancy_laws.specs.Layers.{AreApartFrom}
-use Rattle.redundancy_laws.specs.Sifted.{context_at, node_at, AreContexts, IsSifted, AreBelow, AreDistinct, IsSoFar, LeadOn}
-use Rattle.redundancy_laws.proofs.Below.{once-below}
+use Rattle.redundancy_laws.specs.Sifted.{context_at, node_at, AreContexts, IsSifted, AreBelow, IsSoFar, LeadOn}
 use Rattle.redundancy_laws.proofs.Kept.{next-so-far, same-so-far, so-far-stays, below-stays}
 use Rattle.redundancy.specs.declared.run_contexts.Stretch.{Stretch}
 use Rattle.redundancy.specs.declared.layer_draft.Change.{Change}
@@ -56,26 +55,26 @@ fill_ends : (lo hi : ℕ) (ss : List Stretch) → FillSpan lo hi ss → lo ≤ s
 fill_ends lo hi [] f = omega (arith, f)
 fill_ends lo hi (s ∷ ss) f = let first = f.0 in let own = s.span.ordered in let rest = fill_ends (suc s.span.hi) hi ss f.1 in omega (arith, first, own, rest)
 
-module _ (places : List ℕ) (after : List NodeId) where
+module _ (after : List NodeId) where
   abbrev laid : List Stretch → List Placed
-  laid ss = map (placed_by places after) ss
+  laid ss = map (placed_by after) ss
 
   rise_of : (lo hi : ℕ) (ss : List Stretch) → FillSpan lo hi ss → RiseUpTo lo (suc hi) (laid ss)
   rise_of lo hi [] f = omega (arith, f)
   rise_of lo hi (s ∷ ss) f = let first = f.0 in (omega (arith, first), rise_of (suc s.span.hi) hi ss f.1)
 
   -- a value inside the span leads as its stretch says
-  placed_here : (lo hi v : ℕ) (ss : List Stretch) → FillSpan lo hi ss → lo ≤ v → v ≤ hi → placed_at (laid ss) v ≡ Some (node_at after (slice_index_or places (stretch_at ss v) 0)).0
+  placed_here : (lo hi v : ℕ) (ss : List Stretch) → FillSpan lo hi ss → lo ≤ v → v ≤ hi → placed_at (laid ss) v ≡ Some (node_at after (stretch_at ss v)).0
   placed_here lo hi v [] f above under = absurd (omega (arith, f, above, under))
   placed_here lo hi v (s ∷ ss) f above under = elim (cases_lt s.span.hi v) [
     | inl over ↦
-        ap (λ t. cond t (Some (node_at after (slice_index_or places s.place 0)).0) (placed_at (laid ss) v)) (not_past v (interval_of s.span) over)
+        ap (λ t. cond t (Some (node_at after s.place).0) (placed_at (laid ss) v)) (not_past v (interval_of s.span) over)
         ∙ placed_here (suc s.span.hi) hi v ss f.1 (omega (arith, over)) under
-        ∙ ap (λ t. Some (node_at after (slice_index_or places (cond t s.place (stretch_at ss v)) 0)).0) (sym (lt-leb v s.span.hi over))
+        ∙ ap (λ t. Some (node_at after (cond t s.place (stretch_at ss v))).0) (sym (lt-leb v s.span.hi over))
     | inr within ↦
         let first = f.0 in
-        ap (λ t. cond t (Some (node_at after (slice_index_or places s.place 0)).0) (placed_at (laid ss) v)) (holds_between v (interval_of s.span) (omega (arith, first, above)) within)
-        ∙ ap (λ t. Some (node_at after (slice_index_or places (cond t s.place (stretch_at ss v)) 0)).0) (sym (le-leb v s.span.hi within))
+        ap (λ t. cond t (Some (node_at after s.place).0) (placed_at (laid ss) v)) (holds_between v (interval_of s.span) (omega (arith, first, above)) within)
+        ∙ ap (λ t. Some (node_at after (cond t s.place (stretch_at ss v))).0) (sym (le-leb v s.span.hi within))
   ]
 
   -- other values lead nowhere
@@ -84,11 +83,11 @@ module _ (places : List ℕ) (after : List NodeId) where
   placed_none lo hi v (s ∷ ss) f (inl less) =
       let first = f.0 in
       let own = s.span.ordered in
-      ap (λ t. cond t (Some (node_at after (slice_index_or places s.place 0)).0) (placed_at (laid ss) v)) (not_below v (interval_of s.span) (omega (arith, first, less)))
+      ap (λ t. cond t (Some (node_at after s.place).0) (placed_at (laid ss) v)) (not_below v (interval_of s.span) (omega (arith, first, less)))
       ∙ placed_none (suc s.span.hi) hi v ss f.1 (inl (omega (arith, first, own, less)))
   placed_none lo hi v (s ∷ ss) f (inr over) =
       let rest = fill_ends (suc s.span.hi) hi ss f.1 in
-      ap (λ t. cond t (Some (node_at after (slice_index_or places s.place 0)).0) (placed_at (laid ss) v)) (not_past v (interval_of s.span) (omega (arith, rest, over)))
+      ap (λ t. cond t (Some (node_at after s.place).0) (placed_at (laid ss) v)) (not_past v (interval_of s.span) (omega (arith, rest, over)))
       ∙ placed_none (suc s.span.hi) hi v ss f.1 (inr over)
 
 out_of : (v : ℕ) (span : Interval) → interval_holds v span ≡ false → (v < span.lo) ⊎ (span.hi < v)
@@ -115,18 +114,15 @@ change_more (x ∷ changes) change c = ap (λ r. placed_in x c ++ r) (change_mor
 pub placed_stays : (old new : List Node) (level : List ℕ) (ps : List Placed) → IsLevel level → Grows old new → PlacedAt old level ps → PlacedAt new level ps
 placed_stays old new level ps five g h = All-weaker (λ (p : Placed). level_of old p.to.0 ≡ level) (λ (p : Placed). level_of new p.to.0 ≡ level) (λ p e. number_stays old new p.to.0 level five g e) ps h
 
--- the pairs at the places of the keys
-pub keys_below : (nodes : List Node) (level : List ℕ) (span : Interval) (pairs lower keys : List Context) (lists : List (SmallVec Stretch)) (places : List ℕ) → span.hi ≤ top_of level →
-    AreListed nodes span pairs (length pairs) lower lists → AreDistinct lower keys places → AreBelow nodes level span pairs keys (λ c v. slice_index_or places (stretch_at (stretches_at lists c) v) 0)
-keys_below nodes level span pairs lower keys lists places inside listed distinct =
-    once-below nodes level span pairs lower keys (λ c v. stretch_at (stretches_at lists c) v) places
-    (record {
-      covered = λ c v less small is. (listed.each c less).leads v is;
-      reached = λ d less. let r = listed.reached d less in let b = between r.1 span r.3 in (r.0, r.1, r.2, omega (arith, b.1, inside), r.3, r.4);
-    })
-    distinct
+-- the pairs at the places of the stretches
+pub listed_below : (nodes : List Node) (level : List ℕ) (span : Interval) (pairs lower : List Context) (lists : List (SmallVec Stretch)) → span.hi ≤ top_of level →
+    AreListed nodes span pairs (length pairs) lower lists → AreBelow nodes level span pairs lower (λ c v. stretch_at (stretches_at lists c) v)
+listed_below nodes level span pairs lower lists inside listed = record {
+  covered = λ c v less small is. (listed.each c less).leads v is;
+  reached = λ d less. let r = listed.reached d less in let b = between r.1 span r.3 in (r.0, r.1, r.2, omega (arith, b.1, inside), r.3, r.4);
+}
 
-module _ (base old new : List Node) (level : List ℕ) (rows more : List Row) (pairs lower keys : List Context) (next : ℕ) (span : Span) (lists : List (SmallVec Stretch)) (places : List ℕ) (inner : Sifted) (d e : Draft) where
+module _ (base old new : List Node) (level : List ℕ) (rows more : List Row) (pairs lower : List Context) (next : ℕ) (span : Span) (lists : List (SmallVec Stretch)) (inner : Sifted) (d e : Draft) where
   abbrev Runs : List Row
   Runs = rows ++ map (in_front (interval_of span)) more
 
@@ -147,19 +143,18 @@ module _ (base old new : List Node) (level : List ℕ) (rows more : List Row) (p
     pub are : AreContexts old level pairs
     pub inside : span.hi ≤ top_of level
     pub listed : AreListed old (interval_of span) pairs (length pairs) lower lists
-    pub distinct : AreDistinct lower keys places
-    pub sifted : IsSifted new (next_level level) more keys inner
+    pub sifted : IsSifted new (next_level level) more lower inner
     pub above : next ≤ span.lo
     pub apart : AreApartFrom (interval_of span) rows
     pub draft : IsDraft base old level rows pairs next d
-    pub taken : IsTakenIn d lists places inner e
+    pub taken : IsTakenIn d lists inner e
 
   abbrev to : ℕ → ℕ → ℕ
-  to c v = slice_index_or places (stretch_at (stretches_at lists c) v) 0
+  to c v = stretch_at (stretches_at lists c) v
 
-  below_new : IsRun → AreBelow new level (interval_of span) pairs keys to
-  below_new h = below-stays old new level (interval_of span) pairs keys to (is_level level h.five) h.grown h.are
-      (keys_below old level (interval_of span) pairs lower keys lists places h.inside h.listed h.distinct)
+  below_new : IsRun → AreBelow new level (interval_of span) pairs lower to
+  below_new h = below-stays old new level (interval_of span) pairs lower to (is_level level h.five) h.grown h.are
+      (listed_below old level (interval_of span) pairs lower lists h.inside h.listed)
 
   so_new : IsRun → IsSoFar new level rows pairs d.kept.items (leads_of base pairs d.changes.items)
   so_new h = so-far-stays old new level rows pairs d.kept.items (leads_of base pairs d.changes.items) h.five h.grown h.are h.draft.so_far
@@ -171,7 +166,7 @@ module _ (base old new : List Node) (level : List ℕ) (rows more : List Row) (p
   none_kept : IsRun → list_any (λ b. b) inner.kept.items ≡ false → IsDraft base new level Runs pairs (suc span.hi) e
   none_kept h none =
       assembled (d.kept.items ++ inner.kept.items) d.changes.items h.taken.kept (h.taken.same none)
-      (same-so-far new level (interval_of span) pairs keys to rows more d.kept.items inner (leads_of base pairs d.changes.items) (leads_of base pairs d.changes.items)
+      (same-so-far new level (interval_of span) pairs lower to rows more d.kept.items inner (leads_of base pairs d.changes.items) (leads_of base pairs d.changes.items)
       h.five h.apart (below_new h) (so_new h) h.sifted none)
       h.draft.room
       (λ c less. later_end 0 next (suc span.hi) (placed_for d.changes.items c) (let own = span.ordered in let low = h.above in omega (arith, own, low)) (h.draft.rise c less))
@@ -181,24 +176,21 @@ module _ (base old new : List Node) (level : List ℕ) (rows more : List Row) (p
   abbrev After : Change → List Change
   After change = d.changes.items ++ change ∷ []
 
-  own_placed : IsRun → (change : Change) → IsChange lists places inner.after.items change → (c : ℕ) → c < length pairs → placed_in change c ≡ map (placed_by places inner.after.items) (stretches_at lists c)
+  own_placed : IsRun → (change : Change) → IsChange lists inner.after.items change → (c : ℕ) → c < length pairs → placed_in change c ≡ map (placed_by inner.after.items) (stretches_at lists c)
   own_placed h change is c less = is.each c (let n = h.listed.number in omega (arith, less, n))
 
-  placed_is : IsRun → (change : Change) → IsChange lists places inner.after.items change → (c : ℕ) → c < length pairs →
-      placed_for (After change) c ≡ placed_for d.changes.items c ++ map (placed_by places inner.after.items) (stretches_at lists c)
+  placed_is : IsRun → (change : Change) → IsChange lists inner.after.items change → (c : ℕ) → c < length pairs →
+      placed_for (After change) c ≡ placed_for d.changes.items c ++ map (placed_by inner.after.items) (stretches_at lists c)
   placed_is h change is c less = change_more d.changes.items change c ∙ ap (λ ps. placed_for d.changes.items c ++ ps) (own_placed h change is c less)
 
-  own_children : IsRun → (c : ℕ) → c < length pairs → PlacedAt new (next_level level) (map (placed_by places inner.after.items) (stretches_at lists c))
+  own_children : IsRun → (c : ℕ) → c < length pairs → PlacedAt new (next_level level) (map (placed_by inner.after.items) (stretches_at lists c))
   own_children h c less =
-      All-map (λ (p : Placed). level_of new p.to.0 ≡ next_level level) (placed_by places inner.after.items) (stretches_at lists c)
-      (All-weaker (λ (s : Stretch). s.place < length lower) (λ (s : Stretch). level_of new (placed_by places inner.after.items s).to.0 ≡ next_level level)
-      (λ s small.
-      let k = (h.distinct.each s.place small).0 in
-      let n = h.sifted.count in
-      h.sifted.numbers (slice_index_or places s.place 0) (omega (arith, k, n)))
+      All-map (λ (p : Placed). level_of new p.to.0 ≡ next_level level) (placed_by inner.after.items) (stretches_at lists c)
+      (All-weaker (λ (s : Stretch). s.place < length lower) (λ (s : Stretch). level_of new (placed_by inner.after.items s).to.0 ≡ next_level level)
+      (λ s small. let n = h.sifted.count in h.sifted.numbers s.place (omega (arith, small, n)))
       (stretches_at lists c) (h.listed.each c less).within)
 
-  lead_on : IsRun → (change : Change) → IsChange lists places inner.after.items change →
+  lead_on : IsRun → (change : Change) → IsChange lists inner.after.items change →
       LeadOn level (interval_of span) (length pairs) to inner.after.items (leads_of base pairs d.changes.items) (leads_of base pairs (After change))
   lead_on h change is = record {
     inside = λ c v less small holds.
@@ -206,13 +198,13 @@ module _ (base old new : List Node) (level : List ℕ) (rows more : List Row) (p
         let low = h.above in
         ap (λ r. unwrap_or r (child_of (edges_of base (context_at pairs c).after.0) v))
         (ap (λ ps. placed_at ps v) (placed_is h change is c less)
-        ∙ placed_past 0 next v (placed_for d.changes.items c) (map (placed_by places inner.after.items) (stretches_at lists c)) (h.draft.rise c less) (omega (arith, low, b.0))
-        ∙ placed_here places inner.after.items span.lo span.hi v (stretches_at lists c) (h.listed.each c less).fill b.0 b.1);
+        ∙ placed_past 0 next v (placed_for d.changes.items c) (map (placed_by inner.after.items) (stretches_at lists c)) (h.draft.rise c less) (omega (arith, low, b.0))
+        ∙ placed_here inner.after.items span.lo span.hi v (stretches_at lists c) (h.listed.each c less).fill b.0 b.1);
     outside = λ c v less small out.
         ap (λ r. unwrap_or r (child_of (edges_of base (context_at pairs c).after.0) v))
         (ap (λ ps. placed_at ps v) (placed_is h change is c less)
-        ∙ placed_before v (placed_for d.changes.items c) (map (placed_by places inner.after.items) (stretches_at lists c))
-        (placed_none places inner.after.items span.lo span.hi v (stretches_at lists c) (h.listed.each c less).fill (out_of v (interval_of span) out)));
+        ∙ placed_before v (placed_for d.changes.items c) (map (placed_by inner.after.items) (stretches_at lists c))
+        (placed_none inner.after.items span.lo span.hi v (stretches_at lists c) (h.listed.each c less).fill (out_of v (interval_of span) out)));
   }
 
   some_kept : IsRun → list_any (λ b. b) inner.kept.items ≡ true → IsDraft base new level Runs pairs (suc span.hi) e
@@ -223,14 +215,14 @@ module _ (base old new : List Node) (level : List ℕ) (rows more : List Row) (p
       let n = h.listed.number in
       let count = is.count in
       assembled (d.kept.items ++ inner.kept.items) (After change) h.taken.kept t.1
-      (next-so-far new level (interval_of span) pairs keys to rows more d.kept.items inner (leads_of base pairs d.changes.items) (leads_of base pairs (After change))
+      (next-so-far new level (interval_of span) pairs lower to rows more d.kept.items inner (leads_of base pairs d.changes.items) (leads_of base pairs (After change))
       h.five h.apart (below_new h) (so_new h) h.sifted (lead_on h change is))
       (All-push (λ (ch : Change). length ch.placed.items ≡ length pairs) d.changes.items change h.draft.room (count ∙ n))
       (λ c less. subst (λ ps. RiseUpTo 0 (suc span.hi) ps) (sym (placed_is h change is c less))
-      (rise_joined 0 span.lo (suc span.hi) (placed_for d.changes.items c) (map (placed_by places inner.after.items) (stretches_at lists c))
-      (later_end 0 next span.lo (placed_for d.changes.items c) h.above (h.draft.rise c less)) (rise_of places inner.after.items span.lo span.hi (stretches_at lists c) (h.listed.each c less).fill)))
+      (rise_joined 0 span.lo (suc span.hi) (placed_for d.changes.items c) (map (placed_by inner.after.items) (stretches_at lists c))
+      (later_end 0 next span.lo (placed_for d.changes.items c) h.above (h.draft.rise c less)) (rise_of inner.after.items span.lo span.hi (stretches_at lists c) (h.listed.each c less).fill)))
       (λ c less. subst (PlacedAt new (next_level level)) (sym (placed_is h change is c less))
-      (All-append (λ (p : Placed). level_of new p.to.0 ≡ next_level level) (placed_for d.changes.items c) (map (placed_by places inner.after.items) (stretches_at lists c)) (old_children h c less) (own_children h c less)))
+      (All-append (λ (p : Placed). level_of new p.to.0 ≡ next_level level) (placed_for d.changes.items c) (map (placed_by inner.after.items) (stretches_at lists c)) (old_children h c less) (own_children h c less)))
 
   by_kept : IsRun → (t : Bool) → list_any (λ b. b) inner.kept.items ≡ t → IsDraft base new level Runs pairs (suc span.hi) e
   by_kept h true some = some_kept h some

@@ -17,7 +17,6 @@ pub mod NodePlans
 pub mod NodeRows
 pub mod NodeRuns
 pub mod Numbers
-pub mod Once
 pub mod Places
 pub mod Recalled
 pub mod Removals

@@ -1,10 +1,11 @@
 -- Stretches of a span, as they are made of its parts.
-use Rattle.std.proofs.Common.{◌≡◌, ◌∷◌, ◌++◌, ℕ, zero, suc, List, [], ◌<◌, ◌≤◌, ◌+◌, ◌-◌, Bool, true, false, length, take, get_or, append_assoc, refl, ap, arith, sym, ◌∙◌, subst, inl, inr}
+use Rattle.std.proofs.Common.{◌≡◌, ◌∷◌, ◌++◌, ℕ, zero, suc, List, [], ◌<◌, ◌≤◌, ◌+◌, ◌⊎◌, Bool, true, false, length, take, get_or, refl, ap, arith, sym, ◌∙◌, subst, inl, inr}
 use Rattle.std.proofs.Math.Seq.{take-suc}
-use Rattle.std.specs.Prelude.{All, cond, map, nat_le}
+use Rattle.std.specs.Prelude.{All, Some, cond, map, nat_le, slice_get}
 use Rattle.smallvec.specs.SmallVec.{SmallVec}
 use Rattle.std.proofs.lemmas.Bool.{cases_lt, le-leb, lt-leb}
-use Rattle.std.proofs.lemmas.List.{length-append, length-map, map-append, get_or_append_left}
+use Rattle.std.proofs.lemmas.List.{length-append, length-map, map-append, get_or-map, get_or_append_left}
+use Rattle.std.proofs.lemmas.Option.{get_or_from_slice_get, slice_get_within, slice_get-get_or}
 use Rattle.std.proofs.lemmas.List.Elements.{All-nil, All-cons, All-weaker}
 use Rattle.field_boxes.specs.Classifier.{Interval, interval_holds}
 use Rattle.field_boxes.proofs.Unions.{holds_between, between}
@@ -18,8 +19,12 @@ use Rattle.field_sets.specs.Parting.{IsSplitWithin}
 use Rattle.redundancy_laws.specs.declared.context.Context.{Context}
 use Rattle.redundancy_laws.specs.Sifted.{no_context, context_at, context_below}
 use Rattle.redundancy.specs.declared.run_contexts.Stretch.{Stretch}
-use Rattle.redundancy.specs.Stretches.{context_of, AreStretches, stretch_at, FillSpan, stretches_at, IsListed, AreListed}
-use Rattle.redundancy.proofs.Places.{pushed_to}
+use Rattle.redundancy.specs.Stretches.{context_of, AreStretches, stretch_at, FillSpan, stretches_at, IsListed, AreListed, Gains}
+use Rattle.redundancy.proofs.Places.{last_item, pushed_to}
+
+-- pairs keep their places
+abbrev Stay : List Context → List Context → Type 0
+Stay lower more = (k : ℕ) (p : Context) → slice_get lower k ≡ Some p → slice_get more k ≡ Some p
 
 -- the first value behind the parts
 abbrev pub low_after : ℕ → List Part → ℕ
@@ -27,12 +32,19 @@ low_after lo [] = lo
 low_after lo (p ∷ ps) = low_after (suc p.hi) ps
 
 -- a part more
-pub one_more : (lo place : ℕ) (ps : List Part) (ss : List Stretch) (p : Part) (s : Stretch) → AreStretches lo place ps ss → s.span.lo ≡ low_after lo ps → s.span.hi ≡ p.hi → s.place ≡ place + length ps →
-    AreStretches lo place (ps ++ p ∷ []) (ss ++ s ∷ [])
-one_more lo place [] [] p s a el eh ep = (el, eh, omega (arith, ep), tt)
-one_more lo place [] (t ∷ ss) p s a el eh ep = absurd a
-one_more lo place (q ∷ ps) [] p s a el eh ep = absurd a
-one_more lo place (q ∷ ps) (t ∷ ss) p s a el eh ep = (a.0, a.1, a.2, one_more (suc q.hi) (suc place) ps ss p s a.3 el eh (omega (arith, ep)))
+pub one_more : (lower : List Context) (lo : ℕ) (ps : List Part) (ss : List Stretch) (p : Part) (s : Stretch) → AreStretches lower lo ps ss → s.span.lo ≡ low_after lo ps → s.span.hi ≡ p.hi →
+    slice_get lower s.place ≡ Some (context_of p) → AreStretches lower lo (ps ++ p ∷ []) (ss ++ s ∷ [])
+one_more lower lo [] [] p s a el eh ep = (el, eh, ep, tt)
+one_more lower lo [] (t ∷ ss) p s a el eh ep = absurd a
+one_more lower lo (q ∷ ps) [] p s a el eh ep = absurd a
+one_more lower lo (q ∷ ps) (t ∷ ss) p s a el eh ep = (a.0, a.1, a.2, one_more lower (suc q.hi) ps ss p s a.3 el eh ep)
+
+-- so are they where the pairs keep their places
+still : (lower more : List Context) (lo : ℕ) (ps : List Part) (ss : List Stretch) → Stay lower more → AreStretches lower lo ps ss → AreStretches more lo ps ss
+still lower more lo [] [] stay a = tt
+still lower more lo [] (s ∷ ss) stay a = absurd a
+still lower more lo (p ∷ ps) [] stay a = absurd a
+still lower more lo (p ∷ ps) (s ∷ ss) stay a = (a.0, a.1, stay s.place (context_of p) a.2, still lower more (suc p.hi) ps ss stay a.3)
 
 pub low_more : (lo : ℕ) (ps : List Part) (p : Part) → low_after lo (ps ++ p ∷ []) ≡ suc p.hi
 low_more lo [] p = refl
@@ -49,18 +61,17 @@ next_part lo hi zero (p ∷ ps) d f less = let rest = fill_ends (suc p.hi) hi (m
 next_part lo hi (suc k) (p ∷ ps) d f less = next_part (suc p.hi) hi k ps d f.1 (omega (arith, less))
 
 -- the stretches fill what the parts do
-fill_of : (lo hi place : ℕ) (ps : List Part) (ss : List Stretch) → Fill lo hi (map to_left ps) → AreStretches lo place ps ss → FillSpan lo hi ss
-fill_of lo hi place [] [] f a = f
-fill_of lo hi place [] (s ∷ ss) f a = absurd a
-fill_of lo hi place (p ∷ ps) [] f a = absurd a
-fill_of lo hi place (p ∷ ps) (s ∷ ss) f a = (a.0, subst (λ n. FillSpan (suc n) hi ss) (sym a.1) (fill_of (suc p.hi) hi (suc place) ps ss f.1 a.3))
+fill_of : (lower : List Context) (lo hi : ℕ) (ps : List Part) (ss : List Stretch) → Fill lo hi (map to_left ps) → AreStretches lower lo ps ss → FillSpan lo hi ss
+fill_of lower lo hi [] [] f a = f
+fill_of lower lo hi [] (s ∷ ss) f a = absurd a
+fill_of lower lo hi (p ∷ ps) [] f a = absurd a
+fill_of lower lo hi (p ∷ ps) (s ∷ ss) f a = (a.0, subst (λ n. FillSpan (suc n) hi ss) (sym a.1) (fill_of lower (suc p.hi) hi ps ss f.1 a.3))
 
-within_of : (n lo place : ℕ) (ps : List Part) (ss : List Stretch) → place + length ps ≤ n → AreStretches lo place ps ss → All (λ (s : Stretch). s.place < n) ss
-within_of n lo place [] [] h a = All-nil (λ (s : Stretch). s.place < n)
-within_of n lo place [] (s ∷ ss) h a = absurd a
-within_of n lo place (p ∷ ps) [] h a = absurd a
-within_of n lo place (p ∷ ps) (s ∷ ss) h a =
-    let e = a.2 in All-cons (λ (s : Stretch). s.place < n) s ss (omega (arith, e, h)) (within_of n (suc p.hi) (suc place) ps ss (omega (arith, h)) a.3)
+within_of : (lower : List Context) (lo : ℕ) (ps : List Part) (ss : List Stretch) → AreStretches lower lo ps ss → All (λ (s : Stretch). s.place < length lower) ss
+within_of lower lo [] [] a = All-nil (λ (s : Stretch). s.place < length lower)
+within_of lower lo [] (s ∷ ss) a = absurd a
+within_of lower lo (p ∷ ps) [] a = absurd a
+within_of lower lo (p ∷ ps) (s ∷ ss) a = All-cons (λ (s : Stretch). s.place < length lower) s ss (slice_get_within lower s.place (context_of p) a.2) (within_of lower (suc p.hi) ps ss a.3)
 
 abbrev pair_to : ℕ → ℕ → Context
 pair_to a m = record { after = record { 0 = a }; met = record { 0 = m } }
@@ -77,19 +88,21 @@ there p ps v e =
     ap (λ (u : Bool). pair_to (cond u p.left.0 (child_of (map to_left ps) v)) (cond u p.right.0 (child_of (map to_right ps) v))) (sym e)
 
 -- where a value stands
-at_of : (lo hi place v : ℕ) (ps : List Part) (ss : List Stretch) → Fill lo hi (map to_left ps) → AreStretches lo place ps ss → lo ≤ v → v ≤ hi →
-    (j : ℕ) × (j < length ps) × (stretch_at ss v ≡ place + j) × (context_at (map context_of ps) j ≡ below_at ps v)
-at_of lo hi place v [] [] f a above under = absurd (omega (arith, f, above, under))
-at_of lo hi place v [] (s ∷ ss) f a above under = absurd a
-at_of lo hi place v (p ∷ ps) [] f a above under = absurd a
-at_of lo hi place v (p ∷ ps) (s ∷ ss) f a above under = elim (cases_lt p.hi v) [
+at_of : (lower : List Context) (lo hi v : ℕ) (ps : List Part) (ss : List Stretch) → Fill lo hi (map to_left ps) → AreStretches lower lo ps ss → lo ≤ v → v ≤ hi →
+    (stretch_at ss v < length lower) × (context_at lower (stretch_at ss v) ≡ below_at ps v)
+at_of lower lo hi v [] [] f a above under = absurd (omega (arith, f, above, under))
+at_of lower lo hi v [] (s ∷ ss) f a above under = absurd a
+at_of lower lo hi v (p ∷ ps) [] f a above under = absurd a
+at_of lower lo hi v (p ∷ ps) (s ∷ ss) f a above under = elim (cases_lt p.hi v) [
   | inl over ↦
-      let r = at_of (suc p.hi) hi (suc place) v ps ss f.1 a.3 (omega (arith, over)) under in
+      let r = at_of lower (suc p.hi) hi v ps ss f.1 a.3 (omega (arith, over)) under in
       let past = lt-leb v p.hi over in
-      (suc r.0, omega (arith, r.1), ap (λ h. cond (nat_le v h) s.place (stretch_at ss v)) a.1 ∙ ap (λ t. cond t s.place (stretch_at ss v)) past ∙ r.2 ∙ omega arith, r.3 ∙ there p ps v past)
+      let to = ap (λ h. cond (nat_le v h) s.place (stretch_at ss v)) a.1 ∙ ap (λ t. cond t s.place (stretch_at ss v)) past in
+      (subst (λ k. k < length lower) (sym to) r.0, ap (context_at lower) to ∙ r.1 ∙ there p ps v past)
   | inr within ↦
       let is = le-leb v p.hi within in
-      (0, omega arith, ap (λ h. cond (nat_le v h) s.place (stretch_at ss v)) a.1 ∙ ap (λ t. cond t s.place (stretch_at ss v)) is ∙ a.2 ∙ omega arith, here p ps v (nat_le v p.hi) refl is)
+      let to = ap (λ h. cond (nat_le v h) s.place (stretch_at ss v)) a.1 ∙ ap (λ t. cond t s.place (stretch_at ss v)) is in
+      (subst (λ k. k < length lower) (sym to) (slice_get_within lower s.place (context_of p) a.2), ap (context_at lower) to ∙ get_or_from_slice_get lower s.place (context_of p) no_context a.2 ∙ here p ps v (nat_le v p.hi) refl is)
 ]
 
 -- each part has a value
@@ -103,12 +116,6 @@ reach_of lo hi (p ∷ ps) (suc j) f less =
     let first = f.0 in
     (r.0, omega (arith, first, r.1), r.2, r.3 ∙ there p ps r.0 (lt-leb r.0 p.hi (omega (arith, r.1))))
 
--- a pair behind others
-new_item : (xs ys : List Context) (j n : ℕ) → n ≡ length xs + j → context_at (xs ++ ys) n ≡ context_at ys j
-new_item [] ys j n e = let is : n ≡ j = omega (arith, e) in ap (context_at ys) is
-new_item (x ∷ xs) ys j zero e = absurd (omega (arith, e))
-new_item (x ∷ xs) ys j (suc n) e = new_item xs ys j n (omega (arith, e))
-
 pair_of_two : {a b m n : ℕ} → a ≡ b → m ≡ n → pair_to a m ≡ pair_to b n
 pair_of_two h k = cc
 
@@ -119,74 +126,104 @@ module _ (nodes : List Node) (span : Interval) (pairs : List Context) (n : ℕ) 
   leads_there : Split → (v : ℕ) → span.lo ≤ v → v ≤ span.hi → below_at ps v ≡ context_below nodes v (context_at pairs n)
   leads_there split v above under = pair_of_two (split.left v above under) (split.right v above under)
 
-  length_more : more ≡ lower ++ map context_of ps → length more ≡ length lower + length ps
-  length_more e = ap (λ (xs : List Context). length xs) e ∙ length-append lower (map context_of ps) ∙ ap (λ k. length lower + k) (length-map ps context_of)
-
   -- old pairs stay
-  old_pair : more ≡ lower ++ map context_of ps → (k : ℕ) → k < length lower → context_at more k ≡ context_at lower k
-  old_pair e k less = ap (λ xs. context_at xs k) e ∙ get_or_append_left lower (map context_of ps) no_context k less
-
-  new_pair : more ≡ lower ++ map context_of ps → (j : ℕ) → j < length ps → context_at more (length lower + j) ≡ context_at (map context_of ps) j
-  new_pair e j less = ap (λ xs. context_at xs (length lower + j)) e ∙ new_item lower (map context_of ps) j (length lower + j) refl
+  old_pair : Stay lower more → (k : ℕ) → k < length lower → (k < length more) × (context_at more k ≡ context_at lower k)
+  old_pair stay k less =
+      let at = stay k (context_at lower k) (slice_get-get_or lower k no_context less) in
+      (slice_get_within more k (context_at lower k) at, get_or_from_slice_get more k (context_at lower k) no_context at)
 
   abbrev Listed : List Context → ℕ → List Stretch → Type 0
   Listed all c ss = IsListed nodes span (context_at pairs c) all ss
 
-  old_listed : more ≡ lower ++ map context_of ps → (c : ℕ) (ss : List Stretch) → Listed lower c ss → Listed more c ss
-  old_listed e c ss h = record {
+  old_listed : Stay lower more → (c : ℕ) (ss : List Stretch) → Listed lower c ss → Listed more c ss
+  old_listed stay c ss h = record {
     fill = h.fill;
-    within = All-weaker (λ (s : Stretch). s.place < length lower) (λ (s : Stretch). s.place < length more) (λ s less. omega (arith, less, length_more e)) ss h.within;
-    leads = λ v is. let l = h.leads v is in (omega (arith, l.0, length_more e), old_pair e (stretch_at ss v) l.0 ∙ l.1);
+    within = All-weaker (λ (s : Stretch). s.place < length lower) (λ (s : Stretch). s.place < length more) (λ s less. (old_pair stay s.place less).0) ss h.within;
+    leads = λ v is. let l = h.leads v is in let p = old_pair stay (stretch_at ss v) l.0 in (p.0, p.1 ∙ l.1);
   }
 
-  own_listed : Split → more ≡ lower ++ map context_of ps → AreStretches span.lo (length lower) ps own.items → Listed more n own.items
-  own_listed split e a = record {
-    fill = fill_of span.lo span.hi (length lower) ps own.items split.fill a;
-    within = within_of (length more) span.lo (length lower) ps own.items (omega (arith, length_more e)) a;
+  own_listed : Split → AreStretches more span.lo ps own.items → Listed more n own.items
+  own_listed split a = record {
+    fill = fill_of more span.lo span.hi ps own.items split.fill a;
+    within = within_of more span.lo ps own.items a;
     leads = λ v is.
         let b = between v span is in
-        let r = at_of span.lo span.hi (length lower) v ps own.items split.fill a b.0 b.1 in
-        (omega (arith, r.1, r.2, length_more e), ap (context_at more) r.2 ∙ new_pair e r.0 r.1 ∙ r.3 ∙ leads_there split v b.0 b.1);
+        let r = at_of more span.lo span.hi v ps own.items split.fill a b.0 b.1 in
+        (r.0, r.1 ∙ leads_there split v b.0 b.1);
   }
 
-  reached_next : Split → more ≡ lower ++ map context_of ps → AreListed nodes span pairs n lower lists → (d : ℕ) → d < length more →
+  reached_next : Split → Gains (map context_of ps) (length ps) lower more → AreListed nodes span pairs n lower lists → (d : ℕ) → d < length more →
       (c : ℕ) × (v : ℕ) × (c < n + 1) × (interval_holds v span ≡ true) × (context_at more d ≡ context_below nodes v (context_at pairs c))
-  reached_next split e so d less = elim (cases_lt d (length lower)) [
-    | inl old ↦ let r = so.reached d old in (r.0, r.1, omega (arith, r.2), r.3, old_pair e d old ∙ r.4)
-    | inr past ↦
-        let j : ℕ = d - length lower in
-        let is : length lower + j ≡ d = omega (arith, past) in
-        let within : j < length ps = omega (arith, past, less, length_more e) in
-        let r = reach_of span.lo span.hi ps j split.fill within in
-        (n, r.0, omega arith, holds_between r.0 span r.1 r.2, ap (context_at more) (sym is) ∙ new_pair e j within ∙ r.3 ∙ leads_there split r.0 r.1 r.2)
+  reached_next split gains so d less = elim (gains.own d less) [
+    | inl old ↦ let r = so.reached d old in (r.0, r.1, omega (arith, r.2), r.3, (old_pair gains.stay d old).1 ∙ r.4)
+    | inr new ↦
+        let r = reach_of span.lo span.hi ps new.0 split.fill new.1 in
+        (n, r.0, omega arith, holds_between r.0 span r.1 r.2, sym new.2 ∙ r.3 ∙ leads_there split r.0 r.1 r.2)
   ]
 
-  pub listed_next : Split → more ≡ lower ++ map context_of ps → AreStretches span.lo (length lower) ps own.items → longer ≡ lists ++ own ∷ [] →
+  pub listed_next : Split → Gains (map context_of ps) (length ps) lower more → AreStretches more span.lo ps own.items → longer ≡ lists ++ own ∷ [] →
       AreListed nodes span pairs n lower lists → AreListed nodes span pairs (n + 1) more longer
-  listed_next split e a longer_is so =
+  listed_next split gains a longer_is so =
       let items : map (λ (o : SmallVec Stretch). o.items) longer ≡ map (λ (o : SmallVec Stretch). o.items) lists ++ own.items ∷ [] =
       ap (map (λ (o : SmallVec Stretch). o.items)) longer_is ∙ map-append (λ (o : SmallVec Stretch). o.items) lists (own ∷ []) in
       let p = pushed_to (Listed more) [] (map (λ (o : SmallVec Stretch). o.items) lists) (map (λ (o : SmallVec Stretch). o.items) longer) own.items n items
-      (length-map lists (λ (o : SmallVec Stretch). o.items) ∙ so.number) (λ c less. old_listed e c (stretches_at lists c) (so.each c less)) (own_listed split e a) in record {
+      (length-map lists (λ (o : SmallVec Stretch). o.items) ∙ so.number) (λ c less. old_listed gains.stay c (stretches_at lists c) (so.each c less)) (own_listed split a) in record {
         number = sym (length-map longer (λ (o : SmallVec Stretch). o.items)) ∙ p.0;
         each = p.1;
-        reached = reached_next split e so;
+        reached = reached_next split gains so;
       }
 
+-- no pair is gained
+pub none_gained : (list old : List Context) → Gains list 0 old old
+none_gained list old = record { stay = λ k p at. at; own = λ d less. inl less }
+
+module _ (list old lower more : List Context) (pair : Context) (n : ℕ) (before : Gains list n old lower) (is : pair ≡ context_at list n) where
+  grown_stay : (k : ℕ) (p : Context) → slice_get lower k ≡ Some p → slice_get (lower ++ pair ∷ []) k ≡ Some p
+  grown_stay k p at =
+      let less = slice_get_within lower k p at in
+      slice_get-get_or (lower ++ pair ∷ []) k no_context (omega (arith, less, length-append lower (pair ∷ []))) ∙ ap Some (get_or_append_left lower (pair ∷ []) no_context k less ∙ get_or_from_slice_get lower k p no_context at)
+
+  -- what is gained with the next pair of the list
+  gained_by : (more ≡ lower) ⊎ (more ≡ lower ++ pair ∷ []) → Stay lower more × ((d : ℕ) → d < length more → (d < length lower × (context_at more d ≡ context_at lower d)) ⊎ (context_at list n ≡ context_at more d))
+  gained_by (inl e) = subst (λ new. Stay lower new × ((d : ℕ) → d < length new → (d < length lower × (context_at new d ≡ context_at lower d)) ⊎ (context_at list n ≡ context_at new d))) (sym e) (λ k p at. at, λ d less. inl (less, refl))
+  gained_by (inr e) = subst (λ new. Stay lower new × ((d : ℕ) → d < length new → (d < length lower × (context_at new d ≡ context_at lower d)) ⊎ (context_at list n ≡ context_at new d))) (sym e) (
+    grown_stay,
+    λ d less. elim (cases_lt d (length lower)) [
+      | inl small ↦ inl (small, get_or_append_left lower (pair ∷ []) no_context d small)
+      | inr past ↦ inr (sym is ∙ sym (last_item no_context lower pair d (omega (arith, less, length-append lower (pair ∷ []), past))))
+    ],
+  )
+
+  pub gained : (more ≡ lower) ⊎ (more ≡ lower ++ pair ∷ []) → Gains list (n + 1) old more
+  gained e =
+      let g = gained_by e in record {
+        stay = λ k p at. g.0 k p (before.stay k p at);
+        own = λ d less. elim (g.1 d less) [
+          | inl small ↦ elim (before.own d small.0) [
+            | inl first ↦ inl first
+            | inr own ↦ inr (own.0, omega (arith, own.1), own.2 ∙ sym small.1)
+          ]
+          | inr new ↦ inr (n, omega arith, new)
+        ];
+      }
+
+  pub stays : (more ≡ lower) ⊎ (more ≡ lower ++ pair ∷ []) → Stay lower more
+  stays e = (gained_by e).0
+
 -- the stretch of a part more
-pub stretch_next : (lo hi base k : ℕ) (ps : List Part) (d : Part) (olds pairs longer : List Context) (ss more : List Stretch) (s : Stretch) (low next : ℕ) → Fill lo hi (map to_left ps) → k < length ps →
-    AreStretches lo base (take k ps) ss → base ≡ length olds → pairs ≡ olds ++ map context_of (take k ps) → low ≡ low_after lo (take k ps) → s.span.lo ≡ low → s.span.hi ≡ (get_or ps k d).hi → s.place ≡ length pairs →
-    more ≡ ss ++ s ∷ [] → longer ≡ pairs ++ context_of (get_or ps k d) ∷ [] → (suc (get_or ps k d).hi ≤ hi → next ≡ suc (get_or ps k d).hi) →
-    AreStretches lo base (take (k + 1) ps) more × (longer ≡ olds ++ map context_of (take (k + 1) ps)) × (k + 1 < length ps → next ≡ low_after lo (take (k + 1) ps))
-stretch_next lo hi base k ps d olds pairs longer ss more s low next f less own base_is pairs_is low_is sl sh sp more_is longer_is next_is =
+pub stretch_next : (lo hi k : ℕ) (ps : List Part) (d : Part) (old lower longer : List Context) (ss more : List Stretch) (s : Stretch) (low next : ℕ) → Fill lo hi (map to_left ps) → k < length ps →
+    AreStretches lower lo (take k ps) ss → Gains (map context_of ps) k old lower → low ≡ low_after lo (take k ps) → s.span.lo ≡ low → s.span.hi ≡ (get_or ps k d).hi →
+    slice_get longer s.place ≡ Some (context_of (get_or ps k d)) → (longer ≡ lower) ⊎ (longer ≡ lower ++ context_of (get_or ps k d) ∷ []) → more ≡ ss ++ s ∷ [] → (suc (get_or ps k d).hi ≤ hi → next ≡ suc (get_or ps k d).hi) →
+    AreStretches longer lo (take (k + 1) ps) more × Gains (map context_of ps) (k + 1) old longer × (k + 1 < length ps → next ≡ low_after lo (take (k + 1) ps))
+stretch_next lo hi k ps d old lower longer ss more s low next f less own gains low_is sl sh at longer_is more_is next_is =
     let p = get_or ps k d in
     let front = take k ps in
     let one : k + 1 ≡ suc k = omega arith in
     let taken : take (k + 1) ps ≡ front ++ p ∷ [] = ap (λ m. take m ps) one ∙ take-suc ps k d less in
-    let count : length pairs ≡ base + length front =
-    ap (λ (xs : List Context). length xs) pairs_is ∙ length-append olds (map context_of front) ∙ ap (λ n. length olds + n) (length-map front context_of) ∙ ap (λ n. n + length front) (sym base_is) in (
-      subst (λ qs. AreStretches lo base qs more) (sym taken) (subst (λ xs. AreStretches lo base (front ++ p ∷ []) xs) (sym more_is) (one_more lo base front ss p s own (sl ∙ low_is) sh (sp ∙ count))),
-      longer_is ∙ ap (λ xs. xs ++ context_of p ∷ []) pairs_is ∙ append_assoc olds (map context_of front) (context_of p ∷ []) ∙ ap (λ xs. olds ++ xs) (sym (map-append context_of front (p ∷ [])) ∙ ap (map context_of) (sym taken)),
+    let listed = sym (get_or-map context_of ps k d no_context less) in
+    let kept = still lower longer lo front ss (stays (map context_of ps) old lower longer (context_of p) k gains listed longer_is) own in (
+      subst (λ qs. AreStretches longer lo qs more) (sym taken) (subst (λ xs. AreStretches longer lo (front ++ p ∷ []) xs) (sym more_is) (one_more longer lo front ss p s kept (sl ∙ low_is) sh at)),
+      gained (map context_of ps) old lower longer (context_of p) k gains listed longer_is,
       λ more_parts.
           let after = next_part lo hi (k + 1) ps d f more_parts in
           let low_at = ap (low_after lo) taken ∙ low_more lo front p in

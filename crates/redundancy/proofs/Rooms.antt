@@ -4,29 +4,20 @@ use Rattle.std.proofs.Math.Seq.{take-suc}
 use Rattle.std.specs.Prelude.{All}
 use Rattle.smallvec.specs.SmallVec.{SmallVec}
 use Rattle.std.proofs.lemmas.List.{get_or-map}
-use Rattle.std.proofs.lemmas.List.Elements.{All-from_get_or}
 use Rattle.field_boxes.specs.Classifier.{Interval}
 use Rattle.node_store.specs.Diagram.{Node}
 use Rattle.field_sets.specs.declared.placed.Placed.{Placed}
 use Rattle.redundancy_laws.specs.declared.context.Context.{Context}
-use Rattle.redundancy_laws.specs.declared.sifted.Sifted.{Sifted}
-use Rattle.redundancy_laws.specs.Rows.{Row}
-use Rattle.redundancy_laws.specs.Sifted.{AreDistinct, IsSifted}
 use Rattle.redundancy.specs.declared.run_contexts.Stretch.{Stretch}
 use Rattle.redundancy.specs.declared.layer_draft.Change.{Change}
 use Rattle.redundancy.specs.Stretches.{AreListed}
 use Rattle.redundancy.specs.Drafts.{HaveRoom, placed_in, placed_for}
 use Rattle.redundancy.proofs.Drafting.{change_more}
 
-pub have_room : (nodes : List Node) (span : Interval) (pairs lower keys : List Context) (lists : List (SmallVec Stretch)) (places : List ℕ) → AreListed nodes span pairs (length pairs) lower lists → AreDistinct lower keys places → HaveRoom (length places) lists
-have_room nodes span pairs lower keys lists places listed distinct k d less =
-    subst (λ n. All (λ (s : Stretch). s.place < n) (get_or lists k d).items) (sym distinct.count)
+pub have_room : (nodes : List Node) (span : Interval) (pairs lower : List Context) (lists : List (SmallVec Stretch)) (count : ℕ) → count ≡ length lower → AreListed nodes span pairs (length pairs) lower lists → HaveRoom count lists
+have_room nodes span pairs lower lists count is listed k d less =
+    subst (λ n. All (λ (s : Stretch). s.place < n) (get_or lists k d).items) (sym is)
     (subst (All (λ (s : Stretch). s.place < length lower)) (get_or-map (λ (own : SmallVec Stretch). own.items) lists k d [] less) (listed.each k (let n = listed.number in omega (arith, less, n))).within)
-
-pub places_room : (nodes : List Node) (level : List ℕ) (rows : List Row) (lower keys : List Context) (places : List ℕ) (inner : Sifted) → AreDistinct lower keys places → IsSifted nodes level rows keys inner → All (λ (p : ℕ). p < length inner.after.items) places
-places_room nodes level rows lower keys places inner distinct sifted =
-    All-from_get_or (λ (p : ℕ). p < length inner.after.items) places 0
-    (λ k less. let n = distinct.count in let e = (distinct.each k (omega (arith, less, n))).0 in let m = sifted.count in omega (arith, e, m))
 
 -- what one change more says of a context
 pub gathered_next : (changes : List Change) (k place : ℕ) (e : Change) (d : SmallVec Placed) (placed longer piece : List Placed) → k < length changes → place < length (get_or changes k e).placed.items →

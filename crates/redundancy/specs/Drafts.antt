@@ -17,8 +17,8 @@ use Rattle.redundancy.specs.declared.layer_draft.Draft.{Draft}
 use Rattle.redundancy.specs.Stretches.{stretches_at}
 
 -- the stretch with what is answered at the place of its pair
-abbrev pub placed_by : List ℕ → List NodeId → Stretch → Placed
-placed_by places after s = record { span = s.span; to = node_at after (slice_index_or places s.place 0) }
+abbrev pub placed_by : List NodeId → Stretch → Placed
+placed_by after s = record { span = s.span; to = node_at after s.place }
 
 -- the places of the stretches are below the number
 abbrev pub HaveRoom : ℕ → List (SmallVec Stretch) → Type 0
@@ -38,15 +38,15 @@ abbrev pub leads_of : List Node → List Context → List Change → ℕ → ℕ
 leads_of nodes pairs changes c v = led (placed_for changes c) (edges_of nodes (context_at pairs c).after.0) v
 
 -- the change says of each context that its stretches lead to what is answered at their places
-pub record IsChange (lists : List (SmallVec Stretch)) (places : List ℕ) (after : List NodeId) (change : Change) : Type 0 where
+pub record IsChange (lists : List (SmallVec Stretch)) (after : List NodeId) (change : Change) : Type 0 where
   pub count : length change.placed.items ≡ length lists
-  pub each : (c : ℕ) → c < length lists → placed_in change c ≡ map (placed_by places after) (stretches_at lists c)
+  pub each : (c : ℕ) → c < length lists → placed_in change c ≡ map (placed_by after) (stretches_at lists c)
 
 -- a run more was taken in: where nothing of it is kept there is no change
-pub record IsTakenIn (old : Draft) (lists : List (SmallVec Stretch)) (places : List ℕ) (inner : Sifted) (new : Draft) : Type 0 where
+pub record IsTakenIn (old : Draft) (lists : List (SmallVec Stretch)) (inner : Sifted) (new : Draft) : Type 0 where
   pub kept : new.kept.items ≡ old.kept.items ++ inner.kept.items
   pub same : list_any (λ b. b) inner.kept.items ≡ false → new.changes.items ≡ old.changes.items
-  pub more : list_any (λ b. b) inner.kept.items ≡ true → (change : Change) × (new.changes.items ≡ old.changes.items ++ change ∷ []) × IsChange lists places inner.after.items change
+  pub more : list_any (λ b. b) inner.kept.items ≡ true → (change : Change) × (new.changes.items ≡ old.changes.items ++ change ∷ []) × IsChange lists inner.after.items change
 
 -- the spans rise from lo on, apart, and end before the end
 abbrev pub RiseUpTo : ℕ → ℕ → List Placed → Type 0

@@ -1,5 +1,5 @@
 -- Stretches of a span that lead to pairs of nodes.
-use Rattle.std.specs.Prelude.{◌≡◌, ℕ, suc, ◌<◌, true, List, [], ◌∷◌, All, length, map, nat_le, if◌then◌else◌, slice_index_or}
+use Rattle.std.specs.Prelude.{◌≡◌, ◌⊎◌, ℕ, suc, ◌<◌, true, List, [], ◌∷◌, All, Some, length, map, nat_le, if◌then◌else◌, slice_get, slice_index_or}
 use Rattle.smallvec.specs.SmallVec.{SmallVec}
 use Rattle.field_boxes.specs.Classifier.{Interval, interval_holds}
 use Rattle.node_store.specs.declared.split.Part.{Part}
@@ -11,12 +11,17 @@ use Rattle.redundancy.specs.declared.run_contexts.Stretch.{Stretch}
 abbrev pub context_of : Part → Context
 context_of p = record { after = p.left; met = p.right }
 
--- a stretch for each part from the low value on, whose pairs stand from the place on
-abbrev pub AreStretches : ℕ → ℕ → List Part → List Stretch → Type 0
-AreStretches lo place [] [] = Unit {0}
-AreStretches lo place [] (s ∷ ss) = ⊥
-AreStretches lo place (p ∷ ps) [] = ⊥
-AreStretches lo place (p ∷ ps) (s ∷ ss) = (s.span.lo ≡ lo) × (s.span.hi ≡ p.hi) × (s.place ≡ place) × AreStretches (suc p.hi) (suc place) ps ss
+-- a stretch for each part from the low value on, at whose place in the list the pair of the part stands
+abbrev pub AreStretches : List Context → ℕ → List Part → List Stretch → Type 0
+AreStretches lower lo [] [] = Unit {0}
+AreStretches lower lo [] (s ∷ ss) = ⊥
+AreStretches lower lo (p ∷ ps) [] = ⊥
+AreStretches lower lo (p ∷ ps) (s ∷ ss) = (s.span.lo ≡ lo) × (s.span.hi ≡ p.hi) × (slice_get lower s.place ≡ Some (context_of p)) × AreStretches lower (suc p.hi) ps ss
+
+-- pairs keep their places, and those that come behind them are among the first so many of the list
+pub record Gains (list : List Context) (count : ℕ) (old new : List Context) : Type 0 where
+  pub stay : (k : ℕ) (pair : Context) → slice_get old k ≡ Some pair → slice_get new k ≡ Some pair
+  pub own : (d : ℕ) → d < length new → (d < length old) ⊎ ((j : ℕ) × (j < count) × (context_at list j ≡ context_at new d))
 
 -- the place of the pair to which the value leads
 abbrev pub stretch_at : List Stretch → ℕ → ℕ

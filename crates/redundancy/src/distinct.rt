@@ -1,6 +1,5 @@
 //! Contexts, each once.
-ghost use Rattle.std.specs.Prelude.{◌≡◌, ◌⊎◌, ◌∷◌, ◌++◌, [], true, Some, slice_get, IfOk, IfSome, OnOk};
-ghost use Rattle.redundancy_laws.specs.Sifted.{AreDistinct};
+ghost use Rattle.std.specs.Prelude.{◌≡◌, Some, true, slice_get, IfSome};
 
 use crate::contexts::Contexts;
 use indexmap::IndexSet;
@@ -8,75 +7,79 @@ use razor_base::Memory;
 use redundancy_laws::Context;
 use smallvec::SmallVec;
 use std::alloc::Global;
+use std::marker::Model;
+use std::mem;
 
-/// As many pairs are compared one by one; with more a set is asked.
+/// As many contexts are compared one by one; a set is asked for those behind them.
 const FEW: usize = 40;
 
-/// Each pair of a list once, and for each place of the list where its pair is.
+/// Contexts in the order in which they came first: few, and behind them more.
 #[derive(Drop)]
 pub(crate) struct Distinct {
-    pub pairs: Contexts,
-    pub places: SmallVec<usize, 4>,
+    few: Contexts,
+    more: IndexSet<Context>,
+}
+
+impl Model for Distinct {
+    ghost use Rattle.std.specs.Prelude.{◌++◌, List};
+    ghost use Rattle.redundancy_laws.specs.declared.context.Context.{Context as Pair};
+
+    ghost Value = { List Pair };
+
+    ghost view = { λ d. d.few.items ++ d.more.keys };
 }
 
 impl Distinct {
-    /// The pairs in the order in which they come first.
-    pub fn of(alloc: Global, list: &[Context]) -> Result<Distinct, Memory>
-        ensures { IfOk result (λ d. AreDistinct list.now d.pairs.items d.places.items) }
+    ghost use Rattle.std.specs.Prelude.{◌⊎◌, ◌∷◌, ◌++◌, [], IfOk, OnOk};
+
+    /// No context.
+    pub fn new(alloc: Global) -> Distinct
+        ensures { result ≡ [] }
     {
-        if list.len() <= FEW {
-            let distinct = Distinct::of_few(alloc, list)?;
-            Ok(distinct)
-        } else {
-            let distinct = Distinct::of_many(alloc, list)?;
-            Ok(distinct)
+        Distinct {
+            few: SmallVec::new(alloc),
+            more: IndexSet::new(alloc),
         }
     }
 
-    /// The same of few pairs.
-    fn of_few(alloc: Global, list: &[Context]) -> Result<Distinct, Memory>
-        ensures { IfOk result (λ d. AreDistinct list.now d.pairs.items d.places.items) }
+    /// Forgets the contexts; the room of the set is used again.
+    pub fn clear(&mut self)
+        ensures { self.new ≡ [] }
     {
-        let mut pairs = SmallVec::new(alloc);
-        let mut places = SmallVec::with_capacity(alloc, list.len())?;
-        for pair in list {
-            let place = place_among(&mut pairs, *pair)?;
-            places.push(place)?;
+        self.few.clear();
+        if !self.more.is_empty() {
+            self.more.clear();
         }
-        Ok(Distinct { pairs, places })
     }
 
-    /// The same of many pairs.
-    fn of_many(alloc: Global, list: &[Context]) -> Result<Distinct, Memory>
-        ensures { IfOk result (λ d. AreDistinct list.now d.pairs.items d.places.items) }
+    /// The place of the context, which comes behind the others where it isn't among them.
+    pub fn place(&mut self, pair: Context) -> Result<usize, Memory>
+        ensures found { IfOk result (λ place. slice_get self.new place ≡ Some pair) }
+        ensures keys { OnOk result ((self.new ≡ self.old) ⊎ (self.new ≡ self.old ++ pair ∷ [])) }
     {
-        let mut pairs = IndexSet::new(alloc);
-        let mut places = SmallVec::with_capacity(alloc, list.len())?;
-        for pair in list {
-            let place = place_in(&mut pairs, *pair)?;
-            places.push(place)?;
+        if let Some(place) = place_of(self.few.as_slice(), pair) {
+            return Ok(place);
         }
-        let own = SmallVec::from_slice(alloc, pairs.as_slice())?;
-        Ok(Distinct { pairs: own, places })
+        let count = self.few.len();
+        if count < FEW && self.more.is_empty() {
+            self.few.push(pair)?;
+            return Ok(count);
+        }
+        let (place, _added) = self.more.insert_full(pair)?;
+        count.checked_add(place).ok_or(Memory)
+    }
+
+    /// All of them. What is left says nothing until it is cleared.
+    pub fn take(&mut self, alloc: Global) -> Result<Contexts, Memory>
+        ensures { IfOk result (λ all. all.items ≡ self.old) }
+    {
+        self.few.extend_from_slice(self.more.as_slice())?;
+        let all = mem::replace(&mut self.few, SmallVec::new(alloc));
+        Ok(all)
     }
 }
 
-/// The place of the pair, which the list gains where it isn't there.
-fn place_among(pairs: &mut Contexts, pair: Context) -> Result<usize, Memory>
-    ensures found { IfOk result (λ place. slice_get pairs.new.items place ≡ Some pair) }
-    ensures keys { OnOk result ((pairs.new.items ≡ pairs.old.items) ⊎ (pairs.new.items ≡ pairs.old.items ++ pair ∷ [])) }
-{
-    match place_of(pairs.as_slice(), pair) {
-        Some(place) => Ok(place),
-        None => {
-            let place = pairs.len();
-            pairs.push(pair)?;
-            Ok(place)
-        }
-    }
-}
-
-/// Where the pair stands in the list.
+/// Where the context stands in the list.
 fn place_of(pairs: &[Context], pair: Context) -> Option<usize>
     ensures { IfSome result (λ place. slice_get pairs.now place ≡ Some pair) }
 {
@@ -88,18 +91,9 @@ fn place_of(pairs: &[Context], pair: Context) -> Option<usize>
     None
 }
 
-/// Whether the pairs are of the same nodes.
+/// Whether the contexts are of the same nodes.
 fn same(pair: Context, other: Context) -> bool
     ensures { result ≡ true → pair ≡ other }
 {
     pair.after.0 == other.after.0 && pair.met.0 == other.met.0
-}
-
-/// The place of the pair, which the set gains where it isn't there.
-fn place_in(pairs: &mut IndexSet<Context>, pair: Context) -> Result<usize, Memory>
-    ensures found { IfOk result (λ place. slice_get pairs.new.keys place ≡ Some pair) }
-    ensures keys { OnOk result ((pairs.new.keys ≡ pairs.old.keys) ⊎ (pairs.new.keys ≡ pairs.old.keys ++ pair ∷ [])) }
-{
-    let (place, _added) = pairs.insert_full(pair)?;
-    Ok(place)
 }

@@ -1,5 +1,5 @@
 //! What was kept of the first runs of a layer, and where the contexts lead on with them in front.
-ghost use Rattle.std.specs.Prelude.{◌≡◌, ◌<◌, ℕ, length, map, All, IfOk, OnOk};
+ghost use Rattle.std.specs.Prelude.{◌≡◌, ◌<◌, length, map, All, IfOk, OnOk};
 ghost use Rattle.std.specs.List.{list_any};
 ghost use Rattle.redundancy.specs.Drafts.{placed_by, IsChange, IsTakenIn, HaveRoom};
 
@@ -32,16 +32,14 @@ pub(crate) fn take_in(
     alloc: Global,
     draft: &mut Draft,
     stretches: &[Stretches],
-    places: &[usize],
     inner: &Sifted,
 ) -> Result<(), Memory>
-    requires stretches { HaveRoom (length places.now) stretches.now }
-    requires places { All (λ (p : ℕ). p < length inner.now.after.items) places.now }
-    ensures { OnOk result (IsTakenIn draft.old stretches.now places.now inner.now draft.new) }
+    requires { HaveRoom (length inner.now.after.items) stretches.now }
+    ensures { OnOk result (IsTakenIn draft.old stretches.now inner.now draft.new) }
 {
     draft.kept.extend_from_slice(inner.kept.as_slice())?;
     if is_some_kept(inner.kept.as_slice()) {
-        let change = change_of(alloc, stretches, places, inner.after.as_slice())?;
+        let change = change_of(alloc, stretches, inner.after.as_slice())?;
         draft.changes.push(change)?;
     }
     Ok(())
@@ -55,41 +53,29 @@ pub(crate) fn is_some_kept(kept: &[bool]) -> bool
 }
 
 /// Where each context leads on inside a run: for its stretches what is answered at the places of their pairs.
-fn change_of(
-    alloc: Global,
-    stretches: &[Stretches],
-    places: &[usize],
-    after: &[NodeId],
-) -> Result<Change, Memory>
-    requires stretches { HaveRoom (length places.now) stretches.now }
-    requires places { All (λ (p : ℕ). p < length after.now) places.now }
-    ensures { IfOk result (λ change. IsChange stretches.now places.now after.now change) }
+fn change_of(alloc: Global, stretches: &[Stretches], after: &[NodeId]) -> Result<Change, Memory>
+    requires { HaveRoom (length after.now) stretches.now }
+    ensures { IfOk result (λ change. IsChange stretches.now after.now change) }
 {
     let mut placed = SmallVec::with_capacity(alloc, stretches.len())?;
     for own in stretches {
-        let placed_own = placed_of(alloc, own.as_slice(), places, after)?;
-        placed.push(placed_own)?;
+        let placed_own = placed_of(alloc, own.as_slice(), after)?;
+        placed.push_reserved(placed_own);
     }
     Ok(Change { placed })
 }
 
 /// The same of one context.
-fn placed_of(
-    alloc: Global,
-    stretches: &[Stretch],
-    places: &[usize],
-    after: &[NodeId],
-) -> Result<PlacedIn, Memory>
-    requires stretches { All (λ s. s.place < length places.now) stretches.now }
-    requires places { All (λ (p : ℕ). p < length after.now) places.now }
-    ensures { IfOk result (λ placed. placed.items ≡ map (placed_by places.now after.now) stretches.now) }
+fn placed_of(alloc: Global, stretches: &[Stretch], after: &[NodeId]) -> Result<PlacedIn, Memory>
+    requires { All (λ s. s.place < length after.now) stretches.now }
+    ensures { IfOk result (λ placed. placed.items ≡ map (placed_by after.now) stretches.now) }
 {
     let mut placed = SmallVec::with_capacity(alloc, stretches.len())?;
     for stretch in stretches {
-        placed.push(Placed {
+        placed.push_reserved(Placed {
             span: stretch.span,
-            to: after[places[stretch.place]],
-        })?;
+            to: after[stretch.place],
+        });
     }
     Ok(placed)
 }

@@ -1,6 +1,7 @@
 //! What was worked out of blocks before.
 
 use crate::contexts::Contexts;
+use crate::run_contexts::Room;
 use razor_base::Memory;
 use redundancy_laws::Sifted;
 use std::alloc::Global;
@@ -13,10 +14,11 @@ pub(crate) struct Asked {
     pub contexts: Contexts,
 }
 
-/// What was kept of blocks for some contexts.
+/// What was kept of blocks for some contexts, and room that each run uses again.
 #[derive(Drop)]
 pub struct Memo {
     done: HashMap<Asked, Sifted>,
+    pub(crate) room: Room,
 }
 
 impl Memo {
@@ -31,6 +33,7 @@ impl Memo {
     {
         Memo {
             done: HashMap::new(alloc),
+            room: Room::new(alloc),
         }
     }
 

@@ -1,22 +1,23 @@
 //! Contexts below a span of values: the pairs of nodes to which they lead.
-ghost use Rattle.std.specs.Prelude.{◌≡◌, ◌≤◌, ◌++◌, length, map, IfOk, OnOk};
+ghost use Rattle.std.specs.Prelude.{◌≤◌, length, map, IfOk, OnOk};
 ghost use Rattle.node_store.specs.Levels.{HasField, top_of};
 ghost use Rattle.field_boxes.specs.Spans.{interval_of};
 ghost use Rattle.node_store.specs.Split.{to_left};
 ghost use Rattle.field_sets.specs.Fill.{Fill};
 ghost use Rattle.redundancy_laws.specs.Sifted.{AreContexts};
-ghost use Rattle.redundancy.specs.Stretches.{AreStretches, AreListed, context_of};
+ghost use Rattle.redundancy.specs.Stretches.{AreStretches, AreListed, Gains, context_of};
 
 use crate::contexts::Contexts;
+use crate::distinct::Distinct;
 use crate::sets::Sets;
 use field_boxes::Span;
-use node_store::Part;
+use node_store::{Part, Parts};
 use razor_base::Memory;
 use redundancy_laws::Context;
 use smallvec::SmallVec;
 use std::alloc::Global;
 
-/// Values of a field that lead to one pair of nodes, and the place of the pair in a list.
+/// Values of a field that lead to one pair of nodes, and the place of the pair among those that are known.
 #[derive(Clone, Copy, Debug, PartialEq, Eq)]
 pub(crate) struct Stretch {
     pub span: Span,
@@ -33,17 +34,35 @@ impl Default for Stretch {
 /// The stretches of one context.
 pub(crate) type Stretches = SmallVec<Stretch, 3>;
 
-/// The pairs to which the contexts lead inside a span, and for each context the stretches of the span.
+/// The pairs to which the contexts lead inside a span, each once, and for each context the stretches of the span.
 #[derive(Drop)]
 pub(crate) struct Below {
     pub pairs: Contexts,
     pub stretches: SmallVec<Stretches, 1>,
 }
 
+/// Room to list what lies below a run; what is in it is lost with the next one.
+#[derive(Drop)]
+pub(crate) struct Room {
+    pub parts: Parts,
+    pub distinct: Distinct,
+}
+
+impl Room {
+    /// Room in which nothing was listed.
+    pub fn new(alloc: Global) -> Room {
+        Room {
+            parts: SmallVec::new(alloc),
+            distinct: Distinct::new(alloc),
+        }
+    }
+}
+
 /// The pairs to which the contexts of the level lead inside the span.
 pub(crate) fn listed_below(
     alloc: Global,
     sets: &Sets,
+    room: &mut Room,
     level: &[u8],
     span: Span,
     contexts: &[Context],
@@ -54,40 +73,39 @@ pub(crate) fn listed_below(
     ensures { IfOk result (λ b. AreListed sets.now (interval_of span) contexts.now (length contexts.now) b.pairs.items b.stretches.items) }
 {
     let _level = level;
-    let mut pairs = SmallVec::new(alloc);
+    room.distinct.clear();
     let mut stretches = SmallVec::with_capacity(alloc, contexts.len())?;
-    let mut parts = SmallVec::new(alloc);
     for pair in contexts {
-        sets.put_parts(pair.after, pair.met, span, &mut parts)?;
-        let own = stretches_of(alloc, &mut pairs, span, parts.as_slice())?;
-        stretches.push(own)?;
+        sets.put_parts(pair.after, pair.met, span, &mut room.parts)?;
+        let own = stretches_of(alloc, &mut room.distinct, span, room.parts.as_slice())?;
+        stretches.push_reserved(own);
     }
+    let pairs = room.distinct.take(alloc)?;
     Ok(Below { pairs, stretches })
 }
 
-/// The stretches of one context by the parts of the span; the list gains a pair for each.
+/// The stretches of one context by the parts of the span, whose pairs come behind the others where they aren't known.
 fn stretches_of(
     alloc: Global,
-    pairs: &mut Contexts,
+    distinct: &mut Distinct,
     span: Span,
     parts: &[Part],
 ) -> Result<Stretches, Memory>
     requires { Fill span.lo span.hi (map to_left parts.now) }
-    ensures stretches { IfOk result (λ own. AreStretches span.lo (length pairs.old.items) parts.now own.items) }
-    ensures pairs { OnOk result (pairs.new.items ≡ pairs.old.items ++ map context_of parts.now) }
+    ensures stretches { IfOk result (λ own. AreStretches distinct.new span.lo parts.now own.items) }
+    ensures pairs { OnOk result (Gains (map context_of parts.now) (length parts.now) distinct.old distinct.new) }
 {
     let mut own = SmallVec::with_capacity(alloc, parts.len())?;
-    pairs.reserve(parts.len())?;
     let mut lo = span.lo;
     for part in parts {
-        own.push(Stretch {
-            span: Span { lo, hi: part.hi },
-            place: pairs.len(),
-        })?;
-        pairs.push(Context {
+        let place = distinct.place(Context {
             after: part.left,
             met: part.right,
         })?;
+        own.push_reserved(Stretch {
+            span: Span { lo, hi: part.hi },
+            place,
+        });
         lo = part.hi.saturating_add(1);
     }
     Ok(own)

@@ -2,12 +2,11 @@
 
 use crate::block::{Block, Run};
 use crate::blocks::Blocks;
-use crate::distinct::Distinct;
 use crate::last_entry::last;
 use crate::layer_answers::finished;
 use crate::layer_draft::{Draft, take_in};
 use crate::memo::{Asked, Memo};
-use crate::run_contexts::listed_below;
+use crate::run_contexts::{Below, listed_below};
 use crate::sequence_contexts::{before_answers, behind_cover};
 use crate::sets::Sets;
 use razor_base::Memory;
@@ -161,19 +160,18 @@ impl<'a> Blocks<'a> {
         ensures grows { Grows sets.old sets.new }
     {
         sets.is_store();
-        let below = listed_below(alloc, sets, level, run.span, contexts)?;
-        let distinct = Distinct::of(alloc, below.pairs.as_slice())?;
-        let Distinct { pairs, places } = distinct;
-        let stretches = below.stretches.as_slice();
+        let below = listed_below(alloc, sets, &mut memo.room, level, run.span, contexts)?;
+        let Below { pairs, stretches } = below;
+        let stretches = stretches.as_slice();
         let asked = Asked {
             number: run.block,
             contexts: pairs,
         };
         if let Some(known) = memo.get(&asked) {
-            return take_in(alloc, draft, stretches, places.as_slice(), known);
+            return take_in(alloc, draft, stretches, known);
         }
         let inner = self.sift(alloc, sets, memo, run.block, asked.contexts.as_slice())?;
-        take_in(alloc, draft, stretches, places.as_slice(), &inner)?;
+        take_in(alloc, draft, stretches, &inner)?;
         memo.keep(asked, inner)
     }
 }

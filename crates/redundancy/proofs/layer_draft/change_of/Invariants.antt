@@ -1,4 +1,4 @@
-use Rattle.std.proofs.Common.{◌≡◌, ◌<◌, ℕ, [], length}
+use Rattle.std.proofs.Common.{◌≡◌, ◌<◌, ◌≤◌, ℕ, [], length}
 use Rattle.std.specs.Prelude.{map, slice_index_or}
 use Rattle.smallvec.specs.SmallVec.{SmallVec}
 use Rattle.field_sets.specs.declared.placed.Placed.{Placed}
@@ -9,5 +9,6 @@ use Rattle.redundancy.proofs.layer_draft.change_of.Given as goal
 abbrev pub invariant-loop-own : goal.invariant-loop-own
 invariant-loop-own l = record {
   count : length l.placed.items ≡ l.own-index;
-  each : (c : ℕ) → c < l.own-index → slice_index_or (map (λ (own : SmallVec Placed). own.items) l.placed.items) c [] ≡ map (placed_by l.places l.after) (stretches_at l.stretches c);
+  room : length l.stretches ≤ l.placed.capacity;
+  each : (c : ℕ) → c < l.own-index → slice_index_or (map (λ (own : SmallVec Placed). own.items) l.placed.items) c [] ≡ map (placed_by l.after) (stretches_at l.stretches c);
 }

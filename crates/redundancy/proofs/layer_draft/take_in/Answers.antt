@@ -13,6 +13,6 @@ returns-in_ok-push c =
       more = λ any. (
         c.in_ok-change.change,
         c.in_ok-push.ensures.items,
-        subst (λ ids. IsChange c.args.stretches.now c.args.places.now ids c.in_ok-change.change) c.as_slice-then-is_some_kept.ensures.value c.in_ok-change.ensures,
+        subst (λ ids. IsChange c.args.stretches.now ids c.in_ok-change.change) c.as_slice-then-is_some_kept.ensures.value c.in_ok-change.ensures,
       );
     }

@@ -21,7 +21,7 @@ use Rattle.redundancy.proofs.BlocksStay.{blocks_stay, leads}
 use Rattle.redundancy.proofs.Recalled.{memo_stays}
 use Rattle.redundancy.proofs.Ends.{moved, two_end, before_pairs}
 use Rattle.redundancy.proofs.LayerDrafts.{draft_start, draft_next, draft_full, above_front, apart_front, end_inside, numbers_now, changes_now, layer_end}
-use Rattle.redundancy.proofs.Running.{keys_pairs, run_clause, lists_room, answers_room}
+use Rattle.redundancy.proofs.Running.{pairs_listed, run_clause, answers_room}
 use Rattle.redundancy.proofs.blocks.Blocks.+sift.Goals as goal
 
 pub sift-last-requires : goal.sift-last-requires
@@ -137,46 +137,37 @@ sift_layer-returns-clause-memo t c =
 
 pub sift_run-sift-requires : goal.sift_run-sift-requires
 sift_run-sift-requires t c =
-    let contexts = keys_pairs c.args.sets.now c.args.level.now (cover_at c.args.self.now.covers.items c.args.run.block).level.now c.args.run.span c.args.contexts.now c.in_ok-below.below.pairs.items c.as_slice.result.now
-    c.in_ok-distinct.distinct.pairs.items c.as_slice-2.result.now c.in_ok-below.below.stretches.items c.in_ok-distinct.distinct.places.items c.is_store.ensures c.requires.level c.requires.next c.requires.contexts
-    c.requires.inside c.in_ok-below.ensures c.as_slice.ensures c.in_ok-distinct.ensures c.as_slice-2.ensures in
+    let contexts = pairs_listed c.args.sets.now c.args.level.now (cover_at c.args.self.now.covers.items c.args.run.block).level.now c.args.run.span c.args.contexts.now c.in_ok-below.below.pairs.items c.as_slice.result.now
+    c.in_ok-below.below.stretches.items c.is_store.ensures c.requires.level c.requires.next c.requires.contexts c.requires.inside c.in_ok-below.ensures c.as_slice.ensures in
     (omega (arith, c.decreases), (c.requires.blocks, (c.requires.memo, (c.requires.block, contexts))))
 
 pub sift_run-take_in-requires : goal.sift_run-take_in-requires
 sift_run-take_in-requires t c =
-    let found = subst (λ k. IfSome k (λ s. IsAnswered c.args.sets.now c.args.self.now c.args.run.block c.in_ok-distinct.distinct.pairs.items s.now)) c.in-Some.is (c.get.ensures c.args.sets.now c.args.self.now c.requires.memo) in record {
-      stretches = lists_room c.args.sets.now c.args.run.span c.args.contexts.now c.in_ok-below.below.pairs.items c.as_slice.result.now c.in_ok-distinct.distinct.pairs.items c.in_ok-below.below.stretches.items c.as_slice-stretches.result.now
-          c.in_ok-distinct.distinct.places.items c.as_slice-in-Some.result.now c.as_slice.ensures c.as_slice-stretches.ensures c.as_slice-in-Some.ensures c.in_ok-below.ensures c.in_ok-distinct.ensures;
-      places = answers_room c.args.sets.now (cover_at c.args.self.now.covers.items c.args.run.block).level.now (rows_of c.args.self.now.blocks.items c.args.run.block) c.as_slice.result.now c.in_ok-distinct.distinct.pairs.items
-          c.in_ok-distinct.distinct.pairs.items c.in_ok-distinct.distinct.places.items c.as_slice-in-Some.result.now c.in-Some.known.now refl c.as_slice-in-Some.ensures c.in_ok-distinct.ensures found.sifted;
-    }
+    let found = subst (λ k. IfSome k (λ s. IsAnswered c.args.sets.now c.args.self.now c.args.run.block c.in_ok-below.below.pairs.items s.now)) c.in-Some.is (c.get.ensures c.args.sets.now c.args.self.now c.requires.memo) in
+    answers_room c.args.sets.now c.args.sets.now (cover_at c.args.self.now.covers.items c.args.run.block).level.now (rows_of c.args.self.now.blocks.items c.args.run.block) c.args.run.span c.args.contexts.now
+    c.in_ok-below.below.pairs.items c.in_ok-below.below.pairs.items c.in_ok-below.below.stretches.items c.as_slice-stretches.result.now c.in-Some.known.now refl c.as_slice-stretches.ensures c.in_ok-below.ensures found.sifted
 
 pub sift_run-returns-in-Some-clause-draft : goal.sift_run-returns-in-Some-clause-draft
 sift_run-returns-in-Some-clause-draft t c = λ base rows next above apart draft.
-    let found = subst (λ k. IfSome k (λ s. IsAnswered c.args.sets.now c.args.self.now c.args.run.block c.in_ok-distinct.distinct.pairs.items s.now)) c.in-Some.is (c.get.ensures c.args.sets.now c.args.self.now c.requires.memo) in
+    let found = subst (λ k. IfSome k (λ s. IsAnswered c.args.sets.now c.args.self.now c.args.run.block c.in_ok-below.below.pairs.items s.now)) c.in-Some.is (c.get.ensures c.args.sets.now c.args.self.now c.requires.memo) in
     on_ok_weaker c.take_in.result
     (λ taken.
     run_clause base c.args.sets.now c.args.sets.now c.args.level.now (cover_at c.args.self.now.covers.items c.args.run.block).level.now rows (rows_of c.args.self.now.blocks.items c.args.run.block) c.args.contexts.now
-    c.in_ok-below.below.pairs.items c.as_slice.result.now c.in_ok-distinct.distinct.pairs.items c.in_ok-distinct.distinct.pairs.items next c.args.run.span c.in_ok-below.below.stretches.items c.as_slice-stretches.result.now
-    c.in_ok-distinct.distinct.places.items c.as_slice-in-Some.result.now c.in-Some.known.now c.args.draft.now c.take_in.new.draft c.requires.next c.as_slice.ensures refl c.as_slice-stretches.ensures
-    c.as_slice-in-Some.ensures c.requires.level (stays c.args.sets.now) c.requires.contexts c.requires.inside c.in_ok-below.ensures c.in_ok-distinct.ensures found.sifted above apart draft taken)
+    c.in_ok-below.below.pairs.items c.in_ok-below.below.pairs.items next c.args.run.span c.in_ok-below.below.stretches.items c.as_slice-stretches.result.now c.in-Some.known.now c.args.draft.now c.take_in.new.draft
+    c.requires.next refl c.as_slice-stretches.ensures c.requires.level (stays c.args.sets.now) c.requires.contexts c.requires.inside c.in_ok-below.ensures found.sifted above apart draft taken)
     c.take_in.ensures
 
 pub sift_run-take_in-requires-2 : goal.sift_run-take_in-requires-2
-sift_run-take_in-requires-2 t c = record {
-  stretches = lists_room c.args.sets.now c.args.run.span c.args.contexts.now c.in_ok-below.below.pairs.items c.as_slice.result.now c.in_ok-distinct.distinct.pairs.items c.in_ok-below.below.stretches.items c.as_slice-stretches.result.now
-      c.in_ok-distinct.distinct.places.items c.as_slice-3.result.now c.as_slice.ensures c.as_slice-stretches.ensures c.as_slice-3.ensures c.in_ok-below.ensures c.in_ok-distinct.ensures;
-  places = answers_room c.sift.new.sets (cover_at c.args.self.now.covers.items c.args.run.block).level.now (rows_of c.args.self.now.blocks.items c.args.run.block) c.as_slice.result.now c.in_ok-distinct.distinct.pairs.items
-      c.as_slice-2.result.now c.in_ok-distinct.distinct.places.items c.as_slice-3.result.now c.in_ok-inner.inner c.as_slice-2.ensures c.as_slice-3.ensures c.in_ok-distinct.ensures c.in_ok-inner.ensures.sifted;
-}
+sift_run-take_in-requires-2 t c =
+    answers_room c.args.sets.now c.sift.new.sets (cover_at c.args.self.now.covers.items c.args.run.block).level.now (rows_of c.args.self.now.blocks.items c.args.run.block) c.args.run.span c.args.contexts.now
+    c.in_ok-below.below.pairs.items c.as_slice.result.now c.in_ok-below.below.stretches.items c.as_slice-stretches.result.now c.in_ok-inner.inner c.as_slice.ensures c.as_slice-stretches.ensures c.in_ok-below.ensures c.in_ok-inner.ensures.sifted
 
 pub sift_run-returns-clause-draft : goal.sift_run-returns-clause-draft
 sift_run-returns-clause-draft t c = λ base rows next above apart draft.
     on_ok c.keep.result
     (run_clause base c.args.sets.now c.sift.new.sets c.args.level.now (cover_at c.args.self.now.covers.items c.args.run.block).level.now rows (rows_of c.args.self.now.blocks.items c.args.run.block) c.args.contexts.now
-    c.in_ok-below.below.pairs.items c.as_slice.result.now c.in_ok-distinct.distinct.pairs.items c.as_slice-2.result.now next c.args.run.span c.in_ok-below.below.stretches.items c.as_slice-stretches.result.now
-    c.in_ok-distinct.distinct.places.items c.as_slice-3.result.now c.in_ok-inner.inner c.args.draft.now c.take_in-2.new.draft c.requires.next c.as_slice.ensures c.as_slice-2.ensures c.as_slice-stretches.ensures
-    c.as_slice-3.ensures c.requires.level c.in_ok-inner.ensures.grows c.requires.contexts c.requires.inside c.in_ok-below.ensures c.in_ok-distinct.ensures c.in_ok-inner.ensures.sifted above apart draft c.in_ok-take_in.ensures)
+    c.in_ok-below.below.pairs.items c.as_slice.result.now next c.args.run.span c.in_ok-below.below.stretches.items c.as_slice-stretches.result.now c.in_ok-inner.inner c.args.draft.now c.take_in-2.new.draft
+    c.requires.next c.as_slice.ensures c.as_slice-stretches.ensures c.requires.level c.in_ok-inner.ensures.grows c.requires.contexts c.requires.inside c.in_ok-below.ensures c.in_ok-inner.ensures.sifted above apart draft c.in_ok-take_in.ensures)
 
 pub sift_run-returns-clause-memo : goal.sift_run-returns-clause-memo
 sift_run-returns-clause-memo t c =
@@ -184,15 +175,14 @@ sift_run-returns-clause-memo t c =
     let rows = rows_of c.args.self.now.blocks.items c.args.run.block in
     let level = (cover_at covers c.args.run.block).level.now in
     let within = (c.requires.blocks.covered c.args.run.block c.requires.block).within in
-    let asked = keys_pairs c.args.sets.now c.args.level.now level c.args.run.span c.args.contexts.now c.in_ok-below.below.pairs.items c.as_slice.result.now
-    c.in_ok-distinct.distinct.pairs.items c.in_ok-distinct.distinct.pairs.items c.in_ok-below.below.stretches.items c.in_ok-distinct.distinct.places.items c.is_store.ensures c.requires.level c.requires.next c.requires.contexts
-    c.requires.inside c.in_ok-below.ensures c.as_slice.ensures c.in_ok-distinct.ensures refl in
+    let asked = pairs_listed c.args.sets.now c.args.level.now level c.args.run.span c.args.contexts.now c.in_ok-below.below.pairs.items c.in_ok-below.below.pairs.items
+    c.in_ok-below.below.stretches.items c.is_store.ensures c.requires.level c.requires.next c.requires.contexts c.requires.inside c.in_ok-below.ensures refl in
     c.keep.ensures c.sift.new.sets c.args.self.now c.in_ok-inner.ensures.memo
     (record {
       there = c.requires.block;
       within = within;
-      contexts = pairs-stay c.args.sets.now c.sift.new.sets level c.in_ok-distinct.distinct.pairs.items within c.in_ok-inner.ensures.grows asked;
-      sifted = subst (λ ps. IsSifted c.sift.new.sets level rows ps c.in_ok-inner.inner) c.as_slice-2.ensures c.in_ok-inner.ensures.sifted;
+      contexts = pairs-stay c.args.sets.now c.sift.new.sets level c.in_ok-below.below.pairs.items within c.in_ok-inner.ensures.grows asked;
+      sifted = subst (λ ps. IsSifted c.sift.new.sets level rows ps c.in_ok-inner.inner) c.as_slice.ensures c.in_ok-inner.ensures.sifted;
     })
 
 pub sift_two-behind_cover-requires : goal.sift_two-behind_cover-requires
@@ -253,9 +243,6 @@ sift_layer-returns-clause-grows t c = twice c.args.sets.now c.loop-run.sets c.fi
 
 pub sift_run-returns-in_err-below-clause-grows : goal.sift_run-returns-in_err-below-clause-grows
 sift_run-returns-in_err-below-clause-grows t c = stays c.args.sets.now
-
-pub sift_run-returns-in_err-distinct-clause-grows : goal.sift_run-returns-in_err-distinct-clause-grows
-sift_run-returns-in_err-distinct-clause-grows t c = stays c.args.sets.now
 
 pub sift_two-returns-in_err-later-clause-grows : goal.sift_two-returns-in_err-later-clause-grows
 sift_two-returns-in_err-later-clause-grows t c = twice c.args.sets.now c.behind_cover.new.sets c.sift.new.sets c.in_ok-behind.ensures.grows c.in_err-later.ensures.grows
