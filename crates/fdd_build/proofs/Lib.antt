@@ -7,3 +7,4 @@ pub mod Fills
 pub mod Forked
 pub mod Zeros
 pub mod Stays
+pub mod Copied

@@ -4,3 +4,4 @@ pub mod Overlay
 pub mod Nothing
 pub mod Lasting
 pub mod Builders
+pub mod Copies

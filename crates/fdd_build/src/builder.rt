@@ -18,7 +18,8 @@ use std::alloc::Global;
 pub struct Builder {
     pub(crate) laying: Laying,
     results: Results,
-    keeps: bool,
+    /// Whether what pairs came to stays for later layings.
+    pub(crate) keeps: bool,
 }
 
 impl Builder {

@@ -12,10 +12,14 @@ ghost use Rattle.fdd_build.specs.Rules.{decided, hides};
 use crate::boxes::boxed;
 use crate::builder::Builder;
 use crate::change::over_sets;
+use crate::copying::copied;
 use field_boxes::Rule;
 use node_store::{NodeId, Store};
 use razor_base::Memory;
 use std::alloc::Global;
+
+/// A half of so many rules, or more, is built in a store of its own.
+const LONG: usize = 4096;
 
 /// The diagram that answers the decision of the first rule that matches, or 0 where none does. It reads
 /// the fields of the order, and no others.
@@ -24,6 +28,7 @@ use std::alloc::Global;
 /// decide 0; it hides the rules after it, and costs a walk of its own at each halving.
 ///
 /// The store keeps what all its numbers mean, and may have gained nodes, also after a refusal of memory.
+#[cycle(halves)]
 pub fn build(
     alloc: Global,
     store: &mut Store,
@@ -36,11 +41,12 @@ pub fn build(
     ensures grows { Grows store.old store.new }
 {
     let mut builder = Builder::once(alloc, store, order)?;
-    let id = builder.build(alloc, store, order, rules)?;
+    let id = halved(alloc, &mut builder, store, order, rules)?;
     Ok(id)
 }
 
 /// The same, from the diagrams of the list's halves.
+#[cycle(halves)]
 pub(crate) fn halved(
     alloc: Global,
     builder: &mut Builder,
@@ -61,13 +67,39 @@ pub(crate) fn halved(
         [rule] => one_rule(alloc, store, order, nothing, rule),
         _ => {
             let (first, second) = rules.split_at(rules.len() / 2);
-            let upper = halved(alloc, builder, store, order, first)?;
-            let lower = halved(alloc, builder, store, order, second)?;
+            let upper = half(alloc, builder, store, order, first)?;
+            let lower = half(alloc, builder, store, order, second)?;
             let lower = hidden(alloc, store, order, first, lower)?;
             let id = builder.lay(alloc, store, order, upper, lower)?;
             Ok(id)
         }
     }
+}
+
+/// The diagram of a half. A long half is built in a store of its own, and only what its diagram reaches is copied: the
+/// rest is given back before the next half is built. A builder that keeps what pairs came to needs all in one store.
+#[cycle(halves)]
+fn half(
+    alloc: Global,
+    builder: &mut Builder,
+    store: &mut Store,
+    order: &[u8],
+    rules: &[Rule],
+) -> Result<NodeId, Memory>
+    requires order { IsLevel order.now }
+    requires builder { IsBuilderOf store.old order.now builder.old }
+    ensures level { IfOk result (λ id. level_of store.new id.0 ≡ order.now) }
+    ensures answers { IfOk result (λ id. (values : List ℕ) → AreValues order.now values → answer store.new id.0 values ≡ decided order.now rules.now values) }
+    ensures builder { IsBuilderOf store.new order.now builder.new }
+    ensures grows { Grows store.old store.new }
+{
+    if builder.keeps || rules.len() < LONG {
+        return halved(alloc, builder, store, order, rules);
+    }
+    let mut apart = Store::new(alloc);
+    let root = build(alloc, &mut apart, order, rules)?;
+    let id = copied(alloc, &apart, root, store)?;
+    Ok(id)
 }
 
 /// The diagram of one rule.

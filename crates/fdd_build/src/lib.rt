@@ -9,9 +9,10 @@
 //! Laying is one walk over pairs of nodes of one level, by [`fdd_apply::apply`], where a pair of which one
 //! node answers 0 everywhere is known at sight. So the cost of a walk goes by the pairs of nodes that meet,
 //! and not by the paths, of which there may be far more. `build` halves the list and lays the first half over the
-//! second, since each laying touches all that the two halves share, however small one of them is. A [`Builder`] builds the
-//! diagrams of lists one after another in one store, and keeps what pairs came to: a list that differs in a rule from
-//! an earlier one costs the pairs that are new.
+//! second, since each laying touches all that the two halves share, however small one of them is. A long half is built in
+//! a store of its own, of which only the diagram is copied. A [`Builder`] builds the diagrams of lists one after another
+//! in one store, and keeps what pairs came to: a list that differs in a rule from an earlier one costs the pairs that are
+//! new.
 //!
 //! ```text
 //! let listed = build(alloc, &mut store, &stated_order(), &rules)?;
@@ -26,6 +27,7 @@
 mod boxes;
 mod builder;
 mod change;
+mod copying;
 mod filling;
 mod fork;
 mod halving;

@@ -1,5 +1,0 @@
-use Rattle.std.proofs.Common.{length}
-use Rattle.fdd_build.proofs.halving.+halved.Given as goal
-
-abbrev pub decreases-halved : goal.decreases-halved
-decreases-halved l = length l.rules.now
