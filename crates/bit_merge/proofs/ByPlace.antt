@@ -1,7 +1,15 @@
 -- Pairs by their places.
-use Rattle.std.specs.Prelude.{◌≡◌, ℕ, ◌<◌, ◌≤◌, List, length, slice_index_or, set, ◌⊎◌, remove}
+use Rattle.std.specs.Prelude.{◌≡◌, ℕ, ◌<◌, ◌≤◌, List, length, slice_index_or, set, ◌⊎◌, Option, remove}
 use Rattle.ternary_words.specs.Table.{Entry}
-use Rattle.bit_merge.specs.Merge.{CanJoin, joint}
+use Rattle.bit_merge.specs.Merge.{CanJoin, Pair, joint}
+
+-- what an entry decides
+abbrev pub Decision : Type 0
+Decision = Option (List ℕ)
+
+-- two of a table and what stands around them
+abbrev pub pair : List Entry → Entry → List Entry → Entry → List Entry → Pair
+pair before x between y after = record { before = before; first = x; between = between; second = y; after = after }
 
 -- the entries at two places, which can be joined, and all between decide one thing (d stands in past the last entry)
 pub record ArePlaces (entries : List Entry) (d : Entry) (i j : ℕ) : Type 0 where

@@ -76,38 +76,22 @@ at_which slots place word k x within h =
       | inr n ↦ inr (n, sym (at_other slots place word k n) ∙ h)
     ]
 
--- where the partner stands before the word in hand
-least_before : (slots : Slots) (taken place p : ℕ) (word : Word) → place < length slots → place ≤ taken → p < place → AreDone slots (suc taken) →
-    ((k : ℕ) (b : Word) → at slots k ≡ Some b → IsPartner word b → p ≤ k) →
-    (k l : ℕ) (x y : Word) → k < l → CanJoin (word_of x) (word_of y) →
-    ((k ≡ place) × (word ≡ x)) ⊎ ((k ≡ place → ⊥) × (at slots k ≡ Some x)) → ((l ≡ place) × (word ≡ y)) ⊎ ((l ≡ place → ⊥) × (at slots l ≡ Some y)) →
-    (p < k) ⊎ ((p ≡ k) × (place ≤ l))
-least_before slots taken place p word within low less clear first k l x y rise can (inl h) g = inl (omega (arith, h.0, less))
-least_before slots taken place p word within low less clear first k l x y rise can (inr h) (inl g) =
-    let partner : IsPartner word x = can-join-comm (word_of x) (word_of word) (subst (λ (z : Word). CanJoin (word_of x) (word_of z)) (sym g.1) can) in
-    elim (cases_lt p k) [ inl m ↦ inl m | inr m ↦ inr (omega (arith, m, first k x h.1 partner), omega (arith, g.0)) ]
-least_before slots taken place p word within low less clear first k l x y rise can (inr h) (inr g) =
-    elim (cases_lt taken k) [
-      | inl m ↦ inl (omega (arith, m, low, less))
-      | inr m ↦ let e = clear k l x y (omega (arith, m)) h.1 g.1 can in absurd (omega (arith, e, rise))
-    ]
+-- a word that stands there and can be joined with the one in hand
+record IsPartnerAt (slots : Slots) (word : Word) (k : ℕ) (x : Word) : Type 0 where
+  stands : at slots k ≡ Some x
+  partner : IsPartner word x
 
-least_behind : (slots : Slots) (taken place p : ℕ) (word : Word) → place < length slots → place ≤ taken → place < p → AreDone slots (suc taken) →
-    ((k : ℕ) (b : Word) → at slots k ≡ Some b → IsPartner word b → p ≤ k) →
-    (k l : ℕ) (x y : Word) → k < l → CanJoin (word_of x) (word_of y) →
+-- two words of the whole that can be joined: one is in hand, or the first stands behind the place that was taken
+which_pair : (slots : Slots) (taken place : ℕ) (word : Word) → AreDone slots (suc taken) → (k l : ℕ) (x y : Word) → (k ≡ l → ⊥) → CanJoin (word_of x) (word_of y) →
     ((k ≡ place) × (word ≡ x)) ⊎ ((k ≡ place → ⊥) × (at slots k ≡ Some x)) → ((l ≡ place) × (word ≡ y)) ⊎ ((l ≡ place → ⊥) × (at slots l ≡ Some y)) →
-    (place < k) ⊎ ((place ≡ k) × (p ≤ l))
-least_behind slots taken place p word within low more clear first k l x y rise can (inl h) (inl g) = absurd (omega (arith, h.0, g.0, rise))
-least_behind slots taken place p word within low more clear first k l x y rise can (inl h) (inr g) =
-    inr (sym h.0, first l y g.1 (subst (λ (z : Word). CanJoin (word_of z) (word_of y)) (sym h.1) can))
-least_behind slots taken place p word within low more clear first k l x y rise can (inr h) (inl g) =
-    let partner : IsPartner word x = can-join-comm (word_of x) (word_of word) (subst (λ (z : Word). CanJoin (word_of x) (word_of z)) (sym g.1) can) in
-    absurd (omega (arith, first k x h.1 partner, g.0, rise, more))
-least_behind slots taken place p word within low more clear first k l x y rise can (inr h) (inr g) =
-    elim (cases_lt taken k) [
-      | inl m ↦ inl (omega (arith, m, low))
-      | inr m ↦ let e = clear k l x y (omega (arith, m)) h.1 g.1 can in absurd (omega (arith, e, rise))
-    ]
+    ((k ≡ place) × IsPartnerAt slots word l y) ⊎ (((l ≡ place) × IsPartnerAt slots word k x) ⊎ (taken < k))
+which_pair slots taken place word clear k l x y other can (inl h) (inl g) = absurd (other (h.0 ∙ sym g.0))
+which_pair slots taken place word clear k l x y other can (inl h) (inr g) =
+    inl (h.0, record { stands = g.1; partner = subst (λ (z : Word). CanJoin (word_of z) (word_of y)) (sym h.1) can })
+which_pair slots taken place word clear k l x y other can (inr h) (inl g) =
+    inr (inl (g.0, record { stands = h.1; partner = can-join-comm (word_of x) (word_of word) (subst (λ (z : Word). CanJoin (word_of x) (word_of z)) (sym g.1) can) }))
+which_pair slots taken place word clear k l x y other can (inr h) (inr g) =
+    elim (cases_lt taken k) [ inl m ↦ inr (inr m) | inr m ↦ absurd (other (clear k l x y (omega (arith, m)) h.1 g.1 can)) ]
 
 -- a place that is empty stays as it is without its word
 unset : (slots : Slots) (place : ℕ) (word : Word) → at slots place ≡ None → set (whole slots place word) place None ≡ slots
@@ -125,7 +109,12 @@ held_before start taken slots place word next p b h less here can first is =
       here = at_other slots place word p other ∙ here;
       there = at_hand slots place word within;
       joinable = can-join-comm (word_of word) (word_of b) can;
-      least = λ k l x y rise e f j. least_before slots taken place p word within h.low less h.clear first k l x y rise j (at_which slots place word k x within e) (at_which slots place word l y within f);
+      least = λ k l x y rise e f j.
+          elim (which_pair slots taken place word h.clear k l x y (λ same. omega (arith, same, rise)) j (at_which slots place word k x within e) (at_which slots place word l y within f)) [
+            | inl r ↦ inl (omega (arith, r.0, less))
+            | inr (inl r) ↦ let le = first k x r.1.stands r.1.partner in elim (cases_lt p k) [ inl m ↦ inl m | inr m ↦ inr (omega (arith, m, le), omega (arith, r.0)) ]
+            | inr (inr r) ↦ inl (omega (arith, r, h.low, less))
+          ];
     } in
     let turned : place ≡ p → ⊥ = λ e. omega (arith, e, less) in
     let there : at (set W p (Some next)) place ≡ Some word = get_or-set_other W p place (Some next) None turned ∙ at_hand slots place word within in
@@ -154,7 +143,12 @@ held_behind start taken slots place word next p b h more here can first is =
       here = at_hand slots place word within;
       there = at_other slots place word p other ∙ here;
       joinable = can;
-      least = λ k l x y rise e f j. least_behind slots taken place p word within h.low more h.clear first k l x y rise j (at_which slots place word k x within e) (at_which slots place word l y within f);
+      least = λ k l x y rise e f j.
+          elim (which_pair slots taken place word h.clear k l x y (λ same. omega (arith, same, rise)) j (at_which slots place word k x within e) (at_which slots place word l y within f)) [
+            | inl r ↦ inr (sym r.0, first l y r.1.stands r.1.partner)
+            | inr (inl r) ↦ let le = first k x r.1.stands r.1.partner in absurd (omega (arith, le, r.0, rise, more))
+            | inr (inr r) ↦ inl (omega (arith, r, h.low))
+          ];
     } in
     let again : set W place (Some next) ≡ set slots place (Some next) = set-set slots place (Some word) (Some next) in
     let there : at (set W place (Some next)) p ≡ Some b = get_or-set_other W place p (Some next) None other ∙ at_other slots place word p other ∙ here in
@@ -187,24 +181,18 @@ held-next start taken slots now place word next p h j =
     ]
 
 -- put down, where it has no partner
-down_step : (slots : Slots) (taken place : ℕ) (word : Word) → place ≤ taken → AreDone slots (suc taken) → IsLeast slots (IsPartner word) None →
-    (i j : ℕ) (a b : Word) → i < suc taken → CanJoin (word_of a) (word_of b) →
-    ((i ≡ place) × (word ≡ a)) ⊎ ((i ≡ place → ⊥) × (at slots i ≡ Some a)) → ((j ≡ place) × (word ≡ b)) ⊎ ((j ≡ place → ⊥) × (at slots j ≡ Some b)) → i ≡ j
-down_step slots taken place word low clear none i j a b less can (inl h) (inl g) = h.0 ∙ sym g.0
-down_step slots taken place word low clear none i j a b less can (inl h) (inr g) =
-    absurd (none j b g.1 (subst (λ (z : Word). CanJoin (word_of z) (word_of b)) (sym h.1) can))
-down_step slots taken place word low clear none i j a b less can (inr h) (inl g) =
-    absurd (none i a h.1 (can-join-comm (word_of a) (word_of word) (subst (λ (z : Word). CanJoin (word_of a) (word_of z)) (sym g.1) can)))
-down_step slots taken place word low clear none i j a b less can (inr h) (inr g) = clear i j a b less h.1 g.1 can
-
 pub held-down : (start : Slots) (taken : ℕ) (slots : Slots) (place : ℕ) (word : Word) → IsHeld start taken slots place word → IsLeast slots (IsPartner word) None →
     AreDone (set slots place (Some word)) (suc taken)
 held-down start taken slots place word h none i j a b less e f can =
     let within : place < length slots = omega (arith, h.low, h.within, h.count) in
-    down_step slots taken place word h.low h.clear none i j a b less can (at_which slots place word i a within e) (at_which slots place word j b within f)
-
-pub none-alike : (slots : Slots) (word : Word) → IsLeast slots (IsPartner word) None → (k : ℕ) (b : Word) → at slots k ≡ Some b → IsWord word.mask word.value b → ⊥
-none-alike slots word none k b e is = none k b e (alike-partner word b is)
+    elim (cases_eq i j) [
+      | inl same ↦ same
+      | inr other ↦ elim (which_pair slots taken place word h.clear i j a b other can (at_which slots place word i a within e) (at_which slots place word j b within f)) [
+        | inl r ↦ absurd (none j b r.1.stands r.1.partner)
+        | inr (inl r) ↦ absurd (none i a r.1.stands r.1.partner)
+        | inr (inr r) ↦ absurd (omega (arith, r, less))
+      ]
+    ]
 
 -- a taken word leaves fewer
 pub fewer-left : (slots : Slots) (p : ℕ) (b : Word) → at slots p ≡ Some b → length (entries_of None (set slots p None)) < length (entries_of None slots)
@@ -224,26 +212,18 @@ put-back slots now n word e h = ap (λ l. set l n (Some word)) e ∙ set-set slo
 pub done-fewer : (slots : Slots) (n m : ℕ) → m ≤ n → AreDone slots n → AreDone slots m
 done-fewer slots n m le done i j a b less h k c = done i j a b (omega (arith, less, le)) h k c
 
--- the same of the words once the one in hand is put down
-pub held-leads : (start : Slots) (taken : ℕ) (slots now : Slots) (place : ℕ) (word : Word) → IsHeld start taken slots place word → now ≡ set slots place (Some word) → LeadTo start now
-held-leads start taken slots now place word h e = subst (LeadTo start) (sym e) h.leads
-
-pub held-done : (start : Slots) (taken : ℕ) (slots now : Slots) (place : ℕ) (word : Word) → IsHeld start taken slots place word → IsLeast slots (IsPartner word) None →
-    now ≡ set slots place (Some word) → AreDone now (suc taken)
-held-done start taken slots now place word h none e = subst (λ l. AreDone l (suc taken)) (sym e) (held-down start taken slots place word h none)
-
 pub joining-fewer : (slots now : Slots) (word next : Word) (p : ℕ) → IsJoining slots now word next p → length (entries_of None now) < length (entries_of None slots)
 joining-fewer slots now word next p j = subst (λ l. length (entries_of None l) < length (entries_of None slots)) (sym j.taken) (fewer-left slots p j.partner j.here)
 
 -- where the word in hand has no partner, it stands nowhere, and may be put down
 pub stands-nowhere : (slots into : Slots) (word : Word) → IsLeast slots (IsPartner word) None → into ≡ slots → (k : ℕ) (b : Word) → at into k ≡ Some b → IsWord word.mask word.value b → ⊥
-stands-nowhere slots into word none e k b h is = none-alike slots word none k b (ap (λ l. at l k) (sym e) ∙ h) is
+stands-nowhere slots into word none e k b h is = none k b (ap (λ l. at l k) (sym e) ∙ h) (alike-partner word b is)
 
 pub settled-done : (start : Slots) (taken : ℕ) (slots into now : Slots) (place : ℕ) (word : Word) → IsHeld start taken slots place word → IsLeast slots (IsPartner word) None →
     into ≡ slots → now ≡ set into place (Some word) → AreDone now (suc taken)
 settled-done start taken slots into now place word h none e f =
-    held-done start taken slots now place word h none (f ∙ ap (λ l. set l place (Some word)) e)
+    subst (λ l. AreDone l (suc taken)) (sym (f ∙ ap (λ l. set l place (Some word)) e)) (held-down start taken slots place word h none)
 
 pub settled-leads : (start : Slots) (taken : ℕ) (slots into now : Slots) (place : ℕ) (word : Word) → IsHeld start taken slots place word →
     into ≡ slots → now ≡ set into place (Some word) → LeadTo start now
-settled-leads start taken slots into now place word h e f = held-leads start taken slots now place word h (f ∙ ap (λ l. set l place (Some word)) e)
+settled-leads start taken slots into now place word h e f = subst (LeadTo start) (sym (f ∙ ap (λ l. set l place (Some word)) e)) h.leads

@@ -20,6 +20,5 @@ pub mod Leasts
 pub mod Held
 pub mod Numbered
 pub mod Parts
-pub mod Promised
 pub mod Indexed
 pub mod Filled

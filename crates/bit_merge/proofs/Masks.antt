@@ -51,11 +51,9 @@ masks-stars (m ∷ ms) (x ∷ xs) (y ∷ ys) l k = (star_same m x y, masks-stars
 masks-stars ms xs ys l k = absurd (omega arith)
 
 same_bits : (m a b : Bool) → same_trit (trit m a) (trit m b) ≡ not (m && not (beq a b))
-same_bits true true true = refl
 same_bits true true false = refl
 same_bits true false true = refl
-same_bits true false false = refl
-same_bits false a b = refl
+same_bits m a b = refl
 
 count_step : (t : Bool) (n k : ℕ) → n ≡ k → cond (not t) n (suc n) ≡ cond t (suc k) k
 count_step true n k e = ap suc e
@@ -70,11 +68,9 @@ differing-ones (m ∷ ms) (x ∷ xs) (y ∷ ys) l k =
 differing-ones ms xs ys l k = absurd (omega arith)
 
 join_bits : (m a b : Bool) → cond (same_trit (trit m a) (trit m b)) (trit m a) (let s : Trit = trit false a in s) ≡ trit (m && not (m && not (beq a b))) a
-join_bits true true true = refl
 join_bits true true false = refl
 join_bits true false true = refl
-join_bits true false false = refl
-join_bits false a b = refl
+join_bits m a b = refl
 
 pub join-masks : (ms xs ys : List Bool) → length ms ≡ length xs → length ms ≡ length ys → join (trits ms xs) (trits ms ys) ≡ trits (without_bits ms (unlike_bits ms xs ys)) xs
 join-masks [] xs ys l k = refl

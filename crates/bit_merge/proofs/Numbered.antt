@@ -1,14 +1,13 @@
 -- The entries of words, with the number of their decision.
-use Rattle.std.proofs.Common.{◌≡◌, ◌∷◌, ◌++◌, ℕ, ◌+◌, ◌<◌, List, [], length, take, get_or, ap, refl, sym, ◌∙◌, arith, Option, Some, None, zero, suc}
+use Rattle.std.proofs.Common.{◌≡◌, ◌∷◌, ◌++◌, ℕ, ◌+◌, ◌<◌, [], length, take, get_or, ap, refl, sym, ◌∙◌, Option, Some, None}
 use Rattle.std.proofs.lemmas.List.{take_more}
 use Rattle.ternary_words.specs.declared.word.Word.{Word}
-use Rattle.ternary_words.specs.declared.entry.Entry.{Entry}
 use Rattle.bit_merge.specs.Slots.{Slots, numbered_entries}
 
 pub numbered-append : (decision : ℕ) (xs ys : Slots) → numbered_entries decision (xs ++ ys) ≡ numbered_entries decision xs ++ numbered_entries decision ys
 numbered-append decision [] ys = refl
 numbered-append decision (None ∷ xs) ys = numbered-append decision xs ys
-numbered-append decision (Some w ∷ xs) ys = let e : Entry = record { word = w; decision = decision } in ap (λ l. e ∷ l) (numbered-append decision xs ys)
+numbered-append decision (Some w ∷ xs) ys = cc (numbered-append decision xs ys)
 
 -- the next place
 pub numbered-more : (decision : ℕ) (xs : Slots) (i : ℕ) (s : Option Word) → i < length xs → s ≡ get_or xs i s →
@@ -16,9 +15,3 @@ pub numbered-more : (decision : ℕ) (xs : Slots) (i : ℕ) (s : Option Word) �
 numbered-more decision xs i s h e =
     ap (λ t. numbered_entries decision (take i xs) ++ numbered_entries decision (t ∷ [])) e
     ∙ sym (numbered-append decision (take i xs) (get_or xs i s ∷ [])) ∙ ap (numbered_entries decision) (sym (take_more xs i s h))
-
--- a place within the list needs no item to stand in
-pub item-at : {A : Type 0} (xs : List (Option A)) (i : ℕ) (s : Option A) → i < length xs → s ≡ get_or xs i s → get_or xs i None ≡ s
-item-at [] i s h e = absurd (omega (arith, h))
-item-at (x ∷ xs) zero s h e = sym e
-item-at (x ∷ xs) (suc i) s h e = item-at xs i s (omega (arith, h)) e

@@ -10,16 +10,15 @@ pub joined-shorter : (entries : List Entry) (p : Pair) → IsPair entries p → 
 joined-shorter entries p h =
     rw h.parts (simp length-append (omega arith))
 
-some_step : (bound : ℕ) (entries : List Entry) → length entries ≤ bound →
-    ((es : List Entry) → length es < length entries → (n : ℕ) × (out : List Entry) × MergedIn n es out) →
+some_step : (entries : List Entry) → ((es : List Entry) → length es < length entries → (n : ℕ) × (out : List Entry) × MergedIn n es out) →
     IsClosed entries ⊎ ((p : Pair) × IsFirstPair entries p) → (n : ℕ) × (out : List Entry) × MergedIn n entries out
-some_step bound entries l f (inl closed) = (zero, entries, (closed, refl))
-some_step bound entries l f (inr r) =
+some_step entries f (inl closed) = (zero, entries, (closed, refl))
+some_step entries f (inr r) =
     let m = f (joined r.0) (omega (arith, joined-shorter entries r.0 r.1.pair)) in (suc m.0, m.1, (r.0, r.1, m.2))
 
 some_below : (bound : ℕ) (entries : List Entry) → length entries ≤ bound → (n : ℕ) × (out : List Entry) × MergedIn n entries out
-some_below zero entries l = some_step zero entries l (λ es s. absurd (omega (arith, l, s))) (first_or entries)
-some_below (suc bound) entries l = some_step (suc bound) entries l (λ es s. some_below bound es (omega (arith, l, s))) (first_or entries)
+some_below zero entries l = some_step entries (λ es s. absurd (omega (arith, l, s))) (first_or entries)
+some_below (suc bound) entries l = some_step entries (λ es s. some_below bound es (omega (arith, l, s))) (first_or entries)
 
 -- each table has a merged one
 pub some-merged : (entries : List Entry) → (n : ℕ) × (out : List Entry) × MergedIn n entries out

@@ -1,18 +1,10 @@
 -- Pairs by their places.
-use Rattle.std.proofs.Common.{◌≡◌, ◌∷◌, ◌++◌, ◌≤◌, ◌<◌, ◌+◌, ℕ, List, [], length, ap, refl, sym, ◌∙◌, subst, arith, Option, set, suc, zero, slice_index_or, remove, length-append, append_assoc}
+use Rattle.std.proofs.Common.{◌≡◌, ◌∷◌, ◌++◌, ◌≤◌, ◌<◌, ◌+◌, ℕ, List, [], length, ap, refl, sym, ◌∙◌, subst, arith, set, suc, zero, slice_index_or, remove, take, drop, length-append, append_assoc}
+use Rattle.std.proofs.lemmas.List.{get_or_at, length-take-le, take-append-drop}
+use Rattle.std.proofs.Math.Seq.{drop-cons, get_or-append_seam}
 use Rattle.ternary_words.specs.Table.{Entry}
 use Rattle.bit_merge.specs.Merge.{CanJoin, AllDecide, Pair, IsPair, first_place, second_place, joint, joined}
-use Rattle.bit_merge.proofs.ByPlace.{ArePlaces}
-
-abbrev Decision : Type 0
-Decision = Option (List ℕ)
-
-abbrev pair : List Entry → Entry → List Entry → Entry → List Entry → Pair
-pair before x between y after = record { before = before; first = x; between = between; second = y; after = after }
-
-seam_at : (between : List Entry) (y : Entry) (after : List Entry) (d : Entry) → slice_index_or (between ++ (y ∷ after)) (length between) d ≡ y
-seam_at [] y after d = refl
-seam_at (b ∷ between) y after d = seam_at between y after d
+use Rattle.bit_merge.proofs.ByPlace.{Decision, pair, ArePlaces}
 
 one_at : (c : Decision) (between : List Entry) (y : Entry) (after : List Entry) (d : Entry) → AllDecide c between → y.decision ≡ c →
     (k : ℕ) → k ≤ length between → (slice_index_or (between ++ (y ∷ after)) k d).decision ≡ c
@@ -38,10 +30,6 @@ nearer : (w : Entry) (entries : List Entry) (i j : ℕ) (d : Entry) → ArePlace
 nearer w entries i j d h =
     record { less = omega (arith, h.less); within = omega (arith, h.within); one = λ k more less. h.one (suc k) (omega (arith, more)) (omega (arith, less)); joinable = h.joinable }
 
-seam_within : (between : List Entry) (y : Entry) (after : List Entry) → length between < length (between ++ (y ∷ after))
-seam_within [] y after = omega arith
-seam_within (b ∷ between) y after = omega (arith, seam_within between y after)
-
 places_of : (before : List Entry) (x : Entry) (between : List Entry) (y : Entry) (after : List Entry) (d : Entry) (j : ℕ) → j ≡ suc (length before + length between) →
     AllDecide x.decision between → y.decision ≡ x.decision → CanJoin x.word y.word → ArePlaces (before ++ (x ∷ between ++ (y ∷ after))) d (length before) j
 places_of before x between y after d zero e all is can = absurd (omega (arith, e))
@@ -49,9 +37,9 @@ places_of [] x between y after d (suc j) e all is can =
     let f : j ≡ length between = omega (arith, e) in
     subst (λ k. ArePlaces (x ∷ between ++ (y ∷ after)) d 0 (suc k)) (sym f) record {
       less = omega arith;
-      within = omega (arith, seam_within between y after);
+      within = omega (arith, length-append between (y ∷ after));
       one = one_first x.decision x (between ++ (y ∷ after)) (length between) d (one_at x.decision between y after d all is);
-      joinable = subst (λ (u : Entry). CanJoin x.word u.word) (sym (seam_at between y after d)) can;
+      joinable = subst (λ (u : Entry). CanJoin x.word u.word) (sym (get_or-append_seam between y after d)) can;
     }
 places_of (b ∷ before) x between y after d (suc j) e all is can =
     further b (before ++ (x ∷ between ++ (y ∷ after))) (length before) j d (places_of before x between y after d j (omega (arith, e)) all is can)
@@ -61,61 +49,39 @@ pair-places entries p d h =
     subst (λ es. ArePlaces es d (first_place p) (second_place p)) (sym h.parts)
     (places_of p.before p.first p.between p.second p.after d (second_place p) refl h.between h.second h.joinable)
 
--- the entries up to a place, of which all decide one thing
-record Upto (c : Decision) (entries : List Entry) (d : Entry) (n : ℕ) : Type 0 where
-  between : List Entry
-  second : Entry
-  after : List Entry
-  parts : entries ≡ between ++ (second ∷ after)
-  long : length between ≡ n
-  all : AllDecide c between
-  at : slice_index_or entries n d ≡ second
+-- a list is parted at a place
+pub cut : (entries : List Entry) (k : ℕ) (d : Entry) → k < length entries → entries ≡ take k entries ++ (slice_index_or entries k d ∷ drop (suc k) entries)
+cut entries k d less = sym (take-append-drop k entries) ∙ ap (λ l. take k entries ++ l) (drop-cons entries k d less)
 
-upto_step : (c : Decision) (x : Entry) (entries : List Entry) (d : Entry) (n : ℕ) → x.decision ≡ c → Upto c entries d n → Upto c (x ∷ entries) d (suc n)
-upto_step c x entries d n e u = record {
-  between = x ∷ u.between;
-  second = u.second;
-  after = u.after;
-  parts = ap (λ l. x ∷ l) u.parts;
-  long = ap suc u.long;
-  all = (e, u.all);
-  at = u.at;
-}
+all_upto : (c : Decision) (entries : List Entry) (d : Entry) (n : ℕ) → n < length entries → ((k : ℕ) → k < n → (slice_index_or entries k d).decision ≡ c) → AllDecide c (take n entries)
+all_upto c [] d n less f = absurd (omega (arith, less))
+all_upto c (x ∷ entries) d zero less f = tt
+all_upto c (x ∷ entries) d (suc n) less f = (f 0 (omega arith), all_upto c entries d n (omega (arith, less)) (λ k small. f (suc k) (omega (arith, small))))
 
-upto : (c : Decision) (entries : List Entry) (d : Entry) (n : ℕ) → n < length entries → ((k : ℕ) → k ≤ n → (slice_index_or entries k d).decision ≡ c) → Upto c entries d n
-upto c [] d n less f = absurd (omega (arith, less))
-upto c (x ∷ entries) d zero less f = record { between = []; second = x; after = entries; parts = refl; long = refl; all = tt; at = refl }
-upto c (x ∷ entries) d (suc n) less f =
-    upto_step c x entries d n (f 0 (omega arith)) (upto c entries d n (omega (arith, less)) (λ k small. f (suc k) (omega (arith, small))))
-
--- a pair at these places
-abbrev At : List Entry → ℕ → ℕ → Type 0
-At entries i j = (p : Pair) × IsPair entries p × (first_place p ≡ i) × (second_place p ≡ j)
-
-at_step : (w : Entry) (entries : List Entry) (i j : ℕ) → At entries i j → At (w ∷ entries) (suc i) (suc j)
-at_step w entries i j h = (
-  pair (w ∷ h.0.before) h.0.first h.0.between h.0.second h.0.after,
-  record { parts = ap (λ l. w ∷ l) h.1.parts; between = h.1.between; second = h.1.second; joinable = h.1.joinable },
-  ap suc h.2,
-  omega (arith, h.3),
-)
-
-pub places-pair : (entries : List Entry) (d : Entry) (i j : ℕ) → ArePlaces entries d i j → At entries i j
+-- the pair at two places
+pub places-pair : (entries : List Entry) (d : Entry) (i j : ℕ) → ArePlaces entries d i j → (p : Pair) × IsPair entries p × (first_place p ≡ i) × (second_place p ≡ j)
 places-pair [] d i j h = absurd (omega (arith, h.within))
 places-pair (x ∷ entries) d i zero h = absurd (omega (arith, h.less))
 places-pair (x ∷ entries) d zero (suc j) h =
-    let u = upto x.decision entries d j (omega (arith, h.within)) (λ k small. h.one (suc k) (omega arith) (omega (arith, small))) in (
-      pair [] x u.between u.second u.after,
+    let y = slice_index_or entries j d in
+    let within : j < length entries = omega (arith, h.within) in (
+      pair [] x (take j entries) y (drop (suc j) entries),
       record {
-        parts = ap (λ l. x ∷ l) u.parts;
-        between = u.all;
-        second = ap (λ (v : Entry). v.decision) (sym u.at) ∙ h.one (suc j) (omega arith) (omega arith);
-        joinable = subst (λ (v : Entry). CanJoin x.word v.word) u.at h.joinable;
+        parts = ap (λ l. x ∷ l) (cut entries j d within);
+        between = all_upto x.decision entries d j within (λ k small. h.one (suc k) (omega arith) (omega (arith, small)));
+        second = h.one (suc j) (omega arith) (omega arith);
+        joinable = h.joinable;
       },
       refl,
-      omega (arith, u.long),
+      omega (arith, length-take-le j entries, within),
     )
-places-pair (x ∷ entries) d (suc i) (suc j) h = at_step x entries i j (places-pair entries d i j (nearer x entries i j d h))
+places-pair (x ∷ entries) d (suc i) (suc j) h =
+    let r = places-pair entries d i j (nearer x entries i j d h) in (
+      pair (x ∷ r.0.before) r.0.first r.0.between r.0.second r.0.after,
+      record { parts = ap (λ l. x ∷ l) r.1.parts; between = r.1.between; second = r.1.second; joinable = r.1.joinable },
+      ap suc r.2,
+      omega (arith, r.3),
+    )
 
 -- joining by places
 pub removed : (between : List Entry) (y : Entry) (after : List Entry) → remove (between ++ (y ∷ after)) (length between) ≡ between ++ after
@@ -130,23 +96,18 @@ joined_at [] x between y after d (suc j) h e =
     ap (λ l. e ∷ l) (sym (removed between y after) ∙ ap (remove (between ++ (y ∷ after))) f)
 joined_at (b ∷ before) x between y after d (suc j) h e = ap (λ l. b ∷ l) (joined_at before x between y after d j (omega (arith, h)) e)
 
-first_at : (before : List Entry) (x : Entry) (rest : List Entry) (d : Entry) → slice_index_or (before ++ (x ∷ rest)) (length before) d ≡ x
-first_at [] x rest d = refl
-first_at (b ∷ before) x rest d = first_at before x rest d
-
 second_at : (before : List Entry) (x : Entry) (between : List Entry) (y : Entry) (after : List Entry) (d : Entry) →
     slice_index_or (before ++ (x ∷ between ++ (y ∷ after))) (suc (length before + length between)) d ≡ y
 second_at before x between y after d =
-    let e : suc (length before + length between) ≡ length (before ++ (x ∷ between)) = omega (arith, length-append before (x ∷ between)) in
     ap (λ l. slice_index_or l (suc (length before + length between)) d) (sym (append_assoc before (x ∷ between) (y ∷ after)))
-    ∙ ap (λ n. slice_index_or (before ++ (x ∷ between) ++ (y ∷ after)) n d) e ∙ first_at (before ++ (x ∷ between)) y after d
+    ∙ get_or_at (before ++ (x ∷ between)) y after d (suc (length before + length between)) (omega (arith, length-append before (x ∷ between)))
 
-joint_at : (before : List Entry) (x : Entry) (between : List Entry) (y : Entry) (after : List Entry) (d : Entry) (i j : ℕ) → i ≡ length before → j ≡ suc (length before + length between) →
-    joint x y ≡ joint (slice_index_or (before ++ (x ∷ between ++ (y ∷ after))) i d) (slice_index_or (before ++ (x ∷ between ++ (y ∷ after))) j d)
-joint_at before x between y after d i j e f =
-    let whole = before ++ (x ∷ between ++ (y ∷ after)) in
-    ap (λ (u : Entry). joint u y) (sym (first_at before x (between ++ (y ∷ after)) d) ∙ ap (λ k. slice_index_or whole k d) (sym e))
-    ∙ ap (λ (u : Entry). joint (slice_index_or whole i d) u) (sym (second_at before x between y after d) ∙ ap (λ k. slice_index_or whole k d) (sym f))
+joint_at : (before : List Entry) (x : Entry) (between : List Entry) (y : Entry) (after : List Entry) (d : Entry) → let whole = before ++ (x ∷ between ++ (y ∷ after)) in
+    joint x y ≡ joint (slice_index_or whole (length before) d) (slice_index_or whole (suc (length before + length between)) d)
+joint_at before x between y after d =
+    let e = sym (get_or-append_seam before x (between ++ (y ∷ after)) d) in
+    let f = sym (second_at before x between y after d) in
+    ap (λ (u : Entry). joint u y) e ∙ ap (joint (slice_index_or (before ++ (x ∷ between ++ (y ∷ after))) (length before) d)) f
 
 pub joined-places : (entries : List Entry) (p : Pair) (d : Entry) → IsPair entries p →
     joined p ≡ remove (set entries (first_place p) (joint (slice_index_or entries (first_place p) d) (slice_index_or entries (second_place p) d))) (second_place p)
@@ -154,4 +115,4 @@ joined-places entries p d h =
     let whole = p.before ++ (p.first ∷ p.between ++ (p.second ∷ p.after)) in
     subst (λ es. joined p ≡ remove (set es (first_place p) (joint (slice_index_or es (first_place p) d) (slice_index_or es (second_place p) d))) (second_place p)) (sym h.parts)
     (joined_at p.before p.first p.between p.second p.after d (second_place p) refl (joint p.first p.second)
-    ∙ ap (λ e. remove (set whole (first_place p) e) (second_place p)) (joint_at p.before p.first p.between p.second p.after d (first_place p) (second_place p) refl refl))
+    ∙ ap (λ e. remove (set whole (first_place p) e) (second_place p)) (joint_at p.before p.first p.between p.second p.after d))

@@ -1,11 +1,12 @@
 -- A table merged run by run.
 use Rattle.std.proofs.Common.{◌≡◌, ◌≢◌, ◌∷◌, ◌++◌, ℕ, ◌+◌, ◌-◌, ◌<◌, ◌≤◌, List, [], length, map, take, drop, get_or, ap, refl, sym, subst, ◌∙◌, arith, Some, None, inl, inr, zero, suc, slice_index_or}
+use Rattle.std.proofs.Math.Seq.{take-add}
 use Rattle.std.proofs.lemmas.Bool.{cases_lt}
-use Rattle.std.proofs.lemmas.List.{length-append, length-map, length-take-le, length-drop, map-append}
+use Rattle.std.proofs.lemmas.List.{length-append, length-map, length-take-le, length-drop, map-append, take-map, drop-map, get_or-take, get_or-drop}
 use Rattle.field_boxes.specs.Names.{AreDistinct, name_at}
 use Rattle.ternary_words.specs.Limits.{AreNumbered}
 use Rattle.ternary_words.specs.Table as seen
-use Rattle.ternary_words.specs.Views.{entry_of, word_of}
+use Rattle.ternary_words.specs.Views.{entry_of}
 use Rattle.ternary_words.specs.declared.entry.Entry.{Entry}
 use Rattle.bit_merge.specs.Merge.{IsMerged}
 use Rattle.bit_merge.specs.Slots.{Slots, entries_of, numbered_entries, LeadTo, AreDone}
@@ -19,16 +20,13 @@ seen_run : (names : List (List ℕ)) (decision : ℕ) (run : List Entry) → All
     map (entry_of names) run ≡ entries_of (name_at names decision) (map (λ (e : Entry). Some e.word) run)
 seen_run names decision [] all = refl
 seen_run names decision (e ∷ run) all =
-    let f = all 0 (omega arith) in
-    let here : entry_of names e ≡ record { word = word_of e.word; decision = name_at names decision } = ap (λ n. let x : seen.Entry = record { word = word_of e.word; decision = name_at names n } in x) f in
-    ap (λ x. x ∷ map (entry_of names) run) here
-    ∙ ap (λ l. let x : seen.Entry = record { word = word_of e.word; decision = name_at names decision } in x ∷ l) (seen_run names decision run (λ k less. all (suc k) (omega (arith, less))))
+    let here = all 0 (omega arith) in
+    let rest = seen_run names decision run (λ k less. all (suc k) (omega (arith, less))) in cc
 
 seen_out : (names : List (List ℕ)) (decision : ℕ) (slots : Slots) → map (entry_of names) (numbered_entries decision slots) ≡ entries_of (name_at names decision) slots
 seen_out names decision [] = refl
 seen_out names decision (None ∷ slots) = seen_out names decision slots
-seen_out names decision (Some w ∷ slots) =
-    ap (λ l. let x : seen.Entry = record { word = word_of w; decision = name_at names decision } in x ∷ l) (seen_out names decision slots)
+seen_out names decision (Some w ∷ slots) = cc (seen_out names decision slots)
 
 numbered_one : (decision : ℕ) (slots : Slots) → AllHave decision (numbered_entries decision slots)
 numbered_one decision [] k h = absurd (omega (arith, h))
@@ -60,43 +58,33 @@ pub record ArePartly (entries : List Entry) (start : ℕ) (out : List Entry) : T
   pub fewer : length out ≤ start
 
 -- decisions by place
-pub decision-is : (entries : List Entry) (k : ℕ) (e : Entry) → k < length entries → e ≡ get_or entries k e → decision_at entries k ≡ e.decision
-decision-is [] k e h f = absurd (omega (arith, h))
-decision-is (x ∷ entries) zero e h f = ap (λ (u : Entry). u.decision) (sym f)
-decision-is (x ∷ entries) (suc k) e h f = decision-is entries k e (omega (arith, h)) f
+pub decision-is : (entries : List Entry) (k : ℕ) (d : Entry) → k < length entries → decision_at entries k ≡ (slice_index_or entries k d).decision
+decision-is [] k d h = absurd (omega (arith, h))
+decision-is (x ∷ entries) zero d h = refl
+decision-is (x ∷ entries) (suc k) d h = decision-is entries k d (omega (arith, h))
 
-decision_or : (entries : List Entry) (k : ℕ) (d : Entry) → k < length entries → (slice_index_or entries k d).decision ≡ decision_at entries k
-decision_or [] k d h = absurd (omega (arith, h))
-decision_or (x ∷ entries) zero d h = refl
-decision_or (x ∷ entries) (suc k) d h = decision_or entries k d (omega (arith, h))
+-- the decisions as a list
+decision_map : (entries : List Entry) (k : ℕ) → decision_at entries k ≡ get_or (map (λ (e : Entry). e.decision) entries) k 0
+decision_map [] k = refl
+decision_map (e ∷ entries) zero = refl
+decision_map (e ∷ entries) (suc k) = decision_map entries k
 
-decision_drop : (entries : List Entry) (n k : ℕ) → decision_at (drop n entries) k ≡ decision_at entries (n + k)
-decision_drop [] zero k = refl
-decision_drop [] (suc n) k = refl
-decision_drop (x ∷ entries) zero k = ap (decision_at (x ∷ entries)) (let e : k ≡ 0 + k = omega arith in e)
-decision_drop (x ∷ entries) (suc n) k = decision_drop entries n k ∙ ap (decision_at (x ∷ entries)) (let e : suc (n + k) ≡ suc n + k = omega arith in e)
-
-decision_take : (entries : List Entry) (n k : ℕ) → k < n → decision_at (take n entries) k ≡ decision_at entries k
-decision_take [] zero k h = refl
-decision_take [] (suc n) k h = refl
-decision_take (x ∷ entries) zero k h = absurd (omega (arith, h))
-decision_take (x ∷ entries) (suc n) zero h = refl
-decision_take (x ∷ entries) (suc n) (suc k) h = decision_take entries n k (omega (arith, h))
+decision_part : (entries : List Entry) (n m k : ℕ) → k < m → decision_at (take m (drop n entries)) k ≡ decision_at entries (n + k)
+decision_part entries n m k less =
+    let f = λ (e : Entry). e.decision in
+    decision_map (take m (drop n entries)) k ∙ ap (λ l. get_or l k 0) (sym (take-map f m (drop n entries)) ∙ ap (take m) (sym (drop-map f n entries)))
+    ∙ get_or-take m (drop n (map f entries)) k 0 less ∙ get_or-drop n (map f entries) k 0 ∙ sym (decision_map entries (n + k))
 
 pub run-has : (entries : List Entry) (start decision end : ℕ) → IsRunEnd entries start decision end → AllHave decision (take (end - start) (drop start entries))
 run-has entries start decision end h k less =
     let l : length (take (end - start) (drop start entries)) ≡ end - start = length-take-le (end - start) (drop start entries) (omega (arith, length-drop start entries, h.within)) in
-    decision_take (drop start entries) (end - start) k (omega (arith, less, l)) ∙ decision_drop entries start k
-    ∙ h.one (start + k) (omega arith) (omega (arith, less, l, h.more))
+    decision_part entries start (end - start) k (omega (arith, less, l)) ∙ h.one (start + k) (omega arith) (omega (arith, less, l, h.more))
 
 -- of numbered entries all but the first are numbered
 fewer_numbered : (count : ℕ) (x : Entry) (entries : List Entry) → AreNumbered count (x ∷ entries) → AreNumbered count entries
 fewer_numbered count x entries numbered k d less = numbered (suc k) d (omega (arith, less))
 
 -- where a run begins, what stands before it decides otherwise
-nearer_boundary : (x : Entry) (entries : List Entry) (start : ℕ) → IsBoundary (x ∷ entries) (suc start) → IsBoundary entries start
-nearer_boundary x entries start b k e less = b (suc k) (ap suc e) (omega (arith, less))
-
 apart_here : (names : List (List ℕ)) (x : Entry) (entries : List Entry) (m : ℕ) → AreDistinct names → AreNumbered (length names) (x ∷ entries) → IsBoundary (x ∷ entries) 1 →
     AreApart (entry_of names x ∷ []) (map (entry_of names) (take m entries))
 apart_here names x [] zero distinct numbered b = tt
@@ -118,20 +106,10 @@ apart_at names (x ∷ entries) (suc zero) m distinct numbered b = apart_here nam
 apart_at names (x ∷ []) (suc (suc start)) m distinct numbered b = apart_here names x [] m distinct numbered (λ k e less. absurd (omega (arith, less)))
 apart_at names (x ∷ y ∷ entries) (suc (suc start)) m distinct numbered b =
     apart_more (entry_of names x) (entry_of names y) (map (entry_of names) (take start entries)) (map (entry_of names) (take m (drop start entries)))
-    (apart_at names (y ∷ entries) (suc start) m distinct (fewer_numbered (length names) x (y ∷ entries) numbered) (nearer_boundary x (y ∷ entries) (suc start) b))
-
-take_none : (n : ℕ) → let none : List Entry = [] in take n none ≡ none
-take_none zero = refl
-take_none (suc n) = refl
-
--- the entries before the end are those before the start, and the run
-parted : (xs : List Entry) (n m : ℕ) → take (n + m) xs ≡ take n xs ++ take m (drop n xs)
-parted xs zero m = ap (λ k. take k xs) (let e : 0 + m ≡ m = omega arith in e)
-parted [] (suc n) m = take_none (suc n + m) ∙ sym (take_none m)
-parted (x ∷ xs) (suc n) m = ap (λ k. take k (x ∷ xs)) (let e : suc n + m ≡ suc (n + m) = omega arith in e) ∙ ap (λ l. x ∷ l) (parted xs n m)
+    (apart_at names (y ∷ entries) (suc start) m distinct (fewer_numbered (length names) x (y ∷ entries) numbered) (λ k e less. b (suc k) (ap suc e) (omega (arith, less))))
 
 numbered_run : (entries run : List Entry) (decision count : ℕ) → AllHave decision run → decision ≤ count → AreNumbered count run
-numbered_run entries run decision count all small k d less = let e = decision_or run k d less in let f = all k less in omega (arith, e, f, small)
+numbered_run entries run decision count all small k d less = let e = decision-is run k d less in let f = all k less in omega (arith, e, f, small)
 
 numbered_both : (count : ℕ) (xs ys : List Entry) → AreNumbered count xs → AreNumbered count ys → AreNumbered count (xs ++ ys)
 numbered_both count [] ys h g k d less = g k d less
@@ -147,7 +125,7 @@ pub partly-next : (entries : List Entry) (start decision end : ℕ) (out more : 
     IsMergedRun decision (take (end - start) (drop start entries)) more → ArePartly entries end (out ++ more)
 partly-next entries start decision end out more h r m =
     let run = take (end - start) (drop start entries) in
-    let whole : take end entries ≡ take start entries ++ run = ap (λ n. take n entries) (let e : end ≡ start + (end - start) = omega (arith, r.more) in e) ∙ parted entries start (end - start) in
+    let whole : take end entries ≡ take start entries ++ run = ap (λ n. take n entries) (let e : end ≡ start + (end - start) = omega (arith, r.more) in e) ∙ take-add start (end - start) entries in
     let long : length run ≡ end - start = length-take-le (end - start) (drop start entries) (omega (arith, length-drop start entries, r.within)) in
     record {
       within = r.within;

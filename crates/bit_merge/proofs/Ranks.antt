@@ -70,17 +70,12 @@ pub record Stands (d : Option (List ℕ)) (slots : Slots) (n : ℕ) : Type 0 whe
   pub here : at slots place ≡ Some word
   pub rank : rank slots place ≡ n
 
-stands_none : (d : Option (List ℕ)) (slots : Slots) (n : ℕ) → Stands d slots n → Stands d (None ∷ slots) n
-stands_none d slots n s = record { place = suc s.place; word = s.word; here = s.here; rank = s.rank }
-
-stands_some : (d : Option (List ℕ)) (v : Word) (slots : Slots) (n : ℕ) → Stands d slots n → Stands d (Some v ∷ slots) (suc n)
-stands_some d v slots n s = record { place = suc s.place; word = s.word; here = s.here; rank = ap suc s.rank }
-
 pub stands : (d : Option (List ℕ)) (slots : Slots) (n : ℕ) → n < length (entries_of d slots) → Stands d slots n
 stands d [] n h = absurd (omega (arith, h))
-stands d (None ∷ slots) n h = stands_none d slots n (stands d slots n h)
+stands d (None ∷ slots) n h = let s = stands d slots n h in record { place = suc s.place; word = s.word; here = s.here; rank = s.rank }
 stands d (Some v ∷ slots) zero h = record { place = 0; word = v; here = refl; rank = refl }
-stands d (Some v ∷ slots) (suc n) h = stands_some d v slots n (stands d slots n (omega (arith, h)))
+stands d (Some v ∷ slots) (suc n) h =
+    let s = stands d slots n (omega (arith, h)) in record { place = suc s.place; word = s.word; here = s.here; rank = ap suc s.rank }
 
 -- all decide one thing
 pub one-decision : (d : Option (List ℕ)) (e : Entry) (slots : Slots) (n : ℕ) → n < length (entries_of d slots) → (get_or (entries_of d slots) n e).decision ≡ d

@@ -1,17 +1,12 @@
 -- Lists that share no run are merged each by itself.
-use Rattle.std.proofs.Common.{◌≡◌, ◌∷◌, ◌++◌, ◌⊎◌, ◌≤◌, ◌<◌, ◌+◌, ℕ, List, [], length, ap, refl, sym, ◌∙◌, subst, arith, Option, inl, inr, suc, zero, ◌≢◌, length-append, append_assoc}
+use Rattle.std.proofs.Common.{◌≡◌, ◌∷◌, ◌++◌, ◌⊎◌, ◌+◌, ℕ, List, [], length, ap, refl, sym, ◌∙◌, subst, arith, inl, inr, suc, zero, ◌≢◌, length-append, append_assoc}
 use Rattle.ternary_words.specs.Table.{Entry}
-use Rattle.bit_merge.specs.Merge.{AllDecide, Pair, IsPair, IsClosed, IsFirstPair, ComesFirst, joint, joined, MergedIn}
-use Rattle.bit_merge.proofs.Splits.{InFirst, InSecond, in_parts}
-
-abbrev Decision : Type 0
-Decision = Option (List ℕ)
-
-abbrev pair : List Entry → Entry → List Entry → Entry → List Entry → Pair
-pair before x between y after = record { before = before; first = x; between = between; second = y; after = after }
+use Rattle.bit_merge.specs.Merge.{AllDecide, Pair, IsPair, IsClosed, IsFirstPair, joint, joined, MergedIn}
+use Rattle.bit_merge.proofs.ByPlace.{Decision, pair}
+use Rattle.bit_merge.proofs.Splits.{no_split, InFirst, InSecond, in_parts}
 
 -- what the last entry decides, or this where there is none
-abbrev pub last_decision : Option (List ℕ) → List Entry → Option (List ℕ)
+abbrev pub last_decision : Decision → List Entry → Decision
 last_decision d [] = d
 last_decision d (e ∷ entries) = last_decision e.decision entries
 
@@ -43,8 +38,7 @@ meet_last x xs [] u rest e all =
     let h : x ≡ u = cc e in
     let k : xs ≡ rest = cc e in
     ap (λ (v : Entry). last_decision v.decision xs) h ∙ ap (last_decision u.decision) k ∙ last_one u.decision rest all
-meet_last x [] (w ∷ []) u rest e all = absurd (cc e)
-meet_last x [] (w ∷ v ∷ before) u rest e all = absurd (cc e)
+meet_last x [] (w ∷ before) u rest e all = absurd (no_split before u rest (cc e))
 meet_last x (z ∷ xs) (w ∷ before) u rest e all = let k : z ∷ xs ≡ before ++ (u ∷ rest) = cc e in meet_last z xs before u rest k all
 
 meet_first : (d : Decision) (y : Entry) (ys start : List Entry) (v : Entry) (after : List Entry) → y ∷ ys ≡ start ++ (v ∷ after) → AllDecide d start → v.decision ≡ d → y.decision ≡ d
@@ -53,10 +47,8 @@ meet_first d y ys (w ∷ start) v after e all is = let h : y ≡ w = cc e in ap 
 
 no_meeting : (xs ys before : List Entry) (u : Entry) (rest start : List Entry) (v : Entry) (after : List Entry) → AreApart xs ys → xs ≡ before ++ (u ∷ rest) → ys ≡ start ++ (v ∷ after) →
     AllDecide u.decision rest → AllDecide u.decision start → v.decision ≡ u.decision → ⊥
-no_meeting [] ys [] u rest start v after apart e f all more is = cc e
-no_meeting [] ys (w ∷ before) u rest start v after apart e f all more is = cc e
-no_meeting (x ∷ xs) [] before u rest [] v after apart e f all more is = cc f
-no_meeting (x ∷ xs) [] before u rest (w ∷ start) v after apart e f all more is = cc f
+no_meeting [] ys before u rest start v after apart e f all more is = no_split before u rest e
+no_meeting (x ∷ xs) [] before u rest start v after apart e f all more is = no_split start v after f
 no_meeting (x ∷ xs) (y ∷ ys) before u rest start v after apart e f all more is =
     apart (meet_last x xs before u rest e all ∙ sym (meet_first u.decision y ys start v after f more is))
 
@@ -75,17 +67,12 @@ seam_step xs ys p rest apart h e (inr i) =
     let all = all_split p.first.decision rest i.start (subst (AllDecide p.first.decision) i.first h.between) in
     absurd (no_meeting xs ys p.before p.first rest i.start p.second p.after apart e i.then all.0 all.1 h.second)
 
-either_step : (xs ys : List Entry) (p : Pair) → AreApart xs ys → IsPair (xs ++ ys) p →
-    InFirst xs ys p.before p.first (p.between ++ (p.second ∷ p.after)) ⊎ InSecond xs ys p.before p.first (p.between ++ (p.second ∷ p.after)) → IsBefore xs ys p ⊎ IsBehind xs ys p
-either_step xs ys p apart h (inl i) = inl (seam_step xs ys p i.rest apart h i.first (in_parts i.rest ys p.between p.second p.after (sym i.then)))
-either_step xs ys p apart h (inr i) = inr record {
-  start = i.start;
-  is = record { parts = i.then; between = h.between; second = h.second; joinable = h.joinable };
-  before = i.first;
-}
-
 either : (xs ys : List Entry) (p : Pair) → AreApart xs ys → IsPair (xs ++ ys) p → IsBefore xs ys p ⊎ IsBehind xs ys p
-either xs ys p apart h = either_step xs ys p apart h (in_parts xs ys p.before p.first (p.between ++ (p.second ∷ p.after)) h.parts)
+either xs ys p apart h =
+    elim (in_parts xs ys p.before p.first (p.between ++ (p.second ∷ p.after)) h.parts) [
+      | inl i ↦ inl (seam_step xs ys p i.rest apart h i.first (in_parts i.rest ys p.between p.second p.after (sym i.then)))
+      | inr i ↦ inr record { start = i.start; is = record { parts = i.then; between = h.between; second = h.second; joinable = h.joinable }; before = i.first }
+    ]
 
 -- the pairs of both lists are pairs of the whole
 abbrev longer : Pair → List Entry → Pair
@@ -94,12 +81,6 @@ longer p ys = pair p.before p.first p.between p.second (p.after ++ ys)
 abbrev later : List Entry → Pair → Pair
 later xs p = pair (xs ++ p.before) p.first p.between p.second p.after
 
-longer_pair : (xs ys : List Entry) (p : Pair) → IsPair xs p → IsPair (xs ++ ys) (longer p ys)
-longer_pair xs ys p h = record { parts = ap (λ l. l ++ ys) h.parts ∙ simp append_assoc; between = h.between; second = h.second; joinable = h.joinable }
-
-later_pair : (xs ys : List Entry) (p : Pair) → IsPair ys p → IsPair (xs ++ ys) (later xs p)
-later_pair xs ys p h = record { parts = ap (λ l. xs ++ l) h.parts ∙ simp append_assoc; between = h.between; second = h.second; joinable = h.joinable }
-
 longer_joined : (ys : List Entry) (p : Pair) → joined (longer p ys) ≡ joined p ++ ys
 longer_joined ys p = simp append_assoc
 
@@ -107,33 +88,32 @@ later_joined : (xs : List Entry) (p : Pair) → joined (later xs p) ≡ xs ++ jo
 later_joined xs p = simp append_assoc
 
 -- the first list's first pair is the whole's
-longer_least : (xs ys : List Entry) (p q : Pair) → IsFirstPair xs p → IsBefore xs ys q ⊎ IsBehind xs ys q → ComesFirst (longer p ys) q
-longer_least xs ys p q f (inl i) = f.least (pair q.before q.first q.between q.second i.rest) i.is
-longer_least xs ys p q f (inr i) = inl (omega (arith, ap length i.before, ap length f.pair.parts, length-append {A = Entry}))
-
 longer_first : (xs ys : List Entry) (p : Pair) → AreApart xs ys → IsFirstPair xs p → IsFirstPair (xs ++ ys) (longer p ys)
-longer_first xs ys p apart f = record { pair = longer_pair xs ys p f.pair; least = λ q h. longer_least xs ys p q f (either xs ys q apart h) }
+longer_first xs ys p apart f = record {
+  pair = record { parts = ap (λ l. l ++ ys) f.pair.parts ∙ simp append_assoc; between = f.pair.between; second = f.pair.second; joinable = f.pair.joinable };
+  least = λ q h. elim (either xs ys q apart h) [
+    | inl i ↦ f.least (pair q.before q.first q.between q.second i.rest) i.is
+    | inr i ↦ inl (omega (arith, ap length i.before, ap length f.pair.parts, length-append {A = Entry}))
+  ];
+}
 
 -- where the first list is closed, the second list's first pair is
-shift_step : (k n m s t : ℕ) → (n < m) ⊎ ((n ≡ m) × (suc (n + s) ≤ suc (m + t))) → (k + n < k + m) ⊎ ((k + n ≡ k + m) × (suc (k + n + s) ≤ suc (k + m + t)))
-shift_step k n m s t (inl h) = inl (omega (arith, h))
-shift_step k n m s t (inr h) = inr (omega (arith, h.0), omega (arith, h.0, h.1))
-
-later_least : (xs ys : List Entry) (p q : Pair) → IsClosed xs → IsFirstPair ys p → IsBefore xs ys q ⊎ IsBehind xs ys q → ComesFirst (later xs p) q
-later_least xs ys p q closed f (inl i) = absurd (closed (pair q.before q.first q.between q.second i.rest) i.is)
-later_least xs ys p q closed f (inr i) =
-    rw (length-append xs p.before, i.before, length-append xs i.start)
-    (shift_step (length xs) (length p.before) (length i.start) (length p.between) (length q.between) (f.least (pair i.start q.first q.between q.second q.after) i.is))
-
 later_first : (xs ys : List Entry) (p : Pair) → AreApart xs ys → IsClosed xs → IsFirstPair ys p → IsFirstPair (xs ++ ys) (later xs p)
-later_first xs ys p apart closed f = record { pair = later_pair xs ys p f.pair; least = λ q h. later_least xs ys p q closed f (either xs ys q apart h) }
-
-closed_step : (xs ys : List Entry) (q : Pair) → IsClosed xs → IsClosed ys → IsBefore xs ys q ⊎ IsBehind xs ys q → ⊥
-closed_step xs ys q c d (inl i) = c (pair q.before q.first q.between q.second i.rest) i.is
-closed_step xs ys q c d (inr i) = d (pair i.start q.first q.between q.second q.after) i.is
+later_first xs ys p apart closed f = record {
+  pair = record { parts = ap (λ l. xs ++ l) f.pair.parts ∙ simp append_assoc; between = f.pair.between; second = f.pair.second; joinable = f.pair.joinable };
+  least = λ q h. elim (either xs ys q apart h) [
+    | inl i ↦ absurd (closed (pair q.before q.first q.between q.second i.rest) i.is)
+    | inr i ↦ rw (length-append xs p.before, i.before, length-append xs i.start)
+        (elim (f.least (pair i.start q.first q.between q.second q.after) i.is) [ inl h ↦ inl (omega (arith, h)) | inr h ↦ inr (omega (arith, h.0), omega (arith, h.0, h.1)) ])
+  ];
+}
 
 pub both-closed : (xs ys : List Entry) → AreApart xs ys → IsClosed xs → IsClosed ys → IsClosed (xs ++ ys)
-both-closed xs ys apart c d q h = closed_step xs ys q c d (either xs ys q apart h)
+both-closed xs ys apart c d q h =
+    elim (either xs ys q apart h) [
+      | inl i ↦ c (pair q.before q.first q.between q.second i.rest) i.is
+      | inr i ↦ d (pair i.start q.first q.between q.second q.after) i.is
+    ]
 
 -- joining keeps what a list begins and ends with
 last_second : (d e : Decision) (between : List Entry) (y : Entry) (after : List Entry) → e ≡ d → AllDecide d between → y.decision ≡ d →

@@ -41,13 +41,10 @@ both d e slots k l h =
       joinable = subst (λ (u : Entry). CanJoin (word_of s.word) u.word) te (subst (λ (u : Entry). CanJoin u.word (get_or (entries_of d slots) l e).word) fe h.joinable);
     }
 
-ranks : (slots : Slots) (i j k l : ℕ) (a : Word) → at slots i ≡ Some a → (i < k) ⊎ ((i ≡ k) × (j ≤ l)) → (rank slots i < rank slots k) ⊎ ((rank slots i ≡ rank slots k) × (rank slots j ≤ rank slots l))
-ranks slots i j k l a h (inl m) = inl (rank-less slots i k a h m)
-ranks slots i j k l a h (inr m) = inr (ap (rank slots) m.0, rank-le slots j l m.1)
-
-by_rank : (m n k l x y : ℕ) → (m < k) ⊎ ((m ≡ k) × (n ≤ l)) → k ≡ x → l ≡ y → (m < x) ⊎ ((m ≡ x) × (n ≤ y))
-by_rank m n k l x y (inl h) e f = inl (omega (arith, h, e))
-by_rank m n k l x y (inr h) e f = inr (h.0 ∙ e, omega (arith, h.1, f))
+ranks : (slots : Slots) (i j k l x y : ℕ) (a : Word) → at slots i ≡ Some a → (i < k) ⊎ ((i ≡ k) × (j ≤ l)) → rank slots k ≡ x → rank slots l ≡ y →
+    (rank slots i < x) ⊎ ((rank slots i ≡ x) × (rank slots j ≤ y))
+ranks slots i j k l x y a h (inl m) e f = inl (omega (arith, rank-less slots i k a h m, e))
+ranks slots i j k l x y a h (inr m) e f = inr (ap (rank slots) m.0 ∙ e, omega (arith, rank-le slots j l m.1, f))
 
 first_places : (d : Option (List ℕ)) (e : Entry) (slots : Slots) (i j : ℕ) (a b : Word) → AreFirst slots i j a b → AreFirstPlaces (entries_of d slots) e (rank slots i) (rank slots j)
 first_places d e slots i j a b f =
@@ -64,9 +61,8 @@ first_places d e slots i j a b f =
       };
       least = λ k l h.
           let t = both d e slots k l h in
-          by_rank (rank slots i) (rank slots j) (rank slots t.first.place) (rank slots t.second.place) k l
-          (ranks slots i j t.first.place t.second.place a f.here (f.least t.first.place t.second.place t.first.word t.second.word t.less t.first.here t.second.here t.joinable))
-          t.first.rank t.second.rank;
+          ranks slots i j t.first.place t.second.place k l a f.here
+          (f.least t.first.place t.second.place t.first.word t.second.word t.less t.first.here t.second.here t.joinable) t.first.rank t.second.rank;
     }
 
 -- the words with the join at the first place, and without the second one

@@ -9,7 +9,6 @@ use Rattle.bit_merge.proofs.PairPlaces.{pair-places, places-pair, joined-places}
 record FirstAt (entries : List Entry) (d : Entry) (i j : ℕ) : Type 0 where
   pair : Pair
   is : IsFirstPair entries pair
-  first : first_place pair ≡ i
   then : joined pair ≡ joined_at entries d i j
 
 first-at : (entries : List Entry) (d : Entry) (i j : ℕ) → AreFirstPlaces entries d i j → FirstAt entries d i j
@@ -21,7 +20,6 @@ first-at entries d i j h =
         least = λ q k. subst (λ n. (n < first_place q) ⊎ ((n ≡ first_place q) × (second_place p.0 ≤ second_place q))) (sym p.2)
             (subst (λ n. (i < first_place q) ⊎ ((i ≡ first_place q) × (n ≤ second_place q))) (sym p.3) (h.least (first_place q) (second_place q) (pair-places entries q d k)));
       };
-      first = p.2;
       then = joined-places entries p.0 d p.1 ∙ ap (λ n. joined_at entries d n (second_place p.0)) p.2 ∙ ap (joined_at entries d i) p.3;
     }
 

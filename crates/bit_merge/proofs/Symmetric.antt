@@ -5,12 +5,9 @@ use Rattle.bit_merge.specs.Merge.{same_trit, HaveSameStars, differing, CanJoin, 
 
 same_trit_comm : (s t : Trit) → same_trit s t ≡ same_trit t s
 same_trit_comm None None = refl
-same_trit_comm None (Some b) = refl
-same_trit_comm (Some a) None = refl
-same_trit_comm (Some true) (Some true) = refl
 same_trit_comm (Some true) (Some false) = refl
 same_trit_comm (Some false) (Some true) = refl
-same_trit_comm (Some false) (Some false) = refl
+same_trit_comm s t = refl
 
 stars_comm : (a b : List Trit) → HaveSameStars a b → HaveSameStars b a
 stars_comm [] [] h = tt
@@ -28,12 +25,9 @@ can-join-comm a b h = (stars_comm a b h.0, let e = differing_comm a b h.0 in let
 
 head_comm : (s t : Trit) → cond (same_trit s t) s (let n : Trit = None in n) ≡ cond (same_trit t s) t (let n : Trit = None in n)
 head_comm None None = refl
-head_comm None (Some b) = refl
-head_comm (Some a) None = refl
-head_comm (Some true) (Some true) = refl
 head_comm (Some true) (Some false) = refl
 head_comm (Some false) (Some true) = refl
-head_comm (Some false) (Some false) = refl
+head_comm s t = refl
 
 pub join-comm : (a b : List Trit) → HaveSameStars a b → join a b ≡ join b a
 join-comm [] [] h = refl

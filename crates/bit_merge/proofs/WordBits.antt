@@ -7,7 +7,8 @@ use Rattle.std.proofs.lemmas.Nat.{and_comm, and_assoc, and_le_r, xor_lt, mod-pow
 use Rattle.std.proofs.lemmas.Nat.Bits.{bit_at_and, bit_at_xor, bit_at-lt, bit_at-zero, bit_at-pow_same, bit_at-pow_other, same_from_bits}
 use Rattle.std.proofs.Math.Nat.{mod-eq_of_lt}
 use Rattle.std.proofs.Math.Numerals.{one-add}
-use Rattle.std.proofs.lemmas.Bool.Decides.{eqb_tells}
+use Rattle.std.proofs.lemmas.Bool.{cases_eq}
+use Rattle.std.proofs.lemmas.Bool.Decides.{eqb_tells, nat_tests}
 use Rattle.field_boxes.specs.Bits.{bits}
 use Rattle.field_boxes.proofs.Bits.{length-bits}
 use Rattle.ternary_words.specs.Word.{Trit, trits}
@@ -18,22 +19,13 @@ use Rattle.ternary_words.proofs.Parted.{same_bits}
 
 -- one bit of each
 both_bit : (a b : ℕ) → a < 2 → b < 2 → (nat_eq a 1 && nat_eq b 1) ≡ nat_eq (min a b) 1
-both_bit (suc (suc a)) b h k = absurd (omega arith)
-both_bit zero (suc (suc b)) h k = absurd (omega arith)
-both_bit (suc zero) (suc (suc b)) h k = absurd (omega arith)
-both_bit a b h k = refl
+both_bit a b h k = grind (arith, nat_tests)
 
 unlike_bit : (a b : ℕ) → a < 2 → b < 2 → not (beq (nat_eq a 1) (nat_eq b 1)) ≡ nat_eq ((a + b) % 2) 1
-unlike_bit (suc (suc a)) b h k = absurd (omega arith)
-unlike_bit zero (suc (suc b)) h k = absurd (omega arith)
-unlike_bit (suc zero) (suc (suc b)) h k = absurd (omega arith)
-unlike_bit a b h k = refl
+unlike_bit a b h k = grind (arith, nat_tests)
 
 without_bit : (m u : ℕ) → m < 2 → u < 2 → min m u ≡ u → (nat_eq m 1 && not (nat_eq u 1)) ≡ nat_eq ((m + u) % 2) 1
-without_bit zero zero h k e = refl
-without_bit (suc zero) zero h k e = refl
-without_bit (suc zero) (suc zero) h k e = refl
-without_bit m u h k e = absurd (omega arith)
+without_bit m u h k e = grind (arith, nat_tests)
 
 -- the bits of a & b
 both-number : (n a b : ℕ) → both_bits (bits n a) (bits n b) ≡ bits n (bit_and a b)
@@ -64,33 +56,37 @@ without-number (suc n) m u h =
 split_top : (n x : ℕ) → x % 2 ^ suc n ≡ bit_at x n * 2 ^ n + x % 2 ^ n
 split_top n x = ap (λ m. x % 2 ^ m) (sym (one-add n)) ∙ mod-pow-add x 1 n
 
-none_step : (n u t : ℕ) → t < 2 → bit_at u n ≡ t → cond (nat_eq t 1) (suc (ones (bits n u))) (ones (bits n u)) ≤ 0 → (ones (bits n u) ≤ 0 → u % 2 ^ n ≡ 0) → u % 2 ^ suc n ≡ 0
-none_step n u zero small e h f = let s = split_top n u in let r = f h in s ∙ ap (λ t. t * 2 ^ n + u % 2 ^ n) e ∙ (let z : 0 * 2 ^ n + u % 2 ^ n ≡ 0 = omega (arith, r) in z)
-none_step n u (suc zero) small e h f = absurd (omega (arith, h))
-none_step n u (suc (suc t)) small e h f = absurd (omega (arith, small))
+top_zero : (n x : ℕ) → bit_at x n ≡ 0 → x % 2 ^ suc n ≡ x % 2 ^ n
+top_zero n x e = split_top n x ∙ ap (λ t. t * 2 ^ n + x % 2 ^ n) e ∙ (let z : 0 * 2 ^ n + x % 2 ^ n ≡ x % 2 ^ n = omega arith in z)
 
 none : (n u : ℕ) → ones (bits n u) ≤ 0 → u % 2 ^ n ≡ 0
 none zero u h = omega arith
-none (suc n) u h = none_step n u (bit_at u n) (bit_at-lt u n) refl h (none n u)
+none (suc n) u h =
+    elim (cases_eq (bit_at u n) 0) [
+      | inl e ↦ top_zero n u e ∙ none n u (rw e at h)
+      | inr other ↦
+          let e : bit_at u n ≡ 1 = omega (arith, other, bit_at-lt u n) in
+          let k = rw e at h in absurd (omega (arith, k))
+    ]
 
 abbrev AtMostOne : ℕ → ℕ → Type 0
 AtMostOne n u = (u % 2 ^ n ≡ 0) ⊎ ((i : ℕ) × (i < n) × (u % 2 ^ n ≡ 2 ^ i))
 
 low_one : (n u : ℕ) → bit_at u n ≡ 0 → AtMostOne n u → AtMostOne (suc n) u
-low_one n u e (inl r) = inl (split_top n u ∙ ap (λ t. t * 2 ^ n + u % 2 ^ n) e ∙ (let z : 0 * 2 ^ n + u % 2 ^ n ≡ 0 = omega (arith, r) in z))
-low_one n u e (inr r) =
-    inr (r.0, omega (arith, r.1), split_top n u ∙ ap (λ t. t * 2 ^ n + u % 2 ^ n) e ∙ (let z : 0 * 2 ^ n + u % 2 ^ n ≡ u % 2 ^ n = omega arith in z) ∙ r.2)
-
-few_step : (n u t : ℕ) → t < 2 → bit_at u n ≡ t → cond (nat_eq t 1) (suc (ones (bits n u))) (ones (bits n u)) ≤ 1 → (ones (bits n u) ≤ 1 → AtMostOne n u) → AtMostOne (suc n) u
-few_step n u zero small e h f = low_one n u e (f h)
-few_step n u (suc zero) small e h f =
-    let r = none n u (omega (arith, h)) in
-    inr (n, omega arith, split_top n u ∙ ap (λ t. t * 2 ^ n + u % 2 ^ n) e ∙ (let z : 1 * 2 ^ n + u % 2 ^ n ≡ 2 ^ n = omega (arith, r) in z))
-few_step n u (suc (suc t)) small e h f = absurd (omega (arith, small))
+low_one n u e (inl r) = inl (top_zero n u e ∙ r)
+low_one n u e (inr r) = inr (r.0, omega (arith, r.1), top_zero n u e ∙ r.2)
 
 few : (n u : ℕ) → ones (bits n u) ≤ 1 → AtMostOne n u
 few zero u h = inl (omega arith)
-few (suc n) u h = few_step n u (bit_at u n) (bit_at-lt u n) refl h (few n u)
+few (suc n) u h =
+    elim (cases_eq (bit_at u n) 0) [
+      | inl e ↦ low_one n u e (few n u (rw e at h))
+      | inr other ↦
+          let e : bit_at u n ≡ 1 = omega (arith, other, bit_at-lt u n) in
+          let k = rw e at h in
+          let r = none n u (omega (arith, k)) in
+          inr (n, omega arith, split_top n u ∙ ap (λ t. t * 2 ^ n + u % 2 ^ n) e ∙ (let z : 1 * 2 ^ n + u % 2 ^ n ≡ 2 ^ n = omega (arith, r) in z))
+    ]
 
 zeros : (n u : ℕ) → ((k : ℕ) → k < n → bit_at u k ≡ 0) → ones (bits n u) ≡ 0
 zeros zero u h = refl
@@ -114,16 +110,12 @@ one_of (suc n) i =
     ]
 
 -- what two values within a mask differ in lies within it
-within_bit : (m a b : ℕ) → m < 2 → a < 2 → b < 2 → min a m ≡ a → min b m ≡ b → min m ((a + b) % 2) ≡ (a + b) % 2
-within_bit m a b hm ha hb h k = omega arith
-
 pub differ-within : (m a b : ℕ) → bit_and a m ≡ a → bit_and b m ≡ b → bit_and m (bit_xor a b) ≡ bit_xor a b
 differ-within m a b h k =
     same_from_bits (bit_and m (bit_xor a b)) (bit_xor a b) (λ i.
-    bit_at_and m (bit_xor a b) i ∙ ap (min (bit_at m i)) (bit_at_xor a b i)
-    ∙ within_bit (bit_at m i) (bit_at a i) (bit_at b i) (bit_at-lt m i) (bit_at-lt a i) (bit_at-lt b i)
-    (sym (bit_at_and a m i) ∙ ap (λ x. bit_at x i) h) (sym (bit_at_and b m i) ∙ ap (λ x. bit_at x i) k)
-    ∙ sym (bit_at_xor a b i))
+    let x : min (bit_at a i) (bit_at m i) ≡ bit_at a i = sym (bit_at_and a m i) ∙ ap (λ x. bit_at x i) h in
+    let y : min (bit_at b i) (bit_at m i) ≡ bit_at b i = sym (bit_at_and b m i) ∙ ap (λ x. bit_at x i) k in
+    omega (arith, x, y, bit_at_and m (bit_xor a b) i, bit_at_xor a b i, bit_at-lt m i, bit_at-lt a i, bit_at-lt b i))
 
 -- a ^ (a ^ u) is u
 pub twice : (a u : ℕ) → bit_xor a (bit_xor a u) ≡ u
@@ -184,11 +176,6 @@ join-number n m a b ha hb =
     ∙ clear-masks (bits n k) (bits n a)
     ∙ ap (trits (bits n k)) (both-number n k a ∙ ap (bits n) (and_comm k a))
 
--- the join as a word of the code
-pub join-small : (n m a b : ℕ) → m < 2 ^ n → bit_and a m ≡ a → bit_and b m ≡ b → bit_xor m (bit_xor a b) < 2 ^ n
-join-small n m a b small ha hb =
-    xor_lt n m (bit_xor a b) small (xor_lt n a b (omega (arith, and_le_r a m, ha, small)) (omega (arith, and_le_r b m, hb, small)))
-
 pub join-masked : (a k : ℕ) → bit_and (bit_and a k) k ≡ bit_and a k
 join-masked a k = and_assoc k a k ∙ ap (bit_and a) (and_self k)
 
@@ -206,4 +193,4 @@ join-is n m a k b hm hk ha hb h =
 pub join-fits : (n m a k b : ℕ) → m < 2 ^ n → k < 2 ^ n → bit_and a m ≡ a → bit_and b k ≡ b → CanJoin (word n m a) (word n k b) → bit_xor m (bit_xor a b) < 2 ^ n
 join-fits n m a k b hm hk ha hb h =
     let b_in : bit_and b m ≡ b = ap (bit_and b) (sym (one-mask n m a k b hm hk ha hb h)) ∙ hb in
-    join-small n m a b hm ha b_in
+    xor_lt n m (bit_xor a b) hm (xor_lt n a b (omega (arith, and_le_r a m, ha, hm)) (omega (arith, and_le_r b m, b_in, hm)))

@@ -12,14 +12,14 @@ use Rattle.fdd_build.proofs.Decided.{decided_head}
 use Rattle.rule_audit.specs.declared.around.Around.{Around}
 use Rattle.rule_audit.specs.declared.label.Next.{Next}
 use Rattle.rule_audit.specs.declared.state.RuleState.{RuleState}
-use Rattle.rule_audit.specs.Around.{AreAround, StandAtLevel, first_answer, shown_around}
+use Rattle.rule_audit.specs.Around.{StandAtLevel, first_answer, shown_around}
 use Rattle.rule_audit.specs.Joined.{AllDecide}
 use Rattle.rule_audit.specs.Labels.{next_of}
 use Rattle.rule_audit.specs.Meeting.{IsStateSoFar, next_behind}
 use Rattle.rule_audit.specs.Parts.{Shows, over}
 use Rattle.rule_audit.specs.Scouted.{AreTold, IsTold, StandBetween}
 use Rattle.rule_audit.proofs.FirstAnswers.{first_push}
-use Rattle.rule_audit.proofs.Joining.{decide_back, decide_front, number_parts}
+use Rattle.rule_audit.proofs.Joining.{decide_parts, number_parts}
 use Rattle.rule_audit.proofs.SoFar.{shown_alike}
 
 module _ (header : List ℕ) where
@@ -33,28 +33,20 @@ module _ (header : List ℕ) where
   abbrev next_by : Bool → Bool → code.Rule → List code.Rule → Option Next
   next_by none m rule back = cond none (cond m (Some (next_of rule.decision (number back))) None) None
 
-  next_later : (front back : List code.Rule) (first rule : code.Rule) (m : Bool) → meets first ≡ m → 0 < first.decision →
-      next_behind (front ++ rule ∷ back) (length front) header ≡ next_by (nat_eq (number front) 0) (meets rule) rule back →
-      cond m None (next_behind (front ++ rule ∷ back) (length front) header) ≡ next_by (nat_eq (number (first ∷ front)) 0) (meets rule) rule back
-  next_later front back first rule true e some rest =
-      sym (ap (λ n. next_by (nat_eq n 0) (meets rule) rule back) (decided_head stated header first front true e)
-      ∙ ap (λ t. next_by t (meets rule) rule back) (ne_eqb first.decision 0 (λ z. omega (arith, some, z))))
-  next_later front back first rule false e some rest =
-      rest ∙ sym (ap (λ n. next_by (nat_eq n 0) (meets rule) rule back) (decided_head stated header first front false e))
+  later_by : (m : Bool) (d n : ℕ) (o p : Option Next) → 0 < d → o ≡ cond (nat_eq n 0) p None → cond m None o ≡ cond (nat_eq (cond m d n) 0) p None
+  later_by true d n o p some e = ap (λ t. cond t p None) (sym (ne_eqb d 0 (λ z. omega (arith, some, z))))
+  later_by false d n o p some e = e
 
   next_at : (front back : List code.Rule) (rule : code.Rule) → AllDecide front → next_behind (front ++ rule ∷ back) (length front) header ≡ next_by (nat_eq (number front) 0) (meets rule) rule back
   next_at [] back rule decide = refl
   next_at (first ∷ front) back rule decide =
-      next_later front back first rule (meets first) refl decide.0 (next_at front back rule decide.1)
+      later_by (meets first) first.decision (number front) (next_behind (front ++ rule ∷ back) (length front) header) (next_by true (meets rule) rule back) decide.0 (next_at front back rule decide.1)
+      ∙ sym (ap (λ n. next_by (nat_eq n 0) (meets rule) rule back) (decided_head stated header first front (meets first) refl))
 
   -- the same, by what the rule's own diagram answers
-  here_by : (back : List code.Rule) (rule : code.Rule) (none m : Bool) → meets rule ≡ m → 0 < rule.decision →
-      cond none (cond (nat_eq (number (rule ∷ [])) 0) None (Some (next_of (number (rule ∷ [])) (number back)))) None ≡ next_by none m rule back
-  here_by back rule none true e some =
-      ap (λ n. cond none (cond (nat_eq n 0) None (Some (next_of n (number back)))) None) (decided_head stated header rule [] true e)
-      ∙ ap (λ t. cond none (cond t None (Some (next_of rule.decision (number back)))) None) (ne_eqb rule.decision 0 (λ z. omega (arith, some, z)))
-  here_by back rule none false e some =
-      ap (λ n. cond none (cond (nat_eq n 0) None (Some (next_of n (number back)))) None) (decided_head stated header rule [] false e)
+  here_by : (m : Bool) (d b : ℕ) → 0 < d → cond (nat_eq (cond m d 0) 0) None (Some (next_of (cond m d 0) b)) ≡ cond m (Some (next_of d b)) None
+  here_by true d b some = ap (λ t. cond t None (Some (next_of d b))) (ne_eqb d 0 (λ z. omega (arith, some, z)))
+  here_by false d b some = refl
 
 -- what the numbers of three diagrams show
 abbrev shown_of_numbers : ℕ → ℕ → ℕ → Option Next
@@ -67,12 +59,15 @@ module _ (nodes : List Node) (all : List code.Rule) (decide : AllDecide all) whe
       let front = at.front in
       let back = at.back in
       let every = subst AllDecide at.is decide in
-      let some = (decide_back front (rule ∷ back) every).0 in
+      let decide_each = decide_parts front (rule ∷ back) every in
+      let number = decided stated front h in
+      let meets = matches stated h (rule_of rule) in
       ap (λ n. shown_of_numbers n (answer nodes around.here.0 h) (first_answer nodes around.behind.items h)) (at.decided_before h ok)
       ∙ ap (λ n. shown_of_numbers (decided stated front h) n (first_answer nodes around.behind.items h)) (at.here.answers h ok)
       ∙ ap (λ n. shown_of_numbers (decided stated front h) (decided stated (rule ∷ []) h) n) (at.decided_behind h ok)
-      ∙ here_by h back rule (nat_eq (decided stated front h) 0) (matches stated h (rule_of rule)) refl some
-      ∙ sym (next_at h front back rule (decide_front front (rule ∷ back) every))
+      ∙ ap (λ n. shown_of_numbers number n (decided stated back h)) (decided_head stated h rule [] meets refl)
+      ∙ ap (λ o. cond (nat_eq number 0) o None) (here_by h meets rule.decision (decided stated back h) decide_each.1.0)
+      ∙ sym (next_at h front back rule decide_each.0)
       ∙ ap (λ (rs : List code.Rule). next_behind rs (length front) h) (sym at.is)
       ∙ ap (λ k. next_behind all k h) at.count
 
@@ -93,7 +88,7 @@ module _ (nodes : List Node) (all : List code.Rule) (decide : AllDecide all) whe
       StandBetween nodes all upper place inner
   first_half rules upper lower place around inner first second is at up low here before behind =
       let shape = at.is ∙ ap (λ (rs : List code.Rule). at.front ++ (rs ++ at.back)) is ∙ ap (λ (rs : List code.Rule). at.front ++ rs) (append_assoc upper lower at.back) in
-      let every = decide_back upper (lower ++ at.back) (decide_back at.front (upper ++ (lower ++ at.back)) (subst AllDecide shape decide)) in
+      let every = (decide_parts upper (lower ++ at.back) (decide_parts at.front (upper ++ (lower ++ at.back)) (subst AllDecide shape decide)).1).1 in
       record {
         front = at.front;
         back = lower ++ at.back;
@@ -107,7 +102,7 @@ module _ (nodes : List Node) (all : List code.Rule) (decide : AllDecide all) whe
             ap (λ (ids : List NodeId). first_answer nodes ids h) behind
             ∙ ap (λ n. over n (first_answer nodes around.behind.items h)) (low.answers h ok)
             ∙ ap (λ n. over (decided stated lower h) n) (at.decided_behind h ok)
-            ∙ sym (number_parts h lower at.back (decide_front lower at.back every));
+            ∙ sym (number_parts h lower at.back (decide_parts lower at.back every).0);
       }
 
   -- and the second half
@@ -133,7 +128,7 @@ module _ (nodes : List Node) (all : List code.Rule) (decide : AllDecide all) whe
             ∙ first_push nodes around.before.items first h
             ∙ ap (λ n. over n (answer nodes first.0 h)) (at.decided_before h ok)
             ∙ ap (λ n. over (decided stated at.front h) n) (up.answers h ok)
-            ∙ sym (number_parts h at.front upper (decide_front at.front (rules ++ at.back) (subst AllDecide at.is decide)));
+            ∙ sym (number_parts h at.front upper (decide_parts at.front (rules ++ at.back) (subst AllDecide at.is decide)).0);
         decided_behind = λ h ok. ap (λ (ids : List NodeId). first_answer nodes ids h) behind ∙ at.decided_behind h ok;
       }
 
@@ -151,9 +146,6 @@ module _ (nodes : List Node) (all : List code.Rule) (decide : AllDecide all) whe
     decided_behind = λ h ok. ap (λ (ids : List NodeId). first_answer nodes ids h) behind;
   }
 
-pub around_level : (nodes : List Node) (all rules : List code.Rule) (place : ℕ) (around : Around) → StandBetween nodes all rules place around → AreAround nodes stated around
-around_level nodes all rules place around at = record { here = at.here.level; before = at.before; behind = at.behind }
-
 pushed_by : (P : ℕ → Option RuleState → Type 0) (states : List (Option RuleState)) (state : Option RuleState) → ((k : ℕ) (d : Option RuleState) → k < length states → P k (get_or states k d)) →
     P (length states) state → (k : ℕ) (d : Option RuleState) → k < length (states ++ state ∷ []) → P k (get_or (states ++ state ∷ []) k d)
 pushed_by P [] state old here zero d less = here
@@ -165,6 +157,3 @@ pushed_by P (s ∷ states) state old here (suc k) d less =
 -- one state more is told
 pub told_more : (all : List code.Rule) (states : List (Option RuleState)) (state : Option RuleState) → AreTold all states → IsTold all (length states) state → AreTold all (states ++ state ∷ [])
 told_more all states state old here = pushed_by (IsTold all) states state old here
-
-pub none_told : (all : List code.Rule) → AreTold all []
-none_told all = λ k d less. absurd (omega (arith, less))

@@ -45,9 +45,3 @@ next_edge greatest lo (e ∷ edges) (suc i) d less h =
       leads = r.leads;
       later = r.later;
     }
-
-pub none_left : (greatest lo : ℕ) (edges : List Edge) (i : ℕ) → length edges ≤ i → RiseFrom greatest lo (drop i edges) → lo ≡ suc greatest
-none_left greatest lo [] zero less h = h
-none_left greatest lo [] (suc i) less h = h
-none_left greatest lo (e ∷ edges) zero less h = absurd (omega (arith, less))
-none_left greatest lo (e ∷ edges) (suc i) less h = none_left greatest lo edges i (omega (arith, less)) h

@@ -1,12 +1,11 @@
 -- The first answer of some nodes that isn't 0.
-use Rattle.std.proofs.Common.{◌≡◌, ◌∷◌, ◌++◌, ◌+◌, ◌≤◌, ◌<◌, ◌∙◌, ℕ, List, [], length, drop, get_or, ap, refl, sym, All}
-use Rattle.std.proofs.lemmas.List.{at_drop_all, at_drop_more}
+use Rattle.std.proofs.Common.{◌≡◌, ◌∷◌, ◌++◌, ◌∙◌, ℕ, List, [], ap, refl, sym, All}
 use Rattle.std.proofs.lemmas.List.Elements.{All-cons, All-nil}
 use Rattle.node_store.specs.declared.edge.NodeId.{NodeId}
 use Rattle.node_store.specs.Diagram.{Node, answer}
 use Rattle.rule_audit.specs.Around.{first_answer}
 use Rattle.rule_audit.specs.Parts.{over}
-use Rattle.rule_audit.proofs.Overlaid.{over_assoc, over_none, over_nothing, over_some, over_zero}
+use Rattle.rule_audit.proofs.Overlaid.{over_assoc, over_nothing, over_zero}
 
 module _ (nodes : List Node) where
   first_append : (xs ys : List NodeId) (values : List ℕ) → first_answer nodes (xs ++ ys) values ≡ over (first_answer nodes xs values) (first_answer nodes ys values)
@@ -24,15 +23,3 @@ module _ (nodes : List Node) where
   all_zero (id ∷ ids) values h =
       let z = over_zero (answer nodes id.0 values) (first_answer nodes ids values) h in
       All-cons (λ (i : NodeId). answer nodes i.0 values ≡ 0) id ids z.0 (all_zero ids values z.1)
-
-  -- the same as leaves are gone through
-  pub first_here : (ids : List NodeId) (i : ℕ) (d : NodeId) → i < length ids → (answer nodes (get_or ids i d).0 [] ≡ 0 → ⊥) → first_answer nodes (drop i ids) [] ≡ answer nodes (get_or ids i d).0 []
-  first_here ids i d less some =
-      at_drop_more (λ (xs : List NodeId). first_answer nodes xs []) ids i d less ∙ over_some (answer nodes (get_or ids i d).0 []) (first_answer nodes (drop (i + 1) ids) []) some
-
-  pub first_later : (ids : List NodeId) (i : ℕ) (d : NodeId) → i < length ids → answer nodes (get_or ids i d).0 [] ≡ 0 → first_answer nodes (drop i ids) [] ≡ first_answer nodes (drop (i + 1) ids) []
-  first_later ids i d less none =
-      at_drop_more (λ (xs : List NodeId). first_answer nodes xs []) ids i d less ∙ over_none (answer nodes (get_or ids i d).0 []) (first_answer nodes (drop (i + 1) ids) []) none
-
-  pub first_end : (ids : List NodeId) (i : ℕ) → length ids ≤ i → first_answer nodes (drop i ids) [] ≡ 0
-  first_end ids i past = at_drop_all (λ (xs : List NodeId). first_answer nodes xs []) ids i past

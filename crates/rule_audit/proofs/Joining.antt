@@ -1,5 +1,5 @@
 -- The numbers of a list, by those of its two parts.
-use Rattle.std.proofs.Common.{◌≡◌, ◌∷◌, ◌++◌, ℕ, ◌≤◌, ◌<◌, ◌+◌, suc, List, [], Bool, true, false, cond, ap, refl, sym, ◌∙◌, subst, length, append_assoc, arith, nat_eq, option_map, Option, Some, unwrap_or, slice_get, ne_eqb, eqb-true, length-append}
+use Rattle.std.proofs.Common.{◌≡◌, ◌∷◌, ◌++◌, ℕ, ◌≤◌, ◌<◌, ◌+◌, suc, List, [], Bool, true, false, cond, ap, refl, sym, ◌∙◌, subst, length, arith, nat_eq, option_map, Option, Some, unwrap_or, slice_get, ne_eqb, eqb-true}
 use Rattle.field_boxes.specs.declared.rule.Rule as code
 use Rattle.field_boxes.specs.Fields.{stated}
 use Rattle.fdd_build.specs.Rules.{decided}
@@ -9,82 +9,57 @@ use Rattle.rule_audit.specs.declared.label.Next.{Next}
 use Rattle.rule_audit.specs.declared.label.Next.TheVariants.{Nothing, Alike, Otherwise}
 use Rattle.rule_audit.specs.Labels.{is_open, label_at, labelled, next_of, number_of, own_number}
 use Rattle.rule_audit.specs.Joined.{AllBelow, AllDecide, StandAt, decision_of, joined, with_below, with_next}
+use Rattle.rule_audit.specs.Parts.{over}
 use Rattle.rule_audit.proofs.Numbers.{label_back, no_label}
+use Rattle.rule_audit.proofs.Overlaid.{over_nothing, over_some}
 use Rattle.rule_audit.proofs.Told.{meets}
-
-slice_get-front : (front : List code.Rule) (rule : code.Rule) (rules : List code.Rule) → slice_get (front ++ rule ∷ rules) (length front) ≡ Some rule
-slice_get-front [] rule rules = refl
-slice_get-front (r ∷ front) rule rules = slice_get-front front rule rules
 
 -- over 0 or under it a number is as it was
 pub none_above : (first : ℕ) (all : List code.Rule) (lower : ℕ) → joined first all 0 lower ≡ lower
 unfolding joined
 none_above first all lower = refl
 
-still : (n : ℕ) (t : Bool) → nat_eq n 0 ≡ t → cond t 0 n ≡ n
-still n true e = sym (eqb-true n 0 e)
-still n false e = refl
-
 pub none_below : (first : ℕ) (all : List code.Rule) (upper : ℕ) → joined first all upper 0 ≡ upper
 unfolding joined
-none_below first all upper = still upper (nat_eq upper 0) refl
+none_below first all upper = over_nothing upper
 
-pub decide_front : (xs ys : List code.Rule) → AllDecide (xs ++ ys) → AllDecide xs
-decide_front [] ys h = tt
-decide_front (rule ∷ xs) ys h = (h.0, decide_front xs ys h.1)
+pub decide_parts : (xs ys : List code.Rule) → AllDecide (xs ++ ys) → AllDecide xs × AllDecide ys
+decide_parts [] ys h = (tt, h)
+decide_parts (rule ∷ xs) ys h = let r = decide_parts xs ys h.1 in ((h.0, r.0), r.1)
 
-pub decide_back : (xs ys : List code.Rule) → AllDecide (xs ++ ys) → AllDecide ys
-decide_back [] ys h = h
-decide_back (rule ∷ xs) ys h = decide_back xs ys h.1
+pub below_parts : (first : ℕ) (xs ys : List code.Rule) → AllBelow first (xs ++ ys) → AllBelow first xs × AllBelow first ys
+below_parts first [] ys h = (tt, h)
+below_parts first (rule ∷ xs) ys h = let r = below_parts first xs ys h.1 in ((h.0, r.0), r.1)
 
-pub below_front : (first : ℕ) (xs ys : List code.Rule) → AllBelow first (xs ++ ys) → AllBelow first xs
-below_front first [] ys h = tt
-below_front first (rule ∷ xs) ys h = (h.0, below_front first xs ys h.1)
+pub stand_parts : (all : List code.Rule) (from place : ℕ) (xs ys : List code.Rule) → place ≡ from + length xs → StandAt all from (xs ++ ys) → StandAt all from xs × StandAt all place ys
+stand_parts all from place [] ys is h = let same : from ≡ place = omega (arith, is) in (tt, subst (λ n. StandAt all n ys) same h)
+stand_parts all from place (rule ∷ xs) ys is h = let r = stand_parts all (suc from) place xs ys (omega (arith, is)) h.1 in ((h.0, r.0), r.1)
 
-pub below_back : (first : ℕ) (xs ys : List code.Rule) → AllBelow first (xs ++ ys) → AllBelow first ys
-below_back first [] ys h = h
-below_back first (rule ∷ xs) ys h = below_back first xs ys h.1
-
-pub stand_front : (all : List code.Rule) (from : ℕ) (xs ys : List code.Rule) → StandAt all from (xs ++ ys) → StandAt all from xs
-stand_front all from [] ys h = tt
-stand_front all from (rule ∷ xs) ys h = (h.0, stand_front all (suc from) xs ys h.1)
-
-pub stand_back : (all : List code.Rule) (from place : ℕ) (xs ys : List code.Rule) → place ≡ from + length xs → StandAt all from (xs ++ ys) → StandAt all place ys
-stand_back all from place [] ys is h = let same : from ≡ place = omega (arith, is) in subst (λ n. StandAt all n ys) same h
-stand_back all from place (rule ∷ xs) ys is h = stand_back all (suc from) place xs ys (omega (arith, is)) h.1
+stand_later : (rule : code.Rule) (all : List code.Rule) (from : ℕ) (rules : List code.Rule) → StandAt all from rules → StandAt (rule ∷ all) (suc from) rules
+stand_later rule all from [] h = tt
+stand_later rule all from (next ∷ rules) h = (h.0, stand_later rule all (suc from) rules h.1)
 
 -- a list stands in itself
-stand_in : (front rules : List code.Rule) → StandAt (front ++ rules) (length front) rules
-stand_in front [] = tt
-stand_in front (rule ∷ rules) =
-    let same : length (front ++ rule ∷ []) ≡ suc (length front) = omega (arith, length-append front (rule ∷ [])) in
-    let all : (front ++ rule ∷ []) ++ rules ≡ front ++ rule ∷ rules = append_assoc front (rule ∷ []) rules in (
-      slice_get-front front rule rules,
-      subst (λ n. StandAt (front ++ rule ∷ rules) n rules) same (subst (λ rs. StandAt rs (length (front ++ rule ∷ [])) rules) all (stand_in (front ++ rule ∷ []) rules)),
-    )
-
 pub stand_itself : (rules : List code.Rule) → StandAt rules 0 rules
-stand_itself rules = stand_in [] rules
+stand_itself [] = tt
+stand_itself (rule ∷ rules) = (refl, stand_later rule rules 0 rules (stand_itself rules))
 
 module _ (header : List ℕ) where
   abbrev number : List code.Rule → ℕ
   number rules = decided stated rules header
 
-  number_by : (rule : code.Rule) (xs ys : List code.Rule) (m : Bool) → meets stated header rule ≡ m → 0 < rule.decision →
-      number (xs ++ ys) ≡ cond (nat_eq (number xs) 0) (number ys) (number xs) →
-      number (rule ∷ xs ++ ys) ≡ cond (nat_eq (number (rule ∷ xs)) 0) (number ys) (number (rule ∷ xs))
-  number_by rule xs ys true e some rest =
-      let head = decided_head stated header rule xs true e in
-      decided_head stated header rule (xs ++ ys) true e
-      ∙ sym (ap (λ n. cond (nat_eq n 0) (number ys) n) head ∙ ap (λ t. cond t (number ys) rule.decision) (ne_eqb rule.decision 0 (λ z. omega (arith, some, z))))
-  number_by rule xs ys false e some rest =
-      let head = decided_head stated header rule xs false e in
-      decided_head stated header rule (xs ++ ys) false e ∙ rest ∙ sym (ap (λ n. cond (nat_eq n 0) (number ys) n) head)
+  head_over : (m : Bool) (d n a b : ℕ) → 0 < d → n ≡ over a b → cond m d n ≡ over (cond m d a) b
+  head_over true d n a b some e = sym (over_some d b (λ z. omega (arith, some, z)))
+  head_over false d n a b some e = e
 
   -- what two parts decide: as the first, and where that decides nothing, as the second
-  pub number_parts : (xs ys : List code.Rule) → AllDecide xs → number (xs ++ ys) ≡ cond (nat_eq (number xs) 0) (number ys) (number xs)
+  pub number_parts : (xs ys : List code.Rule) → AllDecide xs → number (xs ++ ys) ≡ over (number xs) (number ys)
   number_parts [] ys some = refl
-  number_parts (rule ∷ xs) ys some = number_by rule xs ys (meets stated header rule) refl some.0 (number_parts xs ys some.1)
+  number_parts (rule ∷ xs) ys some =
+      let m = meets stated header rule in
+      decided_head stated header rule (xs ++ ys) m refl
+      ∙ head_over m rule.decision (number (xs ++ ys)) (number xs) (number ys) some.0 (number_parts xs ys some.1)
+      ∙ sym (ap (λ n. over n (number ys)) (decided_head stated header rule xs m refl))
 
 -- how a decision is beside another one, by the two tests
 next_read : (d x : ℕ) (s t : Bool) → nat_eq x 0 ≡ s → nat_eq d x ≡ t → next_of d x ≡ cond s Nothing (cond t Alike Otherwise)
@@ -121,7 +96,7 @@ module _ (first : ℕ) (all : List code.Rule) where
   own_by o from x f g lower rule true z at low below e =
       let none : lower ≡ 0 = eqb-true lower 0 z in
       let nothing : f ≡ 0 = sym below ∙ ap decision_at none ∙ ap (decision_of all 0) (no_label first 0 (omega (arith, low))) in
-      ap (own_number first o from rule) (e ∙ ap (λ n. cond (nat_eq x 0) n x) nothing ∙ still x (nat_eq x 0) refl)
+      ap (own_number first o from rule) (e ∙ ap (λ n. cond (nat_eq x 0) n x) nothing ∙ over_nothing x)
   own_by true from x f g lower rule false z at low below e =
       sym (ap (below_own true from rule x) below ∙ open_by from x f g rule at e)
   own_by false from x f g lower rule false z at low below e =
@@ -179,22 +154,17 @@ module _ (first : ℕ) (all : List code.Rule) where
         let same : from ≡ place = omega (arith, is) in
         ap (λ n. labelled first left_open n ys header) same ∙ sym (none_above first all (labelled first left_open place ys header))
     parts from place (rule ∷ xs) ys is at some low =
-        parts_by from rule xs ys (labelled first left_open place ys header) (meets stated header rule) refl at.0 some.0 low.0 (decide_front xs ys some.1)
-        (tells_number place ys (omega (arith, low.0)) (stand_back all (suc from) place xs ys (omega (arith, is)) at.1) (below_back first xs ys low.1))
+        parts_by from rule xs ys (labelled first left_open place ys header) (meets stated header rule) refl at.0 some.0 low.0 (decide_parts xs ys some.1).0
+        (tells_number place ys (omega (arith, low.0)) (stand_parts all (suc from) place xs ys (omega (arith, is)) at.1).1 (below_parts first xs ys low.1).1)
         (parts (suc from) place xs ys (omega (arith, is)) at.1 some.1 low.1)
 
 module _ (first : ℕ) (left_open : List Bool) (header : List ℕ) where
-  closed_by : (from : ℕ) (rule : code.Rule) (rules : List code.Rule) (m : Bool) → meets stated header rule ≡ m → is_open left_open from ≡ false →
-      labelled first left_open (suc from) rules header ≡ decided stated rules header →
-      cond m (own_number first (is_open left_open from) from rule (decided stated rules header)) (labelled first left_open (suc from) rules header) ≡ decided stated (rule ∷ rules) header
-  closed_by from rule rules true e none rest =
-      ap (λ o. own_number first o from rule (decided stated rules header)) none ∙ sym (decided_head stated header rule rules true e)
-  closed_by from rule rules false e none rest = rest ∙ sym (decided_head stated header rule rules false e)
-
   -- where no rule is open, the number is what is decided
   pub closed : (from : ℕ) (rules : List code.Rule) → ((k : ℕ) → from ≤ k → k < from + length rules → is_open left_open k ≡ false) →
       labelled first left_open from rules header ≡ decided stated rules header
   closed from [] h = refl
   closed from (rule ∷ rules) h =
-      closed_by from rule rules (meets stated header rule) refl (h from (omega arith) (omega arith))
-      (closed (suc from) rules (λ k low high. h k (omega (arith, low)) (omega (arith, high))))
+      let m = meets stated header rule in
+      ap (λ o. cond m (own_number first o from rule (decided stated rules header)) (labelled first left_open (suc from) rules header)) (h from (omega arith) (omega arith))
+      ∙ ap (λ n. cond m rule.decision n) (closed (suc from) rules (λ k low high. h k (omega (arith, low)) (omega (arith, high))))
+      ∙ sym (decided_head stated header rule rules m refl)

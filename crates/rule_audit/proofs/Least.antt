@@ -1,9 +1,8 @@
 -- The least values of a level that are wanted, by those of the next level.
 use Rattle.std.proofs.Common.{◌≡◌, ◌∷◌, ◌++◌, ◌<◌, ◌∙◌, ℕ, zero, suc, List, [], true, false, length, drop, take, set, ap, refl, sym, subst, inl, inr, arith}
 use Rattle.std.proofs.lemmas.Bool.{cases_lt, true≢false}
-use Rattle.std.proofs.lemmas.List.{drop_all, length-append, length-take-le}
+use Rattle.std.proofs.lemmas.List.{length-append, length-take-le}
 use Rattle.std.proofs.Math.Seq.{take-suc-set}
-use Rattle.field_boxes.specs.declared.header.Header.{Header}
 use Rattle.field_boxes.specs.Fields.{stated, greatest_of, AreValues, ComesBefore}
 use Rattle.node_store.specs.Diagram.{Node}
 use Rattle.node_store.proofs.Values.{each, first, values_from}
@@ -14,8 +13,6 @@ use Rattle.rule_audit.specs.declared.seeking.Found.TheVariants.{At, Nowhere, Gav
 use Rattle.rule_audit.specs.Around.{IsWanted}
 use Rattle.rule_audit.specs.Found.{IsFound, IsLeastWanted, NoneIsWanted, is_nowhere}
 use Rattle.rule_audit.specs.Steps.{IsStep}
-use Rattle.rule_audit.proofs.Order.{none_before}
-use Rattle.rule_audit.proofs.Stated.{no_values}
 use Rattle.node_store.proofs.Stated.{has_field, next_is, top_is}
 
 -- values that begin so, with one more behind them
@@ -33,9 +30,6 @@ module _ (nodes : List Node) (depth : ℕ) (around : Around) where
   -- nothing is wanted that begins with a value below this one
   abbrev pub AreGone : ℕ → Type 0
   AreGone lo = (v : ℕ) (values : List ℕ) → v < lo → AreValues (drop (suc depth) stated) values → IsWanted nodes around (v ∷ values) → ⊥
-
-  pub none_gone : AreGone 0
-  none_gone = λ v values less ok wanted. omega (arith, less)
 
   pub all_gone : (lo : ℕ) → depth < 5 → greatest_of depth < lo → AreGone lo → NoneIsWanted nodes (drop depth stated) around
   all_gone lo five past gone = λ values ok wanted.
@@ -86,12 +80,3 @@ module _ (nodes : List Node) (depth : ℕ) (around : Around) where
 pub nowhere : (nodes : List Node) (depth : ℕ) (around : Around) (values : List ℕ) (found : Found) → IsFound nodes depth around values found → is_nowhere found ≡ true → NoneIsWanted nodes (drop depth stated) around
 nowhere nodes depth around values Nowhere h e = h
 nowhere nodes depth around values found h e = absurd (true≢false (sym e))
-
--- at the leaves no values are left
-pub wanted_there : (nodes : List Node) (around : Around) (header : Header) → length header.values ≡ 5 → IsWanted nodes around [] → IsFound nodes 5 around header.values (At header)
-wanted_there nodes around header count wanted =
-    let none : drop 5 header.values ≡ [] = drop_all 5 header.values (omega (arith, count)) in
-    (refl, subst (IsLeastWanted nodes [] around) (sym none) (record { in_fields = tt; wanted = wanted; least = λ others ok w before. none_before others before }))
-
-pub unwanted_there : (nodes : List Node) (around : Around) → (IsWanted nodes around [] → ⊥) → NoneIsWanted nodes [] around
-unwanted_there nodes around otherwise = λ values ok wanted. otherwise (subst (IsWanted nodes around) (no_values 5 values refl ok) wanted)

@@ -4,17 +4,14 @@ mod Firsts
 mod Numbers
 mod Told
 mod Named
-mod Alone
 mod Joining
 mod InHalves
 mod Behind
 mod Chosen
-mod Sights
 mod Parts
 mod Stated
 mod EdgesLeft
 mod Meetings
-mod Zeros
 mod Overlaid
 mod FirstAnswers
 mod Throughout

@@ -121,9 +121,6 @@ module _ (first : ℕ) (nodes : List Node) (root : ℕ) where
     pub met_last : (seen : List Bool) (states : List RuleState) → AreMet first nodes root (Before (front ++ suc (greatest_of depth) ∷ [])) seen states → AreMet first nodes root (UpTo front) seen states
     met_last seen states m = met_wider (Before (front ++ suc (greatest_of depth) ∷ [])) (UpTo front) seen states last_grows last_known m
 
-  pub met_all : (seen : List Bool) (states : List RuleState) → AreMet first nodes root (UpTo []) seen states → AreMet first nodes root IsHeader seen states
-  met_all seen states m = met_wider (UpTo []) IsHeader seen states (λ h old. old.0) (λ h ok. inl (ok, inr (h, refl))) m
-
   module _ (front : List ℕ) (depth id : ℕ) (long : length front ≡ depth) (level : level_of nodes id ≡ drop depth stated) (leads : LeadsTo nodes root front id) where
     rest_of : (h rest : List ℕ) → IsHeader h → h ≡ front ++ rest → AreValues (drop depth stated) rest
     rest_of h rest ok is = subst (λ n. AreValues (drop n stated) rest) long (rest_values stated front rest (subst IsHeader is ok))

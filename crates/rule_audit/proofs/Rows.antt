@@ -16,7 +16,6 @@ use Rattle.rule_audit.specs.Marks.{AnswersThroughout}
 use Rattle.rule_audit.specs.Parts.{over}
 use Rattle.rule_audit.specs.Steps.{GainsChild, IsRow, IsStep}
 use Rattle.rule_audit.proofs.FirstAnswers.{first_push}
-use Rattle.rule_audit.proofs.Overlaid.{over_nothing}
 use Rattle.node_store.proofs.Stated.{has_field, is_level, next_is, top_is}
 
 -- read where no node stands
@@ -62,26 +61,10 @@ leads_from nodes id depth value edges e s less at inside is low leads =
     record { low = low; leads = alike; level = level; used = used nodes e.to.0 (suc depth) level }
 
 module _ (nodes : List Node) where
-  -- a child that answers nothing isn't counted
-  pub passed_over : (xs : List NodeId) (id : ℕ) → AnswersThroughout nodes true id → GainsChild nodes xs xs id
-  passed_over xs id nothing = record {
-    stand = λ place at h. h;
-    answers = λ values ok.
-        sym (ap (λ n. over (first_answer nodes xs values) n) (eqb-true (answer nodes id values) 0 (nothing values ok)) ∙ over_nothing (first_answer nodes xs values));
-  }
-
   pub counted : (xs ys : List NodeId) (id : NodeId) → ys ≡ xs ++ id ∷ [] → GainsChild nodes xs ys id.0
   counted xs ys id is = record {
     stand = λ place at h. subst (StandAtLevel nodes place) (sym is) (All-push (λ (i : NodeId). level_of nodes i.0 ≡ place) xs id h at);
     answers = λ values ok. ap (λ (zs : List NodeId). first_answer nodes zs values) is ∙ first_push nodes xs id values;
-  }
-
-  pub first_row : (depth lo : ℕ) (xs : List NodeId) → lo ≤ greatest_of depth → xs ≡ [] → IsRow nodes depth [] lo (greatest_of depth) xs
-  first_row depth lo xs low is = record {
-    low = low;
-    high = omega arith;
-    stand = subst (StandAtLevel nodes (drop (suc depth) stated)) (sym is) (All-nil (λ (i : NodeId). level_of nodes i.0 ≡ drop (suc depth) stated));
-    answers = λ v values from to ok. sym (ap (λ (zs : List NodeId). first_answer nodes zs values) is);
   }
 
   -- one node more

@@ -5,8 +5,7 @@ use Rattle.bit_merge.proofs.runs.merge_runs.Goals as goal
 
 pub run_end-end-requires-clause-decision : goal.run_end-end-requires-clause-decision
 run_end-end-requires-clause-decision c =
-    decision-is c.args.entries.now c.loop-start.start c.index-entries-start.result c.loop-start-test.true c.index-entries-start.is
-    ∙ ap (λ (e : Entry). e.decision) c.index-entries-start.is
+    decision-is c.args.entries.now c.loop-start.start c.index-entries-start.result c.loop-start-test.true
 
 pub merge_run-requires : goal.merge_run-requires
 merge_run-requires c = run-has c.args.entries.now c.loop-start.start _ c.run_end-end.result c.run_end-end.ensures

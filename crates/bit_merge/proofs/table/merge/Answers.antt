@@ -1,18 +1,23 @@
+use Rattle.std.proofs.Common.{map}
 use Rattle.std.proofs.lemmas.Result.{IfOk-weaker}
-use Rattle.bit_merge.proofs.Promised.{table-is, table-closed, table-alike, table-tight}
+use Rattle.ternary_words.specs.Views.{entry_of}
+use Rattle.bit_merge.proofs.Merged.{is_closed, is_alike, is_tight}
 use Rattle.bit_merge.proofs.table.merge.Goals as goal
 
 pub returns-clause-closed : goal.returns-clause-closed
 returns-clause-closed c =
-    let es = c.args.entries.items in
-    IfOk-weaker c.merge_runs.result _ _ (λ out h. table-closed es out.items (table-is es c.as_slice.result.now out.items c.as_slice.ensures.value h)) c.merge_runs.ensures
+    IfOk-weaker c.merge_runs.result _ _
+    (λ out h names distinct numbered. is_closed (map (entry_of names) c.args.entries.items) (map (entry_of names) out.items) (h.merged names distinct numbered))
+    (rw c.as_slice.ensures.value at c.merge_runs.ensures)
 
 pub returns-clause-alike : goal.returns-clause-alike
 returns-clause-alike c =
-    let es = c.args.entries.items in
-    IfOk-weaker c.merge_runs.result _ _ (λ out h. table-alike es out.items (table-is es c.as_slice.result.now out.items c.as_slice.ensures.value h)) c.merge_runs.ensures
+    IfOk-weaker c.merge_runs.result _ _
+    (λ out h names distinct numbered values. is_alike (map (entry_of names) c.args.entries.items) (map (entry_of names) out.items) values (h.merged names distinct numbered))
+    (rw c.as_slice.ensures.value at c.merge_runs.ensures)
 
 pub returns-clause-tight : goal.returns-clause-tight
 returns-clause-tight c =
-    let es = c.args.entries.items in
-    IfOk-weaker c.merge_runs.result _ _ (λ out h. table-tight es out.items (table-is es c.as_slice.result.now out.items c.as_slice.ensures.value h)) c.merge_runs.ensures
+    IfOk-weaker c.merge_runs.result _ _
+    (λ out h names distinct numbered tight. is_tight (map (entry_of names) c.args.entries.items) (map (entry_of names) out.items) (h.merged names distinct numbered) tight)
+    (rw c.as_slice.ensures.value at c.merge_runs.ensures)

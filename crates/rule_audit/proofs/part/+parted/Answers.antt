@@ -10,17 +10,17 @@ use Rattle.rule_audit.proofs.PartsShown.{laid_shows, part_shows}
 use Rattle.rule_audit.proofs.part.+parted.Goals as goal
 
 pub parted-requires : goal.parted-requires
-parted-requires t c = (
-  omega (arith, c.decreases, c.if-rules-lt2.false, c.split_at.ensures.front_len),
-  (c.requires.zeros, halves.decide_first c.args.rules.now c.split_at.result.0.now c.split_at.result.1.now (length c.args.rules.now / 2) c.split_at.ensures.front c.split_at.ensures.back c.requires.decide),
-)
+parted-requires t c =
+    let rules = c.args.rules.now in
+    let decide = halves.decide_halves rules c.split_at.result.0.now c.split_at.result.1.now (length rules / 2) c.split_at.ensures.front c.split_at.ensures.back c.requires.decide in
+    (omega (arith, c.decreases, c.if-rules-lt2.false, c.split_at.ensures.front_len), (c.requires.zeros, decide.0))
 
 pub parted-requires-2 : goal.parted-requires-2
 parted-requires-2 t c = (
   omega (arith, c.decreases, c.if-rules-lt2.false, c.split_at.ensures.back_len),
   (
     zeros_last c.args.store.now c.parted.new.store c.args.over.now.nothing.nodes.items c.in_ok-first.ensures.grows c.requires.zeros,
-    halves.decide_second c.args.rules.now c.split_at.result.0.now c.split_at.result.1.now (length c.args.rules.now / 2) c.split_at.ensures.front c.split_at.ensures.back c.requires.decide,
+    (halves.decide_halves c.args.rules.now c.split_at.result.0.now c.split_at.result.1.now (length c.args.rules.now / 2) c.split_at.ensures.front c.split_at.ensures.back c.requires.decide).1,
   ),
 )
 
@@ -48,7 +48,7 @@ returns-clause-part t c =
     (part_stays c.parted.new.store second c.split_at.result.0.now first_part c.in_ok-second.ensures.grows c.in_ok-first.ensures.part) in
     let low = subst (λ rs. IsPart second rs second_part) c.split_at.ensures.back c.in_ok-second.ensures.part in
     c.halves.ensures third rules
-    (laid_shows second third rules c.shown.result c.shown-2.result c.in_ok-shown-2.shown (halves.decide_first rules (take n rules) (drop n rules) n refl refl c.requires.decide)
+    (laid_shows second third rules c.shown.result c.shown-2.result c.in_ok-shown-2.shown (halves.decide_halves rules (take n rules) (drop n rules) n refl refl c.requires.decide).0
     (subst (Shows second (take n rules)) (sym c.shown.ensures) (part_shows second (take n rules) first_part up))
     (subst (Shows second (drop n rules)) (sym c.shown-2.ensures) (part_shows second (drop n rules) second_part low))
     c.in_ok-shown-2.ensures.level c.in_ok-shown-2.ensures.answers)

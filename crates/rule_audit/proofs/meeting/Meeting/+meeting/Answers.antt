@@ -1,13 +1,13 @@
 use Rattle.std.proofs.Common.{◌≡◌, ◌<◌, ◌+◌, ◌∙◌, ◌∷◌, ◌++◌, ℕ, List, [], false, Some, length, get_or, drop, take, set, ap, sym, subst, refl, arith, rules, suc, unwrap_or}
 use Rattle.std.proofs.lemmas.Option.{slice_get-get_or}
 use Rattle.std.proofs.lemmas.List.{length-take-le, take_all, take_more_set}
-use Rattle.field_boxes.specs.Fields.{stated, greatest_of}
+use Rattle.field_boxes.specs.Fields.{greatest_of}
 use Rattle.node_store.specs.declared.edge.Edge.{Edge}
 use Rattle.node_store.specs.Edges.{AreFull, child_of}
 use Rattle.node_store.specs.Levels.{HasField, next, top_of}
 use Rattle.rule_audit.proofs.Rows.{used}
-use Rattle.rule_audit.specs.Meeting.{AreMet, Before, LeadsTo, UpTo, next_shown, state_after}
-use Rattle.rule_audit.proofs.EdgesLeft.{RiseFrom, all_left, next_edge, none_left}
+use Rattle.rule_audit.specs.Meeting.{AreMet, Before, UpTo, next_shown, state_after}
+use Rattle.rule_audit.proofs.EdgesLeft.{RiseFrom, all_left, next_edge}
 use Rattle.rule_audit.proofs.Meetings as meetings
 use Rattle.rule_audit.proofs.Stated.{header_is}
 use Rattle.field_boxes.proofs.Orders.{field_few}
@@ -17,36 +17,10 @@ use Rattle.rule_audit.proofs.meeting.Meeting.+meeting.Goals as goal
 abbrev no_edge : Edge
 no_edge = record { hi = 0; to = record { 0 = 0 } }
 
-pub edge-with_value-header-requires-clause-value : goal.edge-with_value-header-requires-clause-value
-edge-with_value-header-requires-clause-value t c = omega (arith, c.requires.rises, c.requires.within)
-
-pub edge-overflow_add-depth : goal.edge-overflow_add-depth
-edge-overflow_add-depth t c = omega (arith, c.requires.depth)
-
 -- the values with the one that was written
 with_one : (values others : List ℕ) (depth v : ℕ) → length values ≡ 5 → depth < 5 → others ≡ set values depth v → take (depth + 1) others ≡ take depth values ++ v ∷ []
 with_one values others depth v five less is =
     ap (take (depth + 1)) is ∙ take_more_set values depth v (omega (arith, five, less))
-
-pub edge-node-requires : goal.edge-node-requires
-edge-node-requires t c =
-    let nodes = c.args.self.now.store.now in
-    let root = c.args.self.now.root.0 in
-    let five : length c.args.header.values ≡ 5 = search rules in
-    let one : suc c.args.depth ≡ c.args.depth + 1 = omega arith in
-    let is = sym (with_one c.args.header.values c.with_value-header.result.values c.args.depth c.args.lo five c.requires.depth c.with_value-header.ensures) in (
-      omega (arith, c.decreases, c.requires.depth),
-      (
-        omega (arith, c.requires.depth),
-        (
-          c.requires.level ∙ ap (λ n. drop n stated) one,
-          (
-            subst (λ front. LeadsTo nodes root front c.args.edge.to.0) is (c.requires.leads c.args.lo (omega arith) c.requires.rises),
-            (c.requires.room, subst (λ front. AreMet c.args.self.now.first nodes root (Before front) c.args.seen.now c.args.states.now) is c.requires.met),
-          ),
-        ),
-      ),
-    )
 
 pub edge-returns : goal.edge-returns
 edge-returns t c =
@@ -57,9 +31,6 @@ edge-returns t c =
       met = meetings.met_edge c.args.self.now.first nodes root (take c.args.depth c.args.header.values) c.args.lo c.args.edge.hi c.args.edge.to.0 c.requires.rises c.requires.leads c.node.new.seen c.node.new.states
           (subst (λ front. AreMet c.args.self.now.first nodes root (UpTo front) c.node.new.seen c.node.new.states) is c.node.ensures.met);
     }
-
-pub edges-edges-edges-requires : goal.edges-edges-edges-requires
-edges-edges-edges-requires t c = used c.args.self.now.store.now c.args.id.0 c.args.depth c.requires.level
 
 pub edges-loop-edge-init : goal.edges-loop-edge-init
 edges-loop-edge-init t c =
@@ -125,19 +96,6 @@ edges-loop-edge-preserved t c =
       met = subst (λ n. AreMet c.args.self.now.first nodes root (Before (front ++ n ∷ [])) c.edge.new.seen c.edge.new.states) low c.edge.ensures.met;
     }
 
-pub edges-returns : goal.edges-returns
-edges-returns t c =
-    let l = c.loop-edge in
-    let nodes = c.args.self.now.store.now in
-    let root = c.args.self.now.root.0 in
-    let front = take c.args.depth c.args.header.values in
-    let last = none_left (greatest_of c.args.depth) l.lo c.edges-edges.result.now l.edge-index c.loop-edge-test.false l.invariant.rise in record {
-      met = subst (λ n. AreMet c.args.self.now.first nodes root (Before (front ++ n ∷ [])) l.seen l.states) last l.invariant.met;
-    }
-
-pub node-bounds-seen-id : goal.node-bounds-seen-id
-node-bounds-seen-id t c = omega (arith, used c.args.self.now.store.now c.args.id.0 c.args.depth c.requires.level, c.requires.room)
-
 pub node-returns-then-seen-id : goal.node-returns-then-seen-id
 node-returns-then-seen-id t c =
     let five : length c.args.header.values ≡ 5 = search rules in
@@ -146,9 +104,6 @@ node-returns-then-seen-id t c =
           (length-take-le c.args.depth c.args.header.values (omega (arith, five, c.requires.depth))) c.requires.level c.requires.leads c.args.seen.now c.args.states.now
           (slice_get-get_or c.args.seen.now c.args.id.0 false inside ∙ ap Some c.if-seen-id.true) c.requires.met;
     }
-
-pub node-worked_out-requires : goal.node-worked_out-requires
-node-worked_out-requires t c = (omega (arith, c.decreases), (c.requires.depth, (c.requires.level, (c.requires.leads, (c.requires.room, c.requires.met)))))
 
 pub node-bounds-seen-id-2 : goal.node-bounds-seen-id-2
 node-bounds-seen-id-2 t c = omega (arith, used c.args.self.now.store.now c.args.id.0 c.args.depth c.requires.level, c.requires.room)
@@ -160,13 +115,6 @@ node-returns t c =
           (length-take-le c.args.depth c.args.header.values (omega (arith, five, c.requires.depth))) c.requires.level c.requires.leads c.args.header.values c.worked_out.new.seen c.worked_out.new.states
           (header_is c.args.header.values five c.args.header.in_fields) refl c.worked_out.ensures.met;
     }
-
-pub worked_out-decision-requires : goal.worked_out-decision-requires
-worked_out-decision-requires t c = used c.args.self.now.store.now c.args.id.0 c.args.depth c.requires.level
-
-pub worked_out-edges-requires : goal.worked_out-edges-requires
-worked_out-edges-requires t c =
-    (omega (arith, c.decreases), (omega (arith, c.requires.depth, c.if-depth-eq5.false), (c.requires.level, (c.requires.leads, (c.requires.room, c.requires.met)))))
 
 pub worked_out-returns-then-depth-eq5 : goal.worked_out-returns-then-depth-eq5
 worked_out-returns-then-depth-eq5 t c =

@@ -18,9 +18,6 @@ half_shows nodes half rules part id is same h = subst (λ (rs : List code.Rule).
 half_is : (nodes : List Node) (half rules : List code.Rule) (part same : Part) → half ≡ rules → same ≡ part → IsPart nodes rules part → IsPart nodes half same
 half_is nodes half rules part same is e h = subst (λ (rs : List code.Rule). IsPart nodes rs same) (sym is) (subst (IsPart nodes rules) (sym e) h)
 
-pub alone-requires-clause-few : goal.alone-requires-clause-few
-alone-requires-clause-few t c = (subst (IsPart c.args.self.now.store.now c.args.rules.now) c.in-Alone.is c.requires.part).0
-
 pub part-requires : goal.part-requires
 part-requires t c =
     let nodes = c.args.self.now.store.now in
@@ -61,6 +58,3 @@ part-requires-in-Halves t c =
     let less = ap part_size c.in-Halves.is in
     let same = ap part_size c.deref-in-Halves-5.ensures in
     (omega (arith, c.decreases, less, same), (part, (between, (c.requires.decide, (c.requires.nothing, (c.requires.full, c.in_ok-part-in-Halves.ensures.told))))))
-
-pub returns-in_ok-part-in-Halves-2-clause-count : goal.returns-in_ok-part-in-Halves-2-clause-count
-returns-in_ok-part-in-Halves-2-clause-count t c = omega (arith, c.in_ok-part-in-Halves.ensures.count, c.in_ok-part-in-Halves-2.ensures.count, c.split_at.ensures.front_len, c.split_at.ensures.back_len)

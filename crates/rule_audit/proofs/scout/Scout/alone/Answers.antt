@@ -1,12 +1,8 @@
 use Rattle.std.proofs.Common.{◌≡◌, arith, length, sym, subst}
 use Rattle.std.proofs.lemmas.Bool.{eqb-false}
 use Rattle.rule_audit.specs.Scouted.{AreTold}
-use Rattle.rule_audit.proofs.Between.{around_level, told, told_more}
+use Rattle.rule_audit.proofs.Between.{told, told_more}
 use Rattle.rule_audit.proofs.scout.Scout.alone.Goals as goal
-
-pub state-requires-clause-around : goal.state-requires-clause-around
-state-requires-clause-around c =
-    around_level c.args.self.now.store.now c.args.self.now.rules.now c.args.rules.now (length c.args.states.now.items) c.args.around.now c.requires.between
 
 pub returns-clause-told : goal.returns-clause-told
 returns-clause-told c =
