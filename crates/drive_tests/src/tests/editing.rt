@@ -88,9 +88,19 @@ const SCRIPTS: [Script; 4] = [
 
 /// Runs the session, and compares its lines.
 fn check<R: Abort + AllocGlobal>(rt: &R, script: &Script) -> Result<(), Fail> {
-    let mut editor = editor(rt, 4, 262_144, script.failing, LIST)?;
     let mut out = MemSink::new(rt.alloc(), 1000)?;
-    let ran = run(rt, &mut editor, script.text, &mut out)?;
+    let mut editor = editor(rt, 4, 262_144, script.failing, LIST)?;
+    check_lines(rt, script, &mut editor, &mut out)
+}
+
+/// The same of a session that has begun.
+fn check_lines<R: Abort + AllocGlobal>(
+    rt: &R,
+    script: &Script,
+    editor: &mut Editor<FaultyBank>,
+    out: &mut MemSink,
+) -> Result<(), Fail> {
+    let ran = run(rt, editor, script.text, out)?;
     assert!(rt; ran == Some(script.commands));
     assert!(rt; out.bytes() == script.lines.as_bytes());
     Ok(())
