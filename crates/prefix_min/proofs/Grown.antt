@@ -19,7 +19,7 @@ use Rattle.prefix_min.specs.Merging.{AreKept, IsJoined}
 use Rattle.prefix_min.specs.NextPiece.{AreFit, IsNext, weight_below}
 use Rattle.prefix_min.specs.Parts.{IsAbout}
 use Rattle.prefix_min.specs.Pieces.{reach}
-use Rattle.prefix_min.specs.Plan.{more_choices, more_labels, own_choice, rows_of}
+use Rattle.prefix_min.specs.Plan.{IsTopped, more_labels, own_choice, rows_of}
 use Rattle.prefix_min.specs.Savings.{AreSavings, AreSums, IsGain, alone, lowered, saved}
 use Rattle.prefix_min.specs.Trie.{costs_of}
 use Rattle.prefix_min.proofs.Blocks.{about-aligned, about-ends, from-within, sides, to-within}
@@ -128,7 +128,7 @@ record IsOther (keeps : Bool) (weights : List ℕ) (pieces : List Piece) (about 
   fits : (top : Gain) (sums : List LabelCost) → IsGain weights xs ys top.gain top.best → AreSums xs ys sums → top.gain ≤ c2
   both : (top : Gain) (sums new : List LabelCost) (cs3 : List Choice) (al3 : List ℕ) → IsGain weights xs ys top.gain top.best → AreSums xs ys sums →
       new ≡ before ++ lowered top.gain sums →
-      (IsTrue keeps → al3 ≡ al2 ++ more_labels top sums) → (IsTrue keeps → cs3 ≡ cs2 ++ more_choices top about.low about.bits (length cs0) (length al2) (length al3)) →
+      (IsTrue keeps → al3 ≡ al2 ++ more_labels top sums) → (IsTrue keeps → IsTopped top about.low about.bits (length cs0) (length al2) (length al3) cs2 cs3) →
       IsBuilt keeps weights pieces about.bits about.low before new c0 (c2 - top.gain) next2 cs0 cs3 al0 al3
 
 -- what two parts save, one behind the other
@@ -183,7 +183,7 @@ module _ {keeps : Bool} {weights : List ℕ} {pieces : List Piece} {bits low fir
             (halves-built fit size refl g.built hi top i t
             (both-chosen g.built.chosen hi.chosen about.bits part.low g.built.node hi.node size (inl (refl, refl)) (λ d. refl)) put
             (omega (arith, g.built.cost, hi.cost)) put_also
-            (λ yes. put_choices yes ∙ ap (λ v. cs2 ++ more_choices top v about.bits (length cs0) (length al2) (length al3)) same));
+            (λ yes. subst (λ v. IsTopped top v about.bits (length cs0) (length al2) (length al3) cs2 cs3) same (put_choices yes)));
       }
 
       below : about.low + 2 ^ part.bits ≡ part.low → IsBuilt keeps weights pieces part.bits about.low mid after c1 c2 first cs1 cs2 al1 al2 → next2 ≡ next1 →
@@ -230,15 +230,15 @@ module _ {keeps : Bool} {weights : List ℕ} {pieces : List Piece} {bits low fir
         both-fits = other.fits top j.sums gained summed
 
         pub grown-both : {cs3 : List Choice} {below also end : ℕ} → below ≡ length cs0 → also ≡ length al2 → end ≡ length al3 →
-            (IsTrue keeps → cs3 ≡ cs2 ++ more_choices top about.low about.bits below also end) →
+            (IsTrue keeps → IsTopped top about.low about.bits below also end cs2 cs3) →
             IsGrown keeps weights pieces bits low first about before new c0 (c2 - top.gain) next2 cs0 cs3 al0 al3
         grown-both {cs3 = cs3} {below = below} {also = also} {end = end} p q r put = record {
           built = other.both top j.sums new cs3 al3 gained summed
               (j.savings ∙ ap (λ zs. zs ++ lowered top.gain j.sums) (front-is before mid after g.built.savings other.ys g.built.pushed other.pushed ls lm))
               j.also
-              (λ yes. put yes ∙ ap (λ x. cs2 ++ more_choices top about.low about.bits x also end) p
-              ∙ ap (λ x. cs2 ++ more_choices top about.low about.bits (length cs0) x end) q
-              ∙ ap (λ x. cs2 ++ more_choices top about.low about.bits (length cs0) (length al2) x) r);
+              (λ yes. subst (λ x. IsTopped top about.low about.bits (length cs0) (length al2) x cs2 cs3) r
+              (subst (λ x. IsTopped top about.low about.bits (length cs0) x end cs2 cs3) q
+              (subst (λ x. IsTopped top about.low about.bits x also end cs2 cs3) p (put yes))));
           less = omega (arith, wide, lt);
           aligned = about_aligned;
           from = about_from;

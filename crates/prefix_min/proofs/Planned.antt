@@ -1,15 +1,15 @@
 -- What the parts choose, and the rows that they write.
 use Rattle.std.proofs.Common.{◌≡◌, ◌≢◌, ◌∷◌, ◌++◌, ℕ, suc, List, [], ◌+◌, ◌-◌, ◌^◌, ◌<◌, ◌≤◌, Bool, true, false, refl, ap, arith, sym, ◌∙◌, inl, inr, ne_eqb, subst, length, get_or, take, drop, append_assoc}
 use Rattle.std.specs.Prelude.{IsTrue, ◌⊎◌, ◌&&◌, ◌==◌, cond, nat_le, nat_lt, not}
-use Rattle.std.proofs.Math.Seq.{drop-append_seam, get_or-append_seam, take-length}
+use Rattle.std.proofs.Math.Seq.{drop-append_seam, get_or-append_seam, take-append-add, take-length}
 use Rattle.std.proofs.lemmas.Bool.Decides.{eqb_tells}
-use Rattle.std.proofs.lemmas.Bool.{eqb-true, leb-true, leb-false, ltb-true, ltb-false}
-use Rattle.std.proofs.lemmas.List.{append-nil, drop-append-le, get_or_append_left, length-append, length-drop, take-append-le}
+use Rattle.std.proofs.lemmas.Bool.{eq-eqb, eqb-true, false≢true, leb-true, leb-false, lt-ltb, ltb-true, ltb-false}
+use Rattle.std.proofs.lemmas.List.{append-nil, drop-append-le, get_or_append_left, length-append, length-drop, length-take-le, take-append-drop, take-append-le}
 use Rattle.prefix_min.specs.declared.plan.Choice.{Choice}
 use Rattle.prefix_min.specs.declared.savings.LabelCost.{LabelCost}
 use Rattle.prefix_min.specs.declared.savings.Gain.{Gain}
 use Rattle.prefix_min.specs.Costs.{Costs, IsConstant, IsSplit, RisesFrom, least_cost, without_row}
-use Rattle.prefix_min.specs.Plan.{AreAdded, AreChosen, Bare, Forest, Grown, IsLaid, IsPlaced, among, beside, more_choices, more_labels, no_choice, own_choice, rows_of, silent}
+use Rattle.prefix_min.specs.Plan.{AreAdded, AreChosen, Bare, Forest, Grown, IsLaid, IsPlaced, IsReplaced, IsTopped, among, beside, more_labels, no_choice, own_choice, rows_of, silent}
 use Rattle.prefix_min.specs.Rows.{ArePartRows, IsPart, row_of}
 use Rattle.prefix_min.specs.Savings.{AreSavings, AreSums, IsGain, further, saved}
 use Rattle.prefix_min.specs.Trie.{Constant, GivesAll, Halves, Node, StandsFor, costs_of}
@@ -142,6 +142,64 @@ both-added {f = f} {g = g} {cs0 = cs0} {cs1 = cs1} {cs2 = cs2} {al0 = al0} {al1 
   added_also = b.added_also ∙ ap (λ al. al ++ b.more_also) a.added_also ∙ append_assoc al0 a.more_also b.more_also;
 }
 
+placed_front : (cs more : List Choice) (al : List ℕ) (to : ℕ) (x : Choice) (labels : List ℕ) → to ≤ length cs → IsPlaced (cs ++ more) al to x labels → IsPlaced cs al to x labels
+placed_front cs more al to x labels le p = record {
+  some = p.some;
+  inside = le;
+  is = sym (get_or_append_left cs more no_choice (to - 1) (omega (arith, p.some, le))) ∙ p.is;
+  ends = p.ends;
+  within = p.within;
+  labels_are = p.labels_are;
+}
+
+-- what is laid in a list is laid in its front, as far as that goes
+laid_front : (cs more : List Choice) (al : List ℕ) (from to : ℕ) (f : Forest) → to ≤ length cs → IsLaid (cs ++ more) al from to f → IsLaid cs al from to f
+laid_front cs more al from to Bare le h = h
+laid_front cs more al from to (Grown rest x labels below) le h = (
+  placed_front cs more al to x labels le h.0,
+  laid_front cs more al x.below (to - 1) below (omega (arith, le)) h.1,
+  laid_front cs more al from x.below rest (omega (arith, le, laid-le (cs ++ more) al x.below (to - 1) below h.1)) h.2,
+)
+
+-- what is left without the last choice, and writes the same rows where that one's label is inherited
+record IsTopless (label : ℕ) (forest : Forest) (cs0 cs : List Choice) (al0 al : List ℕ) : Type 0 where
+  left : Forest
+  kept : AreAdded left cs0 (take (length cs - 1) cs) al0 al
+  rows : (width : ℕ) → rows_of width left label ≡ rows_of width forest label
+
+topless : {label : ℕ} {cs0 cs : List Choice} {al0 al : List ℕ} (forest : Forest) → AreAdded forest cs0 cs al0 al → length cs0 < length cs →
+    (get_or cs (length cs - 1) no_choice).label ≡ label → IsTopless label forest cs0 cs al0 al
+topless Bare a lt same = absurd (omega (arith, lt, a.laid))
+topless {label = label} {cs0 = cs0} {cs = cs} {al0 = al0} {al = al} (Grown rest x labels below) a lt same =
+    let n = length cs - 1 in
+    let size : length (take n cs) ≡ n = length-take-le n cs (omega arith) in
+    let over : n ≡ length cs0 + (n - length cs0) = omega (arith, lt) in
+    let own : x.label == label ≡ true = eq-eqb x.label label (ap (λ y. y.label) (sym a.laid.0.is) ∙ same) in
+    record {
+      left = beside rest below;
+      kept = record {
+        laid = subst (λ m. IsLaid (take n cs) al (length cs0) m (beside rest below)) (sym size)
+            (laid_front (take n cs) (drop n cs) al (length cs0) n (beside rest below) (omega (arith, size))
+            (subst (λ xs. IsLaid xs al (length cs0) n (beside rest below)) (sym (take-append-drop n cs))
+            (laid-beside cs al (length cs0) x.below n rest below a.laid.2 a.laid.1)));
+        more = take (n - length cs0) a.more;
+        added = ap (λ xs. take n xs) a.added ∙ ap (λ k. take k (cs0 ++ a.more)) over ∙ take-append-add cs0 a.more (n - length cs0);
+        more_also = a.more_also;
+        added_also = a.added_also;
+      };
+      rows = λ width. rw own (rows-beside width label rest below);
+    }
+
+same_rows : (width d : ℕ) (x : Choice) (f g : Forest) → rows_of width f x.label ≡ rows_of width g x.label → rows_of width (Grown Bare x [] f) d ≡ rows_of width (Grown Bare x [] g) d
+same_rows width d x f g h = elim (eqb_tells x.label d) [
+  | inl t ↦ rw t.0 (subst (λ k. rows_of width f k ≡ rows_of width g k) t.1 h)
+  | inr t ↦ rw t.0 (ap (λ rs. rs ++ row_of width x.bits x.value x.label ∷ []) h)
+]
+
+no_labels : (labels : List ℕ) → length labels ≡ 0 → labels ≡ []
+no_labels [] h = refl
+no_labels (l ∷ labels) h = absurd (omega (arith, h))
+
 -- a part of one label writes its row
 module _ {weights : List ℕ} {f : ℕ → ℕ} {bits low : ℕ} {c : Costs} (k : IsConstant weights c) (gives : GivesAll f bits low c.label) where
   one_writes : (width d : ℕ) → IsPart width bits low →
@@ -202,18 +260,36 @@ module _ {keeps : Bool} {weights : List ℕ} {f : ℕ → ℕ} {n bits low : ℕ
     abbrev labels : List ℕ
     labels = further g.gain g.best sums
 
-    own_chosen : {cs3 : List Choice} {al3 : List ℕ} → (IsTrue keeps → al3 ≡ al2 ++ labels) →
-        (IsTrue keeps → cs3 ≡ cs2 ++ own_choice low bits g.best (length cs0) (length al2) (length al3) ∷ []) →
+    abbrev own : ℕ → Choice
+    own end = own_choice low bits g.best (length cs0) (length al2) end
+
+    own_writes : (end width d : ℕ) → IsPart width bits low → ArePartRows weights f width bits low d (least_cost c d) (rows_of width (Grown Bare (own end) labels both.forest) d)
+    own_writes end width d part = elim (silent-tells (own end) g.gain d sums some t.rise (omega (arith, t.saves g.best, i.whole some))) [
+      | inl r ↦ rw r.0 (halves-inherit lo hi s (both.rows width d part) (silent_none d r.1))
+      | inr r ↦ rw r.0 (halves-own lo hi s (both.rows width g.best part) d size h k (sym (own-label s a b i some)) part (less_own d r.1))
+    ]
+
+    own_chosen : {cs3 : List Choice} {al3 : List ℕ} → (IsTrue keeps → al3 ≡ al2 ++ labels) → (IsTrue keeps → cs3 ≡ cs2 ++ own (length al3) ∷ []) →
         AreChosen keeps weights f bits low (Halves c lo hi) cs0 cs3 al0 al3
-    own_chosen {al3 = al3} put_also put =
-        let own = own_choice low bits g.best (length cs0) (length al2) (length al3) in
+    own_chosen {al3 = al3} put_also put = record {
+      forest = Grown Bare (own (length al3)) labels both.forest;
+      kept = λ yes. top-added (both.kept yes) (put yes) (put_also yes) refl;
+      writes = own_writes (length al3);
+    }
+
+    own_replaced : IsTrue keeps → {cs3 : List Choice} {al3 : List ℕ} → al3 ≡ al2 ++ labels → IsReplaced g low bits (length cs0) (length al2) (length al3) cs2 cs3 →
+        AreChosen keeps weights f bits low (Halves c lo hi) cs0 cs3 al0 al3
+    own_replaced k {al3 = al3} put_also r =
+        let x = own (length al3) in
+        let top = topless both.forest (both.kept k) r.above r.same in
+        let none : labels ≡ [] = no_labels labels (omega (arith, r.none, ap length put_also, length-append al2 labels)) in
         record {
-          forest = Grown Bare own labels both.forest;
-          kept = λ yes. top-added (both.kept yes) (put yes) (put_also yes) refl;
-          writes = λ width d part. elim (silent-tells own g.gain d sums some t.rise (omega (arith, t.saves g.best, i.whole some))) [
-            | inl r ↦ rw r.0 (halves-inherit lo hi s (both.rows width d part) (silent_none d r.1))
-            | inr r ↦ rw r.0 (halves-own lo hi s (both.rows width g.best part) d size h k (sym (own-label s a b i some)) part (less_own d r.1))
-          ];
+          forest = Grown Bare x labels top.left;
+          kept = λ again. top-added top.kept r.new_is put_also refl;
+          writes = λ width d part. subst (ArePartRows weights f width bits low d (least_cost c d))
+              (subst (λ ls. rows_of width (Grown Bare x ls both.forest) d ≡ rows_of width (Grown Bare x ls top.left) d) (sym none)
+              (same_rows width d x both.forest top.left (sym (top.rows width))))
+              (own_writes (length al3) width d part);
         }
 
   none_chosen : {cs3 : List Choice} {al3 : List ℕ} → g.gain ≡ 0 → (IsTrue keeps → al3 ≡ al2 ++ []) → (IsTrue keeps → cs3 ≡ cs2 ++ []) →
@@ -231,7 +307,16 @@ module _ {keeps : Bool} {weights : List ℕ} {f : ℕ → ℕ} {n bits low : ℕ
   chosen_step true u e r = own_chosen (ltb-true 0 g.gain u) e r
   chosen_step false u e r = none_chosen (omega (arith, ltb-false 0 g.gain u)) e r
 
+  -- where choices aren't kept, nothing is said of those that are put down
+  chosen_where : (kept : Bool) → keeps ≡ kept → {cs3 : List Choice} {al3 : List ℕ} → (IsTrue keeps → al3 ≡ al2 ++ more_labels g sums) →
+      (IsTrue keeps → IsTopped g low bits (length cs0) (length al2) (length al3) cs2 cs3) → AreChosen keeps weights f bits low (Halves c lo hi) cs0 cs3 al0 al3
+  chosen_where false k e r = chosen_step (nat_lt 0 g.gain) refl e (λ yes. absurd (false≢true (sym k ∙ yes)))
+  chosen_where true k e r = elim (r k) [
+    | inl put ↦ chosen_step (nat_lt 0 g.gain) refl e (λ again. put)
+    | inr put ↦ own_replaced put.some k (e k ∙ ap (λ u. al2 ++ cond u (further g.gain g.best sums) []) (lt-ltb 0 g.gain put.some)) put
+  ]
+
   pub halves-chosen : {cs3 : List Choice} {al3 : List ℕ} → (IsTrue keeps → al3 ≡ al2 ++ more_labels g sums) →
-      (IsTrue keeps → cs3 ≡ cs2 ++ more_choices g low bits (length cs0) (length al2) (length al3)) →
+      (IsTrue keeps → IsTopped g low bits (length cs0) (length al2) (length al3) cs2 cs3) →
       AreChosen keeps weights f bits low (Halves c lo hi) cs0 cs3 al0 al3
-  halves-chosen e r = chosen_step (nat_lt 0 g.gain) refl e r
+  halves-chosen e r = chosen_where keeps refl e r

@@ -10,7 +10,7 @@ use Rattle.prefix_min.specs.declared.plan.Choice.{Choice}
 use Rattle.prefix_min.specs.declared.savings.Gain.{Gain}
 use Rattle.prefix_min.specs.Built.{IsBuilt}
 use Rattle.prefix_min.specs.Field.{IsFull, IsFullLabel, IsWhole, SomeFull, no_piece}
-use Rattle.prefix_min.specs.Plan.{Bare, IsLaid, more_choices, more_labels}
+use Rattle.prefix_min.specs.Plan.{Bare, IsLaid, IsTopped, more_labels}
 use Rattle.prefix_min.specs.Costs.{Costs, Has, IsConstant, IsSplit, Lists, RisesFrom, without_row}
 use Rattle.prefix_min.specs.NextPiece.{AreFit, IsNext, weight_below}
 use Rattle.prefix_min.specs.Pieces.{label_at, reach}
@@ -119,7 +119,7 @@ module _ {keeps : Bool} {weights : List ℕ} {pieces : List Piece} {n bits low a
     pub halves-built : {before new : List LabelCost} {old all : ℕ} {cs0 cs2 cs3 : List Choice} {al0 al2 al3 : List ℕ} →
         AreBoth keeps weights (label_at pieces) bits low lo.node hi.node cs0 cs2 al0 al2 →
         new ≡ before ++ lowered top.gain sums → all ≡ old + lower.row + upper.row → (IsTrue keeps → al3 ≡ al2 ++ more_labels top sums) →
-        (IsTrue keeps → cs3 ≡ cs2 ++ more_choices top low bits (length cs0) (length al2) (length al3)) →
+        (IsTrue keeps → IsTopped top low bits (length cs0) (length al2) (length al3) cs2 cs3) →
         IsBuilt keeps weights pieces bits low before new old (all - top.gain) next2 cs0 cs3 al0 al3
     halves-built both put cost put_also put_choices = record {
       node = Halves node_costs lo.node hi.node;

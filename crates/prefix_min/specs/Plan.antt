@@ -1,5 +1,5 @@
 -- What parts choose to write.
-use Rattle.std.specs.Prelude.{◌≡◌, ℕ, ◌-◌, ◌<◌, ◌≤◌, Bool, IsTrue, true, false, List, [], ◌∷◌, ◌++◌, cond, ◌==◌, nat_lt, length, slice_index_or, take, drop}
+use Rattle.std.specs.Prelude.{◌≡◌, ℕ, ◌-◌, ◌<◌, ◌≤◌, ◌⊎◌, Bool, IsTrue, true, false, List, [], ◌∷◌, ◌++◌, cond, ◌==◌, nat_lt, length, slice_index_or, take, drop}
 use Rattle.prefix_min.specs.declared.row.PrefixRow.{PrefixRow}
 use Rattle.prefix_min.specs.declared.savings.Gain.{Gain}
 use Rattle.prefix_min.specs.declared.savings.LabelCost.{LabelCost}
@@ -74,3 +74,15 @@ own_choice value bits label below also end = record { value = value; bits = bits
 
 abbrev pub more_choices : Gain → ℕ → ℕ → ℕ → ℕ → ℕ → List Choice
 more_choices g value bits below also end = cond (nat_lt 0 g.gain) (own_choice value bits g.best below also end ∷ []) []
+
+-- without further labels the choice takes the place of the last one, which is of its label and stands below its part: that one would inherit the label always
+pub record IsReplaced (g : Gain) (value bits below also end : ℕ) (old new : List Choice) : Type 0 where
+  pub some : 0 < g.gain
+  pub above : below < length old
+  pub none : also ≡ end
+  pub same : (slice_index_or old (length old - 1) no_choice).label ≡ g.best
+  pub new_is : new ≡ take (length old - 1) old ++ own_choice value bits g.best below also end ∷ []
+
+-- what a gain chooses is put down
+abbrev pub IsTopped : Gain → ℕ → ℕ → ℕ → ℕ → ℕ → List Choice → List Choice → Type 0
+IsTopped g value bits below also end old new = (new ≡ old ++ more_choices g value bits below also end) ⊎ IsReplaced g value bits below also end old new

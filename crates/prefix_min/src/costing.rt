@@ -98,6 +98,7 @@ impl<'a> Costing<'a> {
             weights,
             keeps: true,
         };
+        self.stack.choices.reserve(usual_choices(pieces, width))?;
         let label = field.whole(&mut self.stack, width)?;
         let plan = Plan {
             width,
@@ -113,4 +114,12 @@ impl<'a> Costing<'a> {
         let cost = self.stack.cost;
         Ok(Cheapest { rows, cost })
     }
+}
+
+/// How many choices the parts of pieces of like lengths make: one for each bit of a piece, and few more. With room for
+/// them the arena keeps no shorter lists behind.
+fn usual_choices(pieces: &[Piece], width: u8) -> usize {
+    let bits = usize::BITS - pieces.len().leading_zeros();
+    let each = (u32::from(width) + 8).saturating_sub(bits);
+    pieces.len().saturating_mul(each as usize)
 }

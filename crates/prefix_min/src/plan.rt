@@ -1,6 +1,6 @@
 //! What the parts choose to write.
-ghost use Rattle.std.specs.Prelude.{◌≡◌, ◌++◌, ◌∷◌, [], ◌+◌, ◌<◌, ◌^◌, ℕ, IsTrue, OnOk, length, ◌≤◌, ◌-◌, reverse, take, drop};
-ghost use Rattle.prefix_min.specs.Plan.{Forest, IsLaid, among, more_choices, own_choice, rows_of, silent};
+ghost use Rattle.std.specs.Prelude.{◌≡◌, ◌++◌, ◌∷◌, [], ◌+◌, ◌<◌, ◌^◌, ℕ, IfOk, IsTrue, OnOk, length, ◌≤◌, ◌-◌, reverse, slice_index_or, take, drop};
+ghost use Rattle.prefix_min.specs.Plan.{Forest, IsLaid, IsTopped, among, no_choice, own_choice, rows_of, silent};
 
 use crate::appending::append;
 use crate::parts::Part;
@@ -17,11 +17,35 @@ pub struct Choice {
     pub bits: u32,
     pub label: u32,
     /// Place of the first choice below this part.
-    pub below: usize,
+    pub below: u32,
     /// Place of the first further label.
-    pub also: usize,
+    pub also: u32,
     /// Place behind the last one.
-    pub end: usize,
+    pub end: u32,
+}
+
+/// A choice of the part, where its places have 32 bits; with more it is refused as where memory is refused.
+#[inline(always)]
+fn choice_of(
+    label: u32,
+    part: Part,
+    below: usize,
+    also: usize,
+    end: usize,
+) -> Result<Choice, Memory>
+    ensures { IfOk result (λ choice. choice ≡ own_choice part.low part.bits label below also end) }
+{
+    if below.max(also).max(end) > u32::MAX as usize {
+        return Err(Memory);
+    }
+    Ok(Choice {
+        value: part.low,
+        bits: u32::from(part.bits),
+        label,
+        below: below as u32,
+        also: also as u32,
+        end: end as u32,
+    })
 }
 
 /// Whether the label is one of these.
@@ -50,18 +74,23 @@ pub fn put(
     if !keeps {
         return Ok(());
     }
-    let choice = Choice {
-        value: part.low,
-        bits: u32::from(part.bits),
-        label,
-        below,
-        also,
-        end: also,
-    };
+    let choice = choice_of(label, part, below, also, also)?;
     append(choices, choice)
 }
 
+/// Whether the last choice stands at the place or above it, and is of the label.
+fn is_last_of(choices: &[Choice], below: usize, label: u32) -> bool
+    ensures { IsTrue result → (below < length choices.now) × ((slice_index_or choices.now (length choices.now - 1) no_choice).label ≡ label) }
+{
+    if choices.len() <= below {
+        return false;
+    }
+    choices[choices.len() - 1].label == label
+}
+
 /// Puts down what a part with this gain chooses, where choices are kept. Its further labels stand between two places.
+///
+/// Where there are none, the last choice below the part goes if it is of the same label: it would always inherit that.
 pub fn choose(
     choices: &mut Vec<Choice, &Bump>,
     keeps: bool,
@@ -71,19 +100,15 @@ pub fn choose(
     also: usize,
     end: usize,
 ) -> Result<(), Memory>
-    ensures { OnOk result (IsTrue keeps → choices.new.items ≡ choices.old.items ++ more_choices gain part.low part.bits below also end) }
+    ensures { OnOk result (IsTrue keeps → IsTopped gain part.low part.bits below also end choices.old.items choices.new.items) }
 {
     if !keeps || gain.gain == 0 {
         return Ok(());
     }
-    let choice = Choice {
-        value: part.low,
-        bits: u32::from(part.bits),
-        label: gain.best,
-        below,
-        also,
-        end,
-    };
+    let choice = choice_of(gain.best, part, below, also, end)?;
+    if also == end && is_last_of(choices, below, gain.best) {
+        choices.truncate(choices.len() - 1);
+    }
     append(choices, choice)
 }
 
@@ -102,7 +127,11 @@ impl Plan<'_> {
         requires within { choice.end ≤ length self.now.also.now }
         ensures { result ≡ silent choice (take (choice.end - choice.also) (drop choice.also self.now.also.now)) inherited }
     {
-        choice.label == inherited || among(&self.also[choice.also..choice.end], inherited)
+        choice.label == inherited
+            || among(
+                &self.also[choice.also as usize..choice.end as usize],
+                inherited,
+            )
     }
 
     /// Writes the rows of the choices between two places, the last first.
@@ -131,8 +160,9 @@ impl Plan<'_> {
                 prefix,
                 label: choice.label,
             })?;
-            self.write(rows, choice.below, until, choice.label)?;
-            until = choice.below;
+            let below = choice.below as usize;
+            self.write(rows, below, until, choice.label)?;
+            until = below;
         }
         Ok(())
     }
