@@ -1,7 +1,6 @@
 -- The pairs of nodes below the values of an interval stand for the contexts there.
 use Rattle.node_store.specs.Levels.{HasField, next, top_of}
 use Rattle.std.proofs.Common.{◌≡◌, ℕ, List, ◌≤◌, ap, sym, ◌∙◌, subst}
-use Rattle.std.specs.Prelude.{slice_index_or}
 use Rattle.field_boxes.specs.Classifier.{Interval}
 use Rattle.node_store.specs.Edges.{child_of}
 use Rattle.node_store.specs.Diagram.{Node, answer, level_of, edges_of}
@@ -9,7 +8,7 @@ use Rattle.node_store.specs.Store.{IsStore}
 use Rattle.node_store.proofs.Canonical.{leads_on}
 use Rattle.redundancy_laws.specs.declared.context.Context.{Context}
 use Rattle.redundancy_laws.specs.Layers.{StandsBehind, AreSplit}
-use Rattle.redundancy_laws.specs.Sifted.{context_at, context_below, is_in, contexts_of, AreContexts, AreBelow, AreDistinct}
+use Rattle.redundancy_laws.specs.Sifted.{context_at, context_below, is_in, contexts_of, AreContexts, AreBelow}
 
 stands : (nodes : List Node) (level : List ℕ) (pairs lower : List Context) (c v d : ℕ) → context_at lower d ≡ context_below nodes v (context_at pairs c) → StandsBehind level (contexts_of nodes pairs) (contexts_of nodes lower) c v d
 stands nodes level pairs lower c v d e = record {
@@ -35,11 +34,3 @@ pairs-below nodes level span pairs lower to store five are below d less =
       ap (λ (q : Context). level_of nodes q.after.0) g.5 ∙ level-below nodes level (context_at pairs g.0).after.0 g.1 store five p.0 g.3,
       ap (λ (q : Context). level_of nodes q.met.0) g.5 ∙ level-below nodes level (context_at pairs g.0).met.0 g.1 store five p.1 g.3,
     )
-
--- each of them once
-pub once-below : (nodes : List Node) (level : List ℕ) (span : Interval) (pairs lower keys : List Context) (to : ℕ → ℕ → ℕ) (places : List ℕ) → AreBelow nodes level span pairs lower to → AreDistinct lower keys places →
-    AreBelow nodes level span pairs keys (λ c v. slice_index_or places (to c v) 0)
-once-below nodes level span pairs lower keys to places below distinct = record {
-  covered = λ c v less small is. let s = below.covered c v less small is in let k = distinct.each (to c v) s.0 in (k.0, k.1 ∙ s.1);
-  reached = λ d less. let k = distinct.reached d less in let g = below.reached k.0 k.1 in (g.0, g.1, g.2, g.3, g.4, sym k.2 ∙ g.5);
-}

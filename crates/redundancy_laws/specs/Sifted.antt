@@ -69,12 +69,6 @@ pub record AreBelow (nodes : List Node) (level : List ℕ) (span : Interval) (pa
   pub reached : (d : ℕ) → d < length lower →
       (c : ℕ) × (v : ℕ) × (c < length pairs) × (v ≤ top_of level) × (interval_holds v span ≡ true) × (context_at lower d ≡ context_below nodes v (context_at pairs c))
 
--- the keys are those of the list, and each pair of the list stands at its place among them
-pub record AreDistinct (list keys : List Context) (places : List ℕ) : Type 0 where
-  pub count : length places ≡ length list
-  pub each : (c : ℕ) → c < length list → (slice_index_or places c 0 < length keys) × (context_at keys (slice_index_or places c 0) ≡ context_at list c)
-  pub reached : (d : ℕ) → d < length keys → (c : ℕ) × (c < length list) × (context_at list c ≡ context_at keys d)
-
 -- the set of the values of the fields from the level on that some row matches
 abbrev pub IsCover : List Node → List ℕ → ℕ → List Row → Type 0
 IsCover nodes level set rows = (values : List ℕ) → AreValues level values → is_in nodes set values ≡ list_any (matches values) rows

@@ -1,6 +1,6 @@
 //! Laws. The functions do nothing.
 ghost use Rattle.node_store.specs.Levels.{HasField, IsLevel, next, top_of};
-ghost use Rattle.std.specs.Prelude.{◌≡◌, ◌<◌, ◌≤◌, ◌+◌, ◌∷◌, ◌++◌, ℕ, suc, List, [], Bool, true, false, Some, cond, length, map, slice_get, slice_index_or, take};
+ghost use Rattle.std.specs.Prelude.{◌≡◌, ◌<◌, ◌≤◌, ◌+◌, ◌∷◌, ◌++◌, ℕ, suc, List, [], Bool, true, false, Some, cond, length, map, slice_get, take};
 ghost use Rattle.std.specs.List.{list_any};
 ghost use Rattle.field_boxes.specs.Alike.{AreAlike, IsTight};
 ghost use Rattle.field_boxes.specs.Fields.{stated, AreValues, IsHeader};
@@ -13,7 +13,7 @@ ghost use Rattle.redundancy_laws.specs.Rows.{Row, in_front, last_row, matches};
 ghost use Rattle.redundancy_laws.specs.Marks.{Mark, all_of, marked};
 ghost use Rattle.redundancy_laws.specs.Contexts.{Contexts, before_block, after_block, IsRight, IsWanted, AreMerged};
 ghost use Rattle.redundancy_laws.specs.Layers.{Run, rows_of_runs, AreApart, AreApartFrom, AreSplit, AreJoined, SiftedRun, AreSiftedRuns, runs_of, flags_of, AreLayerAnswers, end_of};
-ghost use Rattle.redundancy_laws.specs.Sifted.{node_at, context_at, is_in, contexts_of, AreNodes, AreContexts, IsSifted, AreBelow, AreDistinct, IsCover, IsCoverBehind, IsEmpty, IsUnion, IsBehind, IsSoFar, LeadOn, LeadsAs};
+ghost use Rattle.redundancy_laws.specs.Sifted.{node_at, context_at, is_in, contexts_of, AreNodes, AreContexts, IsSifted, AreBelow, IsCover, IsCoverBehind, IsEmpty, IsUnion, IsBehind, IsSoFar, LeadOn, LeadsAs};
 ghost use Rattle.node_store.specs.declared.edge.NodeId.{NodeId};
 ghost use Rattle.redundancy_laws.specs.declared.context.Context.{Context};
 ghost use Rattle.redundancy_laws.specs.declared.sifted.Sifted.{Sifted};
@@ -21,7 +21,7 @@ ghost use Rattle.redundancy_laws.specs.Drafts.{Fill};
 ghost use Rattle.redundancy_laws.specs.Entries.{IsPart, answer as table_answer, entry_matches};
 ghost use Rattle.field_boxes.specs.Orders.{IsOrder, picked};
 ghost use Rattle.redundancy_laws.specs.Pass.{Keeps};
-ghost use Rattle.redundancy_laws.specs.Built.{field_of, row_at, span_at, ArePrefixes, HaveSpan};
+ghost use Rattle.redundancy_laws.specs.Built.{field_of, row_at, ArePrefixes, HaveSpan};
 ghost use Rattle.redundancy_laws.specs.Flags.{AreRightFlags, with_flags};
 ghost use Rattle.ternary_words.specs.declared.entry.Entry.{Entry};
 ghost use Rattle.ternary_words.specs.Prefixes.{IsPrefixInEach};
@@ -78,8 +78,6 @@ pub fn below()
         AreBelow nodes level span pairs lower to → AreSplit level span (contexts_of nodes pairs) (contexts_of nodes lower) to }
     ensures pairs { (nodes : List Node) (level : List ℕ) (span : Interval) (pairs lower : List Context) (to : ℕ → ℕ → ℕ) → IsStore nodes → HasField level → AreContexts nodes level pairs →
         AreBelow nodes level span pairs lower to → AreContexts nodes (next level) lower }
-    ensures once { (nodes : List Node) (level : List ℕ) (span : Interval) (pairs lower keys : List Context) (to : ℕ → ℕ → ℕ) (places : List ℕ) →
-        AreBelow nodes level span pairs lower to → AreDistinct lower keys places → AreBelow nodes level span pairs keys (λ c v. slice_index_or places (to c v) 0) }
 {}
 
 /// With no field left a row matches.

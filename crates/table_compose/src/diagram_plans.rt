@@ -152,7 +152,7 @@ impl Plans {
     }
 
     /// Works out the nodes of a diagram that aren't known, each after its children, or stops behind a node that
-    /// costs more than the most.
+    /// costs more than the most. A node costs no less than each of its children, so a known child is passed over.
     fn learn_node(
         &mut self,
         alloc: Global,
@@ -174,7 +174,7 @@ impl Plans {
         store.same_answers();
         let edges = store.edges(id);
         for edge in edges {
-            if self.known[edge.to.0 as usize] && is_within(self.costs[edge.to.0 as usize], most) {
+            if self.known[edge.to.0 as usize] {
                 continue;
             }
             let whole = self.learn_node(alloc, costing, store, edge.to, most)?;

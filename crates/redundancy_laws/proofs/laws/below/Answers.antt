@@ -1,5 +1,5 @@
-use Rattle.redundancy_laws.proofs.Below.{split-below, pairs-below, once-below}
+use Rattle.redundancy_laws.proofs.Below.{split-below, pairs-below}
 use Rattle.redundancy_laws.proofs.laws.below.Goals as goal
 
 pub returns : goal.returns
-returns c = record { split = split-below; pairs = pairs-below; once = once-below }
+returns c = record { split = split-below; pairs = pairs-below }

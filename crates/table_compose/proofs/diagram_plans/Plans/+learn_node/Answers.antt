@@ -1,4 +1,4 @@
-use Rattle.std.proofs.Common.{◌+◌, ◌∙◌, arith, sym}
+use Rattle.std.proofs.Common.{◌+◌, arith}
 use Rattle.std.specs.Prelude.{◌<◌, length, slice_index_or}
 use Rattle.node_store.specs.declared.edge.Edge.{Edge}
 use Rattle.table_compose.proofs.Edges.{edge_older, marked_all, marked_here, marked_more}
@@ -28,15 +28,8 @@ index-requires-in-loop-edge t c =
     let low = edge_older c.args.store.now c.args.id.0 c.edges-edges.result.now l.edge-index d c.same_answers.ensures.store c.edges-edges.ensures.edges c.loop-edge-test.true in
     omega (arith, low, (l.invariant.learns.room (c.args.id.0 + 1) c.requires.room).known, l.self.known.ok.0)
 
-pub index-requires-then-index-2 : goal.index-requires-then-index-2
-index-requires-then-index-2 t c =
-    let d : Edge = record { hi = 0; to = record { 0 = 0 } } in
-    let l = c.loop-edge in
-    let low = edge_older c.args.store.now c.args.id.0 c.edges-edges.result.now l.edge-index d c.same_answers.ensures.store c.edges-edges.ensures.edges c.loop-edge-test.true in
-    omega (arith, low, (l.invariant.learns.room (c.args.id.0 + 1) c.requires.room).costs, l.self.costs.ok.0)
-
-pub loop-edge-preserved-then-is_within : goal.loop-edge-preserved-then-is_within
-loop-edge-preserved-then-is_within t c =
+pub loop-edge-preserved-then-index-2 : goal.loop-edge-preserved-then-index-2
+loop-edge-preserved-then-index-2 t c =
     let d : Edge = record { hi = 0; to = record { 0 = 0 } } in
     let l = c.loop-edge in
     let low = edge_older c.args.store.now c.args.id.0 c.edges-edges.result.now l.edge-index d c.same_answers.ensures.store c.edges-edges.ensures.edges c.loop-edge-test.true in
