@@ -1,5 +1,5 @@
 -- How a part grows by its other half, and by what lies about it.
-use Rattle.std.proofs.Common.{Bool, ◌≡◌, ◌∷◌, ◌++◌, ℕ, suc, List, [], ◌+◌, ◌-◌, ◌%◌, ◌^◌, ◌<◌, ◌≤◌, refl, ap, arith, sym, ◌∙◌, inl, inr, subst, length, get_or, take, drop}
+use Rattle.std.proofs.Common.{Bool, ◌≡◌, ◌++◌, ℕ, suc, List, ◌+◌, ◌-◌, ◌%◌, ◌^◌, ◌<◌, ◌≤◌, refl, ap, arith, sym, ◌∙◌, inl, inr, subst, length, get_or, take, drop}
 use Rattle.std.specs.Prelude.{IsTrue, slice_index}
 use Rattle.std.proofs.Math.Nat.{add-mod_right}
 use Rattle.std.proofs.Math.Seq.{drop-append_seam}
@@ -19,11 +19,12 @@ use Rattle.prefix_min.specs.Merging.{AreKept, IsJoined}
 use Rattle.prefix_min.specs.NextPiece.{AreFit, IsNext, weight_below}
 use Rattle.prefix_min.specs.Parts.{IsAbout}
 use Rattle.prefix_min.specs.Pieces.{reach}
-use Rattle.prefix_min.specs.Plan.{IsTopped, more_labels, own_choice, rows_of}
+use Rattle.prefix_min.specs.Plan.{IsTopped, more_labels, rows_of}
 use Rattle.prefix_min.specs.Savings.{AreSavings, AreSums, IsGain, alone, lowered, saved}
 use Rattle.prefix_min.specs.Trie.{costs_of}
 use Rattle.prefix_min.proofs.Blocks.{about-aligned, about-ends, from-within, sides, to-within}
 use Rattle.prefix_min.proofs.Building.{first-weighs, next-label, part-inside, piece-place, still-next}
+use Rattle.prefix_min.proofs.Joined.{gain-turned, sums-turned}
 use Rattle.prefix_min.proofs.PieceWeights.{below-all, below-rises, ends-rise}
 use Rattle.prefix_min.proofs.Stacked.{constant-built, cut, front-is, halves-built, halves-row, room-built, uncut}
 use Rattle.prefix_min.proofs.Stretched.{IsAlone, IsOver, around, stretch-chosen}
@@ -38,21 +39,6 @@ pub record IsGrown (keeps : Bool) (weights : List ℕ) (pieces : List Piece) (bi
   pub from : low ≤ part.low
   pub to : part.low + 2 ^ part.bits ≤ low + 2 ^ bits
   pub begins : part.low ≤ end_of pieces first
-
-gain-turned : {weights : List ℕ} {xs ys : List LabelCost} {gain best : ℕ} → IsGain weights xs ys gain best → IsGain weights ys xs gain best
-gain-turned g = record {
-  most = λ d. omega (arith, g.most d);
-  listed = λ some. elim (g.listed some) [ inl h ↦ inr h | inr h ↦ inl h ];
-  whole = λ some. omega (arith, g.whole some);
-  first = λ some d lt. omega (arith, g.first some d lt);
-}
-
-sums-turned : {xs ys sums : List LabelCost} → AreSums xs ys sums → AreSums ys xs sums
-sums-turned t = record {
-  rise = t.rise;
-  saves = λ d. omega (arith, t.saves d);
-  lists = λ d h. elim (t.lists d h) [ inl k ↦ inr k | inr k ↦ inl k ];
-}
 
 -- what a part saves
 kept-of : {keeps : Bool} {weights : List ℕ} {pieces : List Piece} {bits low : ℕ} {before after : List LabelCost} {old new following : ℕ} {cs0 cs1 : List Choice}
@@ -251,8 +237,8 @@ module _ {keeps : Bool} {weights : List ℕ} {pieces : List Piece} {bits low fir
       part.bits < wide.bits →
       IsStretch weights pieces (drop s mid) label part bits next1 wide → IsNext pieces next2 (wide.low + 2 ^ wide.bits) → below ≡ length cs0 →
       also ≡ length al1 →
-      (IsTrue keeps → cs2 ≡ cs1 ++ own_choice wide.low wide.bits label below also also ∷ []) → IsGrown keeps weights pieces bits low first wide before mid c0 c1 next2 cs0 cs2 al0 al1
-  grown-wide {wide = wide} {label = label} {below = below} {also = also} ls lab lt st then p q put =
+      (IsTrue keeps → IsTopped (record { gain = slice_index weights label; best = label }) wide.low wide.bits below also also cs1 cs2) → IsGrown keeps weights pieces bits low first wide before mid c0 c1 next2 cs0 cs2 al0 al1
+  grown-wide {wide = wide} {label = label} {below = below} {also = also} {cs2 = cs2} ls lab lt st then p q put =
       let built = g.built in
       let about = st.about in
       let inside = part-inside fit bits next within in
@@ -276,8 +262,9 @@ module _ {keeps : Bool} {weights : List ℕ} {pieces : List Piece} {bits low fir
         (λ u from below. next-label fit u next inside (omega (arith, start, from)) (omega (arith, below, g.begins)) ∙ lab),
         (λ u from below. next-label fit u built.next st.inside from (omega (arith, below, about.ends)) ∙ st.label_is),
       ) in
-      let choices = λ (yes : IsTrue keeps). put yes ∙ ap (λ x. cs1 ++ own_choice wide.low wide.bits label x also also ∷ []) p
-      ∙ ap (λ x. cs1 ++ own_choice wide.low wide.bits label (length cs0) x x ∷ []) q in
+      let top : Gain = record { gain = slice_index weights label; best = label } in
+      let choices = λ (yes : IsTrue keeps). subst (λ x. IsTopped top wide.low wide.bits (length cs0) x x cs1 cs2) q
+      (subst (λ x. IsTopped top wide.low wide.bits x also also cs1 cs2) p (put yes)) in
       record {
         built = record {
           node = o.inner.node;
@@ -292,7 +279,7 @@ module _ {keeps : Bool} {weights : List ℕ} {pieces : List Piece} {bits low fir
           cost = omega (arith, built.cost, o.inner.row);
           next = then;
           light = omega (arith, o.inner.row, built.light, below-rises weights 0 wide.low part.low pieces about.from, below-rises weights 0 (part.low + 2 ^ part.bits) (wide.low + 2 ^ wide.bits) pieces about.to);
-          chosen = stretch-chosen built.chosen o choices;
+          chosen = stretch-chosen built.chosen o (slice_index weights label) st.weighs choices;
         };
         less = about.short;
         aligned = about.aligned;

@@ -1,5 +1,5 @@
 -- What a part saves, once one label more is joined with it.
-use Rattle.std.proofs.Common.{append-nil, ◌≡◌, ◌≢◌, ◌∷◌, ◌++◌, ℕ, suc, List, [], ◌+◌, ◌-◌, ◌^◌, ◌<◌, ◌≤◌, Bool, true, false, refl, ap, arith, sym, ◌∙◌, inl, inr, eq-eqb, ne_eqb, subst, length, get_or, set, take, drop}
+use Rattle.std.proofs.Common.{append-nil, drop-cons, length-append, ◌≡◌, ◌≢◌, ◌∷◌, ◌++◌, ℕ, suc, List, [], ◌+◌, ◌-◌, ◌^◌, ◌<◌, ◌≤◌, Bool, true, false, refl, ap, arith, sym, ◌∙◌, inl, inr, eq-eqb, ne_eqb, subst, length, get_or, set, take, drop}
 use Rattle.std.specs.Prelude.{IsTrue, ◌⊎◌, ◌&&◌, ◌==◌, cond, nat_le, nat_lt, not, slice_index}
 use Rattle.std.specs.List.{insert}
 use Rattle.std.proofs.Math.Seq.{take-append_seam, take-length, drop-append_seam}
@@ -9,7 +9,7 @@ use Rattle.std.proofs.lemmas.List.Edits.{insert-append_right}
 use Rattle.prefix_min.specs.declared.savings.Gain.{Gain}
 use Rattle.prefix_min.specs.declared.savings.LabelCost.{LabelCost}
 use Rattle.prefix_min.specs.Costs.{Lists, RisesFrom}
-use Rattle.prefix_min.specs.Merging.{AreAbove, AreKept, IsJoined, StandsAt, count_below, merged, no_entry}
+use Rattle.prefix_min.specs.Merging.{AreAbove, AreKept, IsJoined, IsTaken, StandsAt, count_below, merged, no_entry}
 use Rattle.prefix_min.specs.Plan.{more_labels}
 use Rattle.prefix_min.specs.Savings.{AreSums, IsGain, alone, less, lowered, saved}
 use Rattle.prefix_min.proofs.Listed.{below_all}
@@ -270,6 +270,20 @@ pub settled-none : (start gain : ℕ) (es : List LabelCost) → gain ≡ 0 → A
 settled-none start gain es none a =
     sym (take-append-drop start es) ∙ ap (λ zs. take start es ++ zs) (sym (lowered_none (drop start es) a)) ∙ ap (λ k. take start es ++ lowered k (drop start es)) (sym none)
 
+-- the gain is taken off what is saved with one label more
+pub joined-by : {keeps : Bool} {weights : List ℕ} {x : LabelCost} {new : List LabelCost} {al0 al1 : List ℕ} (old : List LabelCost) (start : ℕ) →
+    AreKept weights (drop start old) → AreKept weights (x ∷ []) → (g : Gain) → g.best ≡ x.label → g.gain ≡ saved (drop start old) x.label + x.cost - slice_index weights x.label →
+    new ≡ take start old ++ lowered g.gain (merged x (drop start old)) → (IsTrue keeps → al1 ≡ al0 ++ more_labels g (merged x (drop start old))) →
+    IsJoined keeps weights (drop start old) (x ∷ []) (take start old) new al0 al1 g
+joined-by {weights = weights} {x = x} old start list one g best gain is labels = record {
+  sums = merged x (drop start old);
+  are = merged_sums x (drop start old) list.rise;
+  gain = subst (λ y. IsGain weights (drop start old) (x ∷ []) g.gain y) (sym best) (subst (λ n. IsGain weights (drop start old) (x ∷ []) n x.label) (sym gain)
+      (merged_gain x weights (drop start old) list.most (omega (arith, one.most x.label, ap (λ t. cond t x.cost 0) (eq-eqb x.label x.label refl)))));
+  savings = is;
+  also = labels;
+}
+
 -- one label is put in, and the gain is taken off
 module _ {weights : List ℕ} {mid : List LabelCost} {x : LabelCost} (old : List LabelCost) (start : ℕ) (le : start ≤ length old)
     (list : AreKept weights (drop start old)) (one : AreKept weights (x ∷ [])) (put : mid ≡ take start old ++ merged x (drop start old)) where
@@ -290,14 +304,9 @@ module _ {weights : List ℕ} {mid : List LabelCost} {x : LabelCost} (old : List
   pub joined-one : {keeps : Bool} {new : List LabelCost} {al0 al1 : List ℕ} (g : Gain) → g.best ≡ x.label →
       g.gain ≡ saved (drop start old) x.label + x.cost - slice_index weights x.label →
       new ≡ take start mid ++ lowered g.gain (drop start mid) → (IsTrue keeps → al1 ≡ al0 ++ more_labels g (drop start mid)) → IsJoined keeps weights (drop start old) (x ∷ []) (take start old) new al0 al1 g
-  joined-one {al0 = al0} g best gain is labels = record {
-    sums = merged x (drop start old);
-    are = merged_sums x (drop start old) list.rise;
-    gain = subst (λ y. IsGain weights (drop start old) (x ∷ []) g.gain y) (sym best) (subst (λ n. IsGain weights (drop start old) (x ∷ []) n x.label) (sym gain)
-        (merged_gain x weights (drop start old) list.most (omega (arith, one.most x.label, ap (λ t. cond t x.cost 0) (eq-eqb x.label x.label refl)))));
-    savings = is ∙ ap (λ zs. zs ++ lowered g.gain (drop start mid)) mid_front ∙ ap (λ zs. take start old ++ lowered g.gain zs) mid_left;
-    also = λ yes. labels yes ∙ ap (λ zs. al0 ++ more_labels g zs) mid_left;
-  }
+  joined-one {al0 = al0} g best gain is labels =
+      joined-by old start list one g best gain (is ∙ ap (λ zs. zs ++ lowered g.gain (drop start mid)) mid_front ∙ ap (λ zs. take start old ++ lowered g.gain zs) mid_left)
+      (λ yes. labels yes ∙ ap (λ zs. al0 ++ more_labels g zs) mid_left)
 
 -- a label that alone saves its weight is doubled, gains that, and saves as much as before
 module _ (y w : ℕ) where
@@ -337,27 +346,83 @@ joined-alone {keeps = keeps} {weights = weights} {x = x} {al = al} {zs = zs} old
     (sym (take-append-drop start old) ∙ ap (λ es. take start old ++ es) after ∙ ap (λ es. es ++ lowered w (drop start mid)) (sym front))
     (λ yes. sym (ap (λ ls. al ++ ls) none ∙ append-nil al)))
 
--- what stands before the middle, once the other part is cut off
-module _ {cut : List LabelCost} (old : List LabelCost) (start middle : ℕ) (le : start ≤ middle) (is : cut ≡ take middle old) where
-  cut_left : drop start cut ≡ take (middle - start) (drop start old)
-  cut_left =
-      let all : middle ≡ start + (middle - start) = omega (arith, le) in
-      ap (drop start) is ∙ ap (λ k. drop start (take k old)) all ∙ drop-take start (middle - start) old
+-- two parts are joined in either order
+pub gain-turned : {weights : List ℕ} {xs ys : List LabelCost} {gain best : ℕ} → IsGain weights xs ys gain best → IsGain weights ys xs gain best
+gain-turned g = record {
+  most = λ d. omega (arith, g.most d);
+  listed = λ some. elim (g.listed some) [ inl h ↦ inr h | inr h ↦ inl h ];
+  whole = λ some. omega (arith, g.whole some);
+  first = λ some d lt. omega (arith, g.first some d lt);
+}
 
-  pub cut-kept : {weights : List ℕ} → AreKept weights (take (middle - start) (drop start old)) → AreKept weights (drop start cut)
-  cut-kept {weights = weights} k = subst (AreKept weights) (sym cut_left) k
+pub sums-turned : {xs ys sums : List LabelCost} → AreSums xs ys sums → AreSums ys xs sums
+sums-turned t = record {
+  rise = t.rise;
+  saves = λ d. omega (arith, t.saves d);
+  lists = λ d h. elim (t.lists d h) [ inl k ↦ inr k | inr k ↦ inl k ];
+}
 
-  module _ {x : LabelCost} (one : drop middle old ≡ x ∷ []) where
-    pub cut-room : ((d : ℕ) → saved (take (middle - start) (drop start old)) d + saved (drop middle old) d < 2 ^ 128) → saved (drop start cut) x.label + x.cost < 2 ^ 128
-    cut-room h =
-        let own : saved (drop middle old) x.label ≡ x.cost = ap (λ ys. saved ys x.label) one ∙ ap (λ t. cond t x.cost 0) (eq-eqb x.label x.label refl) in
-        omega (arith, h x.label, own, ap (λ xs. saved xs x.label) cut_left)
+joined-turned : {keeps : Bool} {weights : List ℕ} {xs ys before after : List LabelCost} {al0 al1 : List ℕ} {g : Gain} →
+    IsJoined keeps weights xs ys before after al0 al1 g → IsJoined keeps weights ys xs before after al0 al1 g
+joined-turned j = record { sums = j.sums; are = sums-turned j.are; gain = gain-turned j.gain; savings = j.savings; also = j.also }
 
-    pub joined-cut : {keeps : Bool} {weights : List ℕ} {new : List LabelCost} {al0 al1 : List ℕ} {g : Gain} →
-        IsJoined keeps weights (drop start cut) (x ∷ []) (take start cut) new al0 al1 g →
-        IsJoined keeps weights (take (middle - start) (drop start old)) (drop middle old) (take start old) new al0 al1 g
-    joined-cut {keeps = keeps} {weights = weights} {new = new} {al0 = al0} {al1 = al1} {g = g} j =
-        let front : take start cut ≡ take start old = ap (take start) is ∙ take-take start middle old le in
-        subst (λ ys. IsJoined keeps weights (take (middle - start) (drop start old)) ys (take start old) new al0 al1 g) (sym one)
-        (subst (λ xs. IsJoined keeps weights xs (x ∷ []) (take start old) new al0 al1 g) cut_left
-        (subst (λ fs. IsJoined keeps weights (drop start cut) (x ∷ []) fs new al0 al1 g) front j))
+-- the upper part is cut off
+pub taken-last : {left all : List LabelCost} {x : LabelCost} (start middle : ℕ) → start ≤ middle → middle ≤ length all → left ≡ take middle all → drop middle all ≡ x ∷ [] →
+    IsTaken left all start middle x
+taken-last {all = all} start middle le to is last =
+    let more : middle ≡ start + (middle - start) = omega (arith, le) in
+    record {
+      long = omega (arith, ap length is, length-take-le middle all to, le);
+      front = ap (take start) is ∙ take-take start middle all le;
+      rest = inl (ap (drop start) is ∙ ap (λ k. drop start (take k all)) more ∙ drop-take start (middle - start) all, last);
+    }
+
+-- the lower part goes
+pub taken-first : {left all : List LabelCost} {x : LabelCost} (start middle : ℕ) → middle ≡ start + 1 → middle ≤ length all →
+    left ≡ take start all ++ drop (start + 1) all → x ≡ get_or all start x → IsTaken left all start middle x
+taken-first {all = all} {x = x} start middle next to is read =
+    let size : length (take start all) ≡ start = length-take-le start all (omega (arith, next, to)) in
+    let one : middle - start ≡ 1 = omega (arith, next) in
+    let rest = drop (start + 1) all in
+    record {
+      long = omega (arith, ap length is, length-append (take start all) rest, size);
+      front = ap (take start) is ∙ ap (λ k. take k (take start all ++ rest)) (sym size) ∙ take-append_seam (take start all) rest;
+      rest = inr (
+        ap (λ k. take k (drop start all)) one ∙ ap (take 1) (drop-cons all start x (omega (arith, next, to))) ∙ ap (λ e. e ∷ []) (sym read),
+        ap (drop start) is ∙ ap (λ k. drop k (take start all ++ rest)) (sym size) ∙ drop-append_seam (take start all) rest ∙ ap (λ k. drop k all) (sym next),
+      );
+    }
+
+-- what was handed over is taken
+pub taken-over : {all : List LabelCost} {x : LabelCost} (start middle : ℕ) → start ≤ middle → length all ≡ middle → IsTaken all (all ++ x ∷ []) start middle x
+taken-over {all = all} {x = x} start middle le size = taken-last start middle le (omega (arith, size, length-append all (x ∷ [])))
+    (sym (ap (λ k. take k (all ++ x ∷ [])) (sym size) ∙ take-append_seam all (x ∷ []))) (ap (λ k. drop k (all ++ x ∷ [])) (sym size) ∙ drop-append_seam all (x ∷ []))
+
+-- one of two parts was taken away, one entry alone
+module _ {left all : List LabelCost} {x : LabelCost} {start middle : ℕ} (t : IsTaken left all start middle x) where
+  module _ {weights : List ℕ} (low : AreKept weights (take (middle - start) (drop start all))) (high : AreKept weights (drop middle all)) where
+    pub left-kept : AreKept weights (drop start left)
+    left-kept = elim t.rest [ inl h ↦ subst (AreKept weights) (sym h.0) low | inr h ↦ subst (AreKept weights) (sym h.1) high ]
+
+    pub taken-kept : AreKept weights (x ∷ [])
+    taken-kept = elim t.rest [ inl h ↦ subst (AreKept weights) h.1 high | inr h ↦ subst (AreKept weights) h.0 low ]
+
+  pub left-room : ((d : ℕ) → saved (take (middle - start) (drop start all)) d + saved (drop middle all) d < 2 ^ 128) → saved (drop start left) x.label + x.cost < 2 ^ 128
+  left-room room =
+      let own : saved (x ∷ []) x.label ≡ x.cost = ap (λ t. cond t x.cost 0) (eq-eqb x.label x.label refl) in
+      let of = λ (es : List LabelCost). saved es x.label in
+      elim t.rest [
+        | inl h ↦ omega (arith, room x.label, own, ap of h.0, ap of h.1)
+        | inr h ↦ omega (arith, room x.label, own, ap of h.0, ap of h.1)
+      ]
+
+  pub joined-taken : {keeps : Bool} {weights : List ℕ} {new : List LabelCost} {al0 al1 : List ℕ} {g : Gain} →
+      IsJoined keeps weights (drop start left) (x ∷ []) (take start left) new al0 al1 g →
+      IsJoined keeps weights (take (middle - start) (drop start all)) (drop middle all) (take start all) new al0 al1 g
+  joined-taken {keeps = keeps} {weights = weights} {new = new} {al0 = al0} {al1 = al1} {g = g} j =
+      let joins = λ (xs ys : List LabelCost). IsJoined keeps weights xs ys (take start all) new al0 al1 g in
+      let k = subst (λ fs. IsJoined keeps weights (drop start left) (x ∷ []) fs new al0 al1 g) t.front j in
+      elim t.rest [
+        | inl h ↦ subst (joins (take (middle - start) (drop start all))) (sym h.1) (subst (λ xs. joins xs (x ∷ [])) h.0 k)
+        | inr h ↦ subst (λ xs. joins xs (drop middle all)) (sym h.0) (joined-turned (subst (λ xs. joins xs (x ∷ [])) h.1 k))
+      ]

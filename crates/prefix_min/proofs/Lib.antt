@@ -30,3 +30,5 @@ pub mod Blocks
 pub mod Stretched
 pub mod Grown
 pub mod Joined
+pub mod Paired
+pub mod Ranked

@@ -1,10 +1,10 @@
 -- What the parts choose, and the rows that they write.
-use Rattle.std.proofs.Common.{◌≡◌, ◌≢◌, ◌∷◌, ◌++◌, ℕ, suc, List, [], ◌+◌, ◌-◌, ◌^◌, ◌<◌, ◌≤◌, Bool, true, false, refl, ap, arith, sym, ◌∙◌, inl, inr, ne_eqb, subst, length, get_or, take, drop, append_assoc}
+use Rattle.std.proofs.Common.{◌≡◌, ◌≢◌, ◌∷◌, ◌++◌, ℕ, suc, List, [], ◌+◌, ◌-◌, ◌^◌, ◌<◌, ◌≤◌, Bool, true, false, refl, ap, arith, sym, ◌∙◌, inl, inr, ne_eqb, subst, length, get_or, set, take, drop, append_assoc}
 use Rattle.std.specs.Prelude.{IsTrue, ◌⊎◌, ◌&&◌, ◌==◌, cond, nat_le, nat_lt, not}
-use Rattle.std.proofs.Math.Seq.{drop-append_seam, get_or-append_seam, take-append-add, take-length}
+use Rattle.std.proofs.Math.Seq.{drop-append_seam, get_or-append_seam, take-append-add, take-length, take-suc-set}
 use Rattle.std.proofs.lemmas.Bool.Decides.{eqb_tells}
 use Rattle.std.proofs.lemmas.Bool.{eq-eqb, eqb-true, false≢true, leb-true, leb-false, lt-ltb, ltb-true, ltb-false}
-use Rattle.std.proofs.lemmas.List.{append-nil, drop-append-le, get_or_append_left, length-append, length-drop, length-take-le, take-append-drop, take-append-le}
+use Rattle.std.proofs.lemmas.List.{append-nil, drop-append-le, get_or_append_left, length-append, length-drop, length-set, length-take-le, take-append-drop, take-append-le}
 use Rattle.prefix_min.specs.declared.plan.Choice.{Choice}
 use Rattle.prefix_min.specs.declared.savings.LabelCost.{LabelCost}
 use Rattle.prefix_min.specs.declared.savings.Gain.{Gain}
@@ -162,12 +162,12 @@ laid_front cs more al from to (Grown rest x labels below) le h = (
 )
 
 -- what is left without the last choice, and writes the same rows where that one's label is inherited
-record IsTopless (label : ℕ) (forest : Forest) (cs0 cs : List Choice) (al0 al : List ℕ) : Type 0 where
-  left : Forest
-  kept : AreAdded left cs0 (take (length cs - 1) cs) al0 al
-  rows : (width : ℕ) → rows_of width left label ≡ rows_of width forest label
+pub record IsTopless (label : ℕ) (forest : Forest) (cs0 cs : List Choice) (al0 al : List ℕ) : Type 0 where
+  pub left : Forest
+  pub kept : AreAdded left cs0 (take (length cs - 1) cs) al0 al
+  pub rows : (width : ℕ) → rows_of width left label ≡ rows_of width forest label
 
-topless : {label : ℕ} {cs0 cs : List Choice} {al0 al : List ℕ} (forest : Forest) → AreAdded forest cs0 cs al0 al → length cs0 < length cs →
+pub topless : {label : ℕ} {cs0 cs : List Choice} {al0 al : List ℕ} (forest : Forest) → AreAdded forest cs0 cs al0 al → length cs0 < length cs →
     (get_or cs (length cs - 1) no_choice).label ≡ label → IsTopless label forest cs0 cs al0 al
 topless Bare a lt same = absurd (omega (arith, lt, a.laid))
 topless {label = label} {cs0 = cs0} {cs = cs} {al0 = al0} {al = al} (Grown rest x labels below) a lt same =
@@ -190,7 +190,23 @@ topless {label = label} {cs0 = cs0} {cs = cs} {al0 = al0} {al = al} (Grown rest 
       rows = λ width. rw own (rows-beside width label rest below);
     }
 
-same_rows : (width d : ℕ) (x : Choice) (f g : Forest) → rows_of width f x.label ≡ rows_of width g x.label → rows_of width (Grown Bare x [] f) d ≡ rows_of width (Grown Bare x [] g) d
+-- the last choice gives way to another one
+pub replaced : {g : Gain} {low bits below also end n : ℕ} {x : Choice} (cs : List Choice) → 0 < g.gain →
+    (below < length cs) × ((get_or cs (length cs - 1) no_choice).label ≡ g.best) → also ≡ end → n ≡ length cs - 1 → x ≡ own_choice low bits g.best below also end →
+    IsReplaced g low bits below also end cs (set cs n x)
+replaced {n = n} {x = x} cs some last none at is =
+    let all = set cs n x in
+    let size : length all ≡ suc n = omega (arith, length-set cs n x, last.0, at) in
+    record {
+      some = some;
+      above = last.0;
+      none = none;
+      same = last.1;
+      new_is = sym (take-length all) ∙ ap (λ k. take k all) size ∙ take-suc-set cs n x (omega (arith, last.0, at)) ∙ ap (λ k. take k cs ++ x ∷ []) at
+          ∙ ap (λ c. take (length cs - 1) cs ++ c ∷ []) is;
+    }
+
+pub same_rows : (width d : ℕ) (x : Choice) (f g : Forest) → rows_of width f x.label ≡ rows_of width g x.label → rows_of width (Grown Bare x [] f) d ≡ rows_of width (Grown Bare x [] g) d
 same_rows width d x f g h = elim (eqb_tells x.label d) [
   | inl t ↦ rw t.0 (subst (λ k. rows_of width f k ≡ rows_of width g k) t.1 h)
   | inr t ↦ rw t.0 (ap (λ rs. rs ++ row_of width x.bits x.value x.label ∷ []) h)

@@ -2,7 +2,7 @@
 use Rattle.std.proofs.Common.{Bool, ◌≡◌, ◌≢◌, ◌∷◌, ◌++◌, ℕ, zero, suc, List, [], ◌+◌, ◌%◌, ◌^◌, ◌<◌, ◌≤◌, true, false, refl, ap, arith, sym, ◌∙◌, inl, inr, subst, length, get_or}
 use Rattle.std.specs.Prelude.{IsTrue, ◌==◌, cond, slice_index}
 use Rattle.std.proofs.lemmas.Bool.Decides.{eqb_tells}
-use Rattle.std.proofs.lemmas.Bool.{cases_lt}
+use Rattle.std.proofs.lemmas.Bool.{cases_lt, false≢true, lt-ltb}
 use Rattle.std.proofs.lemmas.List.{append-nil}
 use Rattle.std.proofs.lemmas.Nat.{pow_pos}
 use Rattle.field_boxes.proofs.Powers.{aligned_high, aligned_low, double}
@@ -12,13 +12,13 @@ use Rattle.prefix_min.specs.declared.row.PrefixRow.{PrefixRow}
 use Rattle.prefix_min.specs.Costs.{Costs, Has, IsSplit, least_cost}
 use Rattle.prefix_min.specs.Field.{no_piece}
 use Rattle.prefix_min.specs.Pieces.{label_at}
-use Rattle.prefix_min.specs.Plan.{AreChosen, Bare, Grown, own_choice, rows_of}
+use Rattle.prefix_min.specs.Plan.{AreChosen, Bare, Grown, IsTopped, own_choice, rows_of}
 use Rattle.prefix_min.specs.Rows.{ArePartRows, IsPart, row_of}
 use Rattle.prefix_min.specs.Savings.{AreSavings, alone}
 use Rattle.prefix_min.specs.Trie.{Constant, GivesAll, Halves, Node, StandsFor, costs_of}
 use Rattle.prefix_min.proofs.Blocks.{to-within}
 use Rattle.prefix_min.proofs.PartRows.{AreHalfRows, half-rows}
-use Rattle.prefix_min.proofs.Planned.{top-added}
+use Rattle.prefix_min.proofs.Planned.{same_rows, top-added, topless}
 use Rattle.prefix_min.proofs.Saved.{IsUnchanged, alone_at, one-saves, unchanged}
 use Rattle.prefix_min.proofs.Shapes.{high-half, low-half}
 use Rattle.prefix_min.proofs.Splitting.{both-has, both-split, both_halves, has-low, one-constant, one-has, one_label}
@@ -153,10 +153,31 @@ module _ {keeps : Bool} {weights : List ℕ} {pieces : List Piece} {y cost bits 
     | inr t ↦ rw t.0 (o.writes width d t.1 part)
   ]
 
-  pub stretch-chosen : {cs1 : List Choice} → (IsTrue keeps → cs1 ≡ cs ++ own_choice low bits y (length cs0) (length al) (length al) ∷ []) →
+  abbrev own : Choice
+  own = own_choice low bits y (length cs0) (length al) (length al)
+
+  -- where choices aren't kept, nothing is said of those that are put down
+  chosen_where : (kept : Bool) → keeps ≡ kept → {cs1 : List Choice} (gain : ℕ) → 0 < gain →
+      (IsTrue keeps → IsTopped (record { gain = gain; best = y }) low bits (length cs0) (length al) (length al) cs cs1) →
       AreChosen keeps weights (label_at pieces) bits low o.inner.node cs0 cs1 al0 al
-  stretch-chosen put = record {
-    forest = Grown Bare (own_choice low bits y (length cs0) (length al) (length al)) [] c.forest;
-    kept = λ yes. top-added (c.kept yes) (put yes) (sym (append-nil al)) refl;
-    writes = own_writes;
-  }
+  chosen_where false k gain some put = record { forest = Grown Bare own [] c.forest; kept = λ yes. absurd (false≢true (sym k ∙ yes)); writes = own_writes }
+  chosen_where true k gain some put = elim (put k) [
+    | inl added ↦ record {
+      forest = Grown Bare own [] c.forest;
+      kept = λ yes. top-added (c.kept yes) (added ∙ ap (λ u. cs ++ cond u (own ∷ []) []) (lt-ltb 0 gain some)) (sym (append-nil al)) refl;
+      writes = own_writes;
+    }
+    | inr r ↦
+        let top = topless c.forest (c.kept k) r.above r.same in
+        record {
+          forest = Grown Bare own [] top.left;
+          kept = λ yes. top-added top.kept r.new_is (sym (append-nil al)) refl;
+          writes = λ width d part. subst (ArePartRows weights (label_at pieces) width bits low d (least_cost (costs_of o.inner.node) d))
+              (same_rows width d own c.forest top.left (sym (top.rows width))) (own_writes width d part);
+        }
+  ]
+
+  pub stretch-chosen : {cs1 : List Choice} (gain : ℕ) → 0 < gain →
+      (IsTrue keeps → IsTopped (record { gain = gain; best = y }) low bits (length cs0) (length al) (length al) cs cs1) →
+      AreChosen keeps weights (label_at pieces) bits low o.inner.node cs0 cs1 al0 al
+  stretch-chosen = chosen_where keeps refl

@@ -1,5 +1,5 @@
 -- What a part saves, once the part beside it is joined with it.
-use Rattle.std.specs.Prelude.{Bool, IsTrue, ◌≡◌, ℕ, suc, ◌+◌, ◌<◌, ◌≤◌, ◌==◌, List, [], ◌∷◌, ◌++◌, cond, nat_lt, length, slice_index, slice_index_or, take, drop}
+use Rattle.std.specs.Prelude.{Bool, IsTrue, ◌≡◌, ◌⊎◌, ℕ, suc, ◌+◌, ◌-◌, ◌<◌, ◌≤◌, ◌==◌, List, [], ◌∷◌, ◌++◌, cond, nat_lt, length, slice_index, slice_index_or, take, drop}
 use Rattle.prefix_min.specs.declared.savings.Gain.{Gain}
 use Rattle.prefix_min.specs.declared.savings.LabelCost.{LabelCost}
 use Rattle.prefix_min.specs.Costs.{Lists, RisesFrom}
@@ -44,7 +44,9 @@ pub record IsJoined (keeps : Bool) (weights : List ℕ) (low high before after :
   pub savings : after ≡ before ++ lowered g.gain sums
   pub also : IsTrue keeps → also_after ≡ also_before ++ more_labels g sums
 
--- the list is cut at the place, behind which one entry alone stood
-pub record IsTaken (cut all : List LabelCost) (middle : ℕ) (one : LabelCost) : Type 0 where
-  pub front : cut ≡ take middle all
-  pub last : drop middle all ≡ one ∷ []
+-- what one of two parts saves was taken away, one entry alone: the upper part's, or the lower one's
+pub record IsTaken (left all : List LabelCost) (start middle : ℕ) (one : LabelCost) : Type 0 where
+  pub long : start ≤ length left
+  pub front : take start left ≡ take start all
+  pub rest : ((drop start left ≡ take (middle - start) (drop start all)) × (drop middle all ≡ one ∷ []))
+      ⊎ ((take (middle - start) (drop start all) ≡ one ∷ []) × (drop start left ≡ drop middle all))

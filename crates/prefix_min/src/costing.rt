@@ -12,7 +12,7 @@ use crate::order::sort;
 use crate::piece::Piece;
 use crate::plan::Plan;
 use crate::row::PrefixRow;
-use crate::stack::{Field, Stack};
+use crate::stack::{Field, Kept, Stack, Unkept};
 use bumpalo::Bump;
 use field_boxes::Prefix;
 use razor_base::Memory;
@@ -51,20 +51,16 @@ impl<'a> Costing<'a> {
         ensures { IfOk result (λ n. IsLeastWeight weights.now width (label_at pieces.now) n) }
     {
         self.stack.clear();
-        let field = Field {
-            pieces,
-            weights,
-            keeps: false,
-        };
-        let _label = field.whole(&mut self.stack, width)?;
+        let field = Field { pieces, weights };
+        let _label = field.whole::<Unkept>(&mut self.stack, width)?;
         Ok(self.stack.cost)
     }
 
     /// The cheapest prefix list of the pieces' function over the values of `width` bits: the list that
     /// [`minimise`](crate::minimise) gives.
     ///
-    /// Once an earlier call has made the room, nothing is allocated but the rows and what their order takes. After
-    /// a refusal of memory the room serves as before.
+    /// Once an earlier call has made the room, nothing is allocated but the rows. After a refusal of memory the
+    /// room serves as before.
     pub fn cheapest(
         &mut self,
         pieces: &[Piece],
@@ -93,13 +89,9 @@ impl<'a> Costing<'a> {
         ensures chosen { IfOk result (λ c. All (λ r. 0 < slice_index weights.now r.label → IsChosen weights.now (label_at pieces.now) width c.rows.items r) c.rows.items) }
     {
         self.stack.clear();
-        let field = Field {
-            pieces,
-            weights,
-            keeps: true,
-        };
+        let field = Field { pieces, weights };
         self.stack.choices.reserve(usual_choices(pieces, width))?;
-        let label = field.whole(&mut self.stack, width)?;
+        let label = field.whole::<Kept>(&mut self.stack, width)?;
         let plan = Plan {
             width,
             choices: &self.stack.choices,
@@ -110,7 +102,7 @@ impl<'a> Costing<'a> {
         rows.push(PrefixRow { prefix, label })?;
         plan.write(&mut rows, 0, self.stack.choices.len(), label)?;
         rows.reverse();
-        sort(&mut rows)?;
+        sort(&mut rows);
         let cost = self.stack.cost;
         Ok(Cheapest { rows, cost })
     }

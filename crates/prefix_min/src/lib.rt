@@ -17,6 +17,7 @@ mod costing;
 pub mod laws;
 mod merging;
 mod order;
+mod pairs;
 mod parts;
 mod piece;
 mod plan;

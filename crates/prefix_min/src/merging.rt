@@ -1,11 +1,12 @@
 //! What a part that grows saves, once the part beside it is joined with it.
-ghost use Rattle.std.specs.Prelude.{◌≡◌, ◌≢◌, ℕ, ◌++◌, ◌∷◌, ◌<◌, ◌≤◌, ◌+◌, ◌-◌, ◌^◌, [], IfOk, IfSome, IsFalse, IsSome, IsTrue, MatchOption, OnOk, length, slice_index, take, drop};
+ghost use Rattle.std.specs.Prelude.{◌≡◌, ℕ, ◌++◌, ◌∷◌, ◌<◌, ◌≤◌, ◌+◌, ◌-◌, ◌^◌, [], IfOk, IfSome, IsFalse, IsSome, IsTrue, MatchOption, OnOk, length, take, drop};
 ghost use Rattle.std.specs.List.{insert};
 ghost use Rattle.prefix_min.specs.Costs.{RisesFrom};
 ghost use Rattle.prefix_min.specs.Merging.{AreAbove, AreKept, IsJoined, IsTaken, StandsAt, count_below, merged};
 ghost use Rattle.prefix_min.specs.Plan.{more_labels};
 ghost use Rattle.prefix_min.specs.Savings.{lowered, saved, with_one};
 
+use crate::pairs::{join_first, join_second, pair_from};
 use crate::savings::{Gain, LabelCost, is_alone, join, put_more};
 use bumpalo::Bump;
 use razor_base::Memory;
@@ -32,7 +33,9 @@ fn stands_at(savings: &[LabelCost], place: usize, label: u32) -> bool
     place < savings.len() && savings[place].label == label
 }
 
-/// Puts an entry before the one at the place, or behind the last one. Often it comes last, so this is told apart.
+/// Puts an entry before the one at the place, or behind the last one. Mostly it comes last or before the last, and this
+/// is told apart.
+#[inline(always)]
 fn put_in(savings: &mut Vec<LabelCost>, place: usize, entry: LabelCost) -> Result<(), Memory>
     requires { place ≤ length savings.old.items }
     ensures { OnOk result (savings.new.items ≡ insert savings.old.items place entry) }
@@ -41,11 +44,18 @@ fn put_in(savings: &mut Vec<LabelCost>, place: usize, entry: LabelCost) -> Resul
         savings.push(entry)?;
         return Ok(());
     }
+    if place + 1 == savings.len() {
+        let LabelCost { label, cost } = savings[place];
+        savings.push(LabelCost { label, cost })?;
+        savings[place] = entry;
+        return Ok(());
+    }
     savings.insert(place, entry)?;
     Ok(())
 }
 
 /// Adds what one label saves to what stands from `start` on, and gives what it saves above its weight then.
+#[inline(always)]
 fn merge(
     savings: &mut Vec<LabelCost>,
     start: usize,
@@ -76,6 +86,7 @@ fn merge(
 }
 
 /// Takes the gain off what stands from `start` on, and moves up what is left above 0.
+#[inline(always)]
 fn lower_from(savings: &mut Vec<LabelCost>, start: usize, gain: u128)
     requires { start ≤ length savings.old.items }
     ensures { savings.new.items ≡ take start savings.old.items ++ lowered gain (drop start savings.old.items) }
@@ -94,6 +105,7 @@ fn lower_from(savings: &mut Vec<LabelCost>, start: usize, gain: u128)
 
 /// Takes the gain off what stands from `start` on, and puts its further labels behind the others where choices are
 /// kept.
+#[inline(always)]
 fn settle(
     savings: &mut Vec<LabelCost>,
     also: &mut Vec<u32, &Bump>,
@@ -138,6 +150,15 @@ fn join_one(
             best: one.label,
         });
     }
+    // Mostly two labels stand there, of which this is one: they are lowered where they stand.
+    if let Some(pair) = pair_from(savings, start) {
+        if pair.first.label == one.label {
+            return join_first(savings, also, keeps, start, pair, one, weights);
+        }
+        if pair.second.label == one.label {
+            return join_second(savings, also, keeps, start, pair, one, weights);
+        }
+    }
     let over = merge(savings, start, one, weight)?;
     let gain = Gain {
         gain: over,
@@ -180,28 +201,40 @@ fn last_one(savings: &[LabelCost], middle: usize) -> Option<LabelCost>
     Some(*one)
 }
 
-/// What the other part saves, if that is by one label alone: what was handed over, or else it is taken from the end.
+/// What one of two parts saves, if that is by one label alone: what was handed over, or else it is taken from the end or
+/// from the front.
 #[inline(always)]
-fn taken(savings: &mut Vec<LabelCost>, middle: usize, other: Option<LabelCost>) -> Option<LabelCost>
+fn taken(
+    savings: &mut Vec<LabelCost>,
+    start: usize,
+    middle: usize,
+    other: Option<LabelCost>,
+) -> Option<LabelCost>
+    requires from { start ≤ middle }
     requires to { middle ≤ length (with_one savings.old.items other) }
     requires apart { IsSome other → length savings.old.items ≡ middle }
-    ensures { MatchOption result (savings.new.items ≡ with_one savings.old.items other) (λ one. IsTaken savings.new.items (with_one savings.old.items other) middle one) }
+    ensures { MatchOption result (savings.new.items ≡ with_one savings.old.items other) (λ one. IsTaken savings.new.items (with_one savings.old.items other) start middle one) }
 {
     if let Some(one) = other {
         return Some(one);
     }
-    let Some(one) = last_one(savings, middle) else {
+    if let Some(one) = last_one(savings, middle) {
+        savings.truncate(middle);
+        return Some(one);
+    }
+    if middle != start + 1 {
         return None;
-    };
-    savings.truncate(middle);
-    Some(one)
+    }
+    let LabelCost { label, cost } = savings[start];
+    savings.remove(start);
+    Some(LabelCost { label, cost })
 }
 
 /// Joins what two parts save, which stands from `start` and from `middle` on, and puts the further labels of their
 /// gain behind the others where choices are kept. What the other part saves by one label alone may be handed over in
 /// place of that.
 ///
-/// Where the other part saves by one label alone, as most do, no list is read but for a gain.
+/// Where one of the parts saves by one label alone, as most do, no list is read but for a gain.
 #[inline(always)]
 pub fn join_parts(
     savings: &mut Vec<LabelCost>,
@@ -221,7 +254,7 @@ pub fn join_parts(
     requires room { (d : ℕ) → saved (take (middle - start) (drop start (with_one savings.old.items other))) d + saved (drop middle (with_one savings.old.items other)) d < 2 ^ 128 }
     ensures { IfOk result (λ g. IsJoined keeps weights.now (take (middle - start) (drop start (with_one savings.old.items other))) (drop middle (with_one savings.old.items other)) (take start (with_one savings.old.items other)) savings.new.items also.old.items also.new.items g) }
 {
-    let Some(one) = taken(savings, middle, other) else {
+    let Some(one) = taken(savings, start, middle, other) else {
         return join_lists(savings, sums, also, keeps, start, middle, weights);
     };
     join_one(savings, also, keeps, start, one, weights)

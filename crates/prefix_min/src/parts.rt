@@ -78,3 +78,15 @@ pub fn widest(part: Part, most: u8, limit: u64) -> Part
     }
     wide
 }
+
+/// The greatest part of no more than `most` bits that ends with the value.
+pub fn ending(value: u32, most: u8) -> Part
+    requires { most ≤ 32 }
+    ensures { IsAbout value 0 most (value + 1) result }
+{
+    let last = Part {
+        low: value,
+        bits: 0,
+    };
+    widest(last, most, u64::from(value) + 1)
+}

@@ -1,5 +1,5 @@
 //! What the parts choose to write.
-ghost use Rattle.std.specs.Prelude.{◌≡◌, ◌++◌, ◌∷◌, [], ◌+◌, ◌<◌, ◌^◌, ℕ, IfOk, IsTrue, OnOk, length, ◌≤◌, ◌-◌, reverse, slice_index_or, take, drop};
+ghost use Rattle.std.specs.Prelude.{◌≡◌, ◌++◌, ◌∷◌, [], ◌+◌, ◌<◌, IfOk, IsTrue, OnOk, length, ◌≤◌, ◌-◌, reverse, slice_index_or, take, drop};
 ghost use Rattle.prefix_min.specs.Plan.{Forest, IsLaid, IsTopped, among, no_choice, own_choice, rows_of, silent};
 
 use crate::appending::append;
@@ -25,6 +25,7 @@ pub struct Choice {
 }
 
 /// A choice of the part, where its places have 32 bits; with more it is refused as where memory is refused.
+#[tactic(auto, using(std::proofs::lemmas::Nat::le_or_l, std::proofs::lemmas::Nat::le_or_r))]
 #[inline(always)]
 fn choice_of(
     label: u32,
@@ -35,7 +36,7 @@ fn choice_of(
 ) -> Result<Choice, Memory>
     ensures { IfOk result (λ choice. choice ≡ own_choice part.low part.bits label below also end) }
 {
-    if below.max(also).max(end) > u32::MAX as usize {
+    if (below | also | end) > u32::MAX as usize {
         return Err(Memory);
     }
     Ok(Choice {
@@ -61,6 +62,7 @@ fn among(labels: &[u32], label: u32) -> bool
 }
 
 /// Puts down that a part writes a row of the label unless it inherits it, where choices are kept.
+#[inline(always)]
 pub fn put(
     choices: &mut Vec<Choice, &Bump>,
     keeps: bool,
@@ -91,6 +93,7 @@ fn is_last_of(choices: &[Choice], below: usize, label: u32) -> bool
 /// Puts down what a part with this gain chooses, where choices are kept. Its further labels stand between two places.
 ///
 /// Where there are none, the last choice below the part goes if it is of the same label: it would always inherit that.
+#[inline(always)]
 pub fn choose(
     choices: &mut Vec<Choice, &Bump>,
     keeps: bool,
@@ -107,7 +110,9 @@ pub fn choose(
     }
     let choice = choice_of(gain.best, part, below, also, end)?;
     if also == end && is_last_of(choices, below, gain.best) {
-        choices.truncate(choices.len() - 1);
+        let last = choices.len() - 1;
+        choices[last] = choice;
+        return Ok(());
     }
     append(choices, choice)
 }

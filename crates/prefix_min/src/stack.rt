@@ -1,5 +1,5 @@
 //! What each part of the field costs and saves.
-ghost use Rattle.std.specs.Prelude.{◌≡◌, ◌≤◌, ◌<◌, ◌+◌, ◌%◌, ◌^◌, ℕ, [], length, OnOk, IfOk, IfSome, IsSome, IsTrue, MatchOption, slice_index, drop};
+ghost use Rattle.std.specs.Prelude.{◌≡◌, ◌≤◌, ◌<◌, ◌+◌, ◌%◌, ◌^◌, ℕ, Bool, true, false, [], length, OnOk, IfOk, IfSome, IsSome, MatchOption, slice_index, drop};
 ghost use Rattle.prefix_min.specs.Costs.{Lists, RisesFrom};
 ghost use Rattle.prefix_min.specs.Built.{IsBuilt};
 ghost use Rattle.prefix_min.specs.Growth.{IsBeside, IsHalf, IsPut, IsStretch, end_of};
@@ -9,10 +9,10 @@ ghost use Rattle.prefix_min.specs.Pieces.{reach};
 ghost use Rattle.prefix_min.specs.NextPiece.{AreFit, IsNext, weight_below};
 
 use crate::merging::join_parts;
-use crate::parts::{Part, about, end, middle, top, widest};
+use crate::parts::{Part, about, end, ending, middle, top, widest};
 use crate::piece::Piece;
 use crate::plan::{Choice, choose, put};
-use crate::savings::{LabelCost, is_alone, join, keep, saving_of};
+use crate::savings::{Gain, LabelCost, is_alone, join, keep, saving_of};
 use bumpalo::Bump;
 use razor_base::Memory;
 use std::alloc::Global;
@@ -66,27 +66,50 @@ impl<'a> Stack<'a> {
     }
 }
 
+/// Whether what the parts choose is put down.
+pub trait Keeping {
+    ghost KEEPS: { Bool };
+
+    const KEEPS: bool;
+}
+
+/// What the parts choose is put down.
+pub struct Kept;
+
+impl Keeping for Kept {
+    ghost KEEPS = { true };
+
+    const KEEPS: bool = true;
+}
+
+/// Only what the parts cost is told.
+pub struct Unkept;
+
+impl Keeping for Unkept {
+    ghost KEEPS = { false };
+
+    const KEEPS: bool = false;
+}
+
 /// What the parts are made of.
 #[derive(Clone, Copy)]
 pub struct Field<'b> {
     pub pieces: &'b [Piece],
     pub weights: &'b [u128],
-    /// Whether what the parts choose is put down.
-    pub keeps: bool,
 }
 
 impl Field<'_> {
     /// Does the part of `bits` bits from `low` on.
-    pub fn part(&self, stack: &mut Stack, bits: u8, low: u32) -> Result<(), Memory>
+    pub fn part<K: Keeping>(&self, stack: &mut Stack, bits: u8, low: u32) -> Result<(), Memory>
         requires fit { AreFit self.now.weights.now self.now.pieces.now }
         requires next { IsNext self.now.pieces.now stack.old.next low }
         requires wide { bits ≤ 32 }
         requires aligned { low % 2 ^ bits ≡ 0 }
         requires within { low + 2 ^ bits ≤ reach 0 self.now.pieces.now }
         requires light { stack.old.cost ≤ weight_below self.now.weights.now 0 self.now.pieces.now low }
-        ensures { OnOk result (IsBuilt self.now.keeps self.now.weights.now self.now.pieces.now bits low stack.old.savings.items stack.new.savings.items stack.old.cost stack.new.cost stack.new.next stack.old.choices.items stack.new.choices.items stack.old.also.items stack.new.also.items) }
+        ensures { OnOk result (IsBuilt K.KEEPS self.now.weights.now self.now.pieces.now bits low stack.old.savings.items stack.new.savings.items stack.old.cost stack.new.cost stack.new.next stack.old.choices.items stack.new.choices.items stack.old.also.items stack.new.also.items) }
     {
-        let one = self.apart(stack, bits, low)?;
+        let one = self.apart::<K>(stack, bits, low)?;
         keep(&mut stack.savings, one)
     }
 
@@ -94,14 +117,19 @@ impl Field<'_> {
     /// that is by one label alone.
     #[inline(always)]
     #[cycle(growing)]
-    fn apart(&self, stack: &mut Stack, bits: u8, low: u32) -> Result<Option<LabelCost>, Memory>
+    fn apart<K: Keeping>(
+        &self,
+        stack: &mut Stack,
+        bits: u8,
+        low: u32,
+    ) -> Result<Option<LabelCost>, Memory>
         requires fit { AreFit self.now.weights.now self.now.pieces.now }
         requires next { IsNext self.now.pieces.now stack.old.next low }
         requires wide { bits ≤ 32 }
         requires aligned { low % 2 ^ bits ≡ 0 }
         requires within { low + 2 ^ bits ≤ reach 0 self.now.pieces.now }
         requires light { stack.old.cost ≤ weight_below self.now.weights.now 0 self.now.pieces.now low }
-        ensures built { IfOk result (λ one. IsBuilt self.now.keeps self.now.weights.now self.now.pieces.now bits low stack.old.savings.items (with_one stack.new.savings.items one) stack.old.cost stack.new.cost stack.new.next stack.old.choices.items stack.new.choices.items stack.old.also.items stack.new.also.items) }
+        ensures built { IfOk result (λ one. IsBuilt K.KEEPS self.now.weights.now self.now.pieces.now bits low stack.old.savings.items (with_one stack.new.savings.items one) stack.old.cost stack.new.cost stack.new.next stack.old.choices.items stack.new.choices.items stack.old.also.items stack.new.also.items) }
         ensures apart { IfOk result (λ one. IsSome one → stack.new.savings.items ≡ stack.old.savings.items) }
     {
         let first = stack.next;
@@ -109,10 +137,10 @@ impl Field<'_> {
         let whole = Part { low, bits };
         let limit = end(whole);
         if u64::from(piece.hi) + 1 < limit {
-            self.grown(stack, bits, low)?;
+            self.grown::<K>(stack, bits, low)?;
             return Ok(None);
         }
-        let one = self.lone(stack, piece.label, whole)?;
+        let one = self.lone::<K>(stack, piece.label, whole)?;
         stack.next = self.behind(first, limit);
         Ok(one)
     }
@@ -120,7 +148,7 @@ impl Field<'_> {
     /// Does a part in which the first piece ends, from the greatest part on that ends where this piece does.
     #[inline(never)]
     #[cycle(growing)]
-    fn grown(&self, stack: &mut Stack, bits: u8, low: u32) -> Result<(), Memory>
+    fn grown<K: Keeping>(&self, stack: &mut Stack, bits: u8, low: u32) -> Result<(), Memory>
         requires fit { AreFit self.now.weights.now self.now.pieces.now }
         requires next { IsNext self.now.pieces.now stack.old.next low }
         requires wide { bits ≤ 32 }
@@ -128,25 +156,24 @@ impl Field<'_> {
         requires within { low + 2 ^ bits ≤ reach 0 self.now.pieces.now }
         requires light { stack.old.cost ≤ weight_below self.now.weights.now 0 self.now.pieces.now low }
         requires ends { end_of self.now.pieces.now stack.old.next + 1 < low + 2 ^ bits }
-        ensures { OnOk result (IsBuilt self.now.keeps self.now.weights.now self.now.pieces.now bits low stack.old.savings.items stack.new.savings.items stack.old.cost stack.new.cost stack.new.next stack.old.choices.items stack.new.choices.items stack.old.also.items stack.new.also.items) }
+        ensures { OnOk result (IsBuilt K.KEEPS self.now.weights.now self.now.pieces.now bits low stack.old.savings.items stack.new.savings.items stack.old.cost stack.new.cost stack.new.next stack.old.choices.items stack.new.choices.items stack.old.also.items stack.new.also.items) }
     {
-        let keeps = self.keeps;
         let first = stack.next;
         let piece = self.pieces[first];
         let start = stack.savings.len();
         let below = stack.choices.len();
-        let last = Part {
-            low: piece.hi,
-            bits: 0,
-        };
-        let mut part = widest(last, bits, u64::from(piece.hi) + 1);
-        self.one(stack, piece.label, part)?;
+        let mut part = ending(piece.hi, bits);
+        self.one::<K>(stack, piece.label, part)?;
         stack.next = first + 1;
         let mut stretches = false;
         while part.bits < bits {
             if let Some(wide) = self.stretch(stack, start, piece.label, part, bits, stretches) {
                 let also = stack.also.len();
-                put(&mut stack.choices, keeps, also, piece.label, wide, below)?;
+                let gain = Gain {
+                    gain: self.weights[piece.label as usize],
+                    best: piece.label,
+                };
+                choose(&mut stack.choices, K::KEEPS, gain, wide, below, also, also)?;
                 stack.next = self.behind(stack.next, end(wide));
                 part = wide;
                 stretches = false;
@@ -154,13 +181,13 @@ impl Field<'_> {
             }
             let about = about(part);
             let middle = stack.savings.len();
-            let other = self.beside(stack, first, part, about)?;
-            let start_also = stack.also.len();
+            let other = self.beside::<K>(stack, first, part, about)?;
+            let also = stack.also.len();
             let gain = join_parts(
                 &mut stack.savings,
                 &mut stack.sums,
                 &mut stack.also,
-                keeps,
+                K::KEEPS,
                 start,
                 middle,
                 other,
@@ -168,15 +195,8 @@ impl Field<'_> {
             )?;
             stack.cost -= gain.gain;
             stretches = gain.best == piece.label;
-            choose(
-                &mut stack.choices,
-                keeps,
-                gain,
-                about,
-                below,
-                start_also,
-                stack.also.len(),
-            )?;
+            let end = stack.also.len();
+            choose(&mut stack.choices, K::KEEPS, gain, about, below, also, end)?;
             part = about;
         }
         Ok(())
@@ -186,7 +206,7 @@ impl Field<'_> {
     /// it saves stands behind the others, or is handed over where that is by one label alone.
     #[inline(always)]
     #[cycle(growing)]
-    fn beside(
+    fn beside<K: Keeping>(
         &self,
         stack: &mut Stack,
         first: usize,
@@ -198,7 +218,7 @@ impl Field<'_> {
         requires wide { part.bits < 32 }
         requires half { IsHalf self.now.pieces.now first part about }
         requires light { stack.old.cost ≤ weight_below self.now.weights.now 0 self.now.pieces.now (part.low + 2 ^ part.bits) }
-        ensures built { IfOk result (λ one. IsBeside self.now.keeps self.now.weights.now self.now.pieces.now first part about stack.old.savings.items (with_one stack.new.savings.items one) stack.old.cost stack.new.cost stack.old.next stack.new.next stack.old.choices.items stack.new.choices.items stack.old.also.items stack.new.also.items) }
+        ensures built { IfOk result (λ one. IsBeside K.KEEPS self.now.weights.now self.now.pieces.now first part about stack.old.savings.items (with_one stack.new.savings.items one) stack.old.cost stack.new.cost stack.old.next stack.new.next stack.old.choices.items stack.new.choices.items stack.old.also.items stack.new.also.items) }
         ensures apart { IfOk result (λ one. IsSome one → stack.new.savings.items ≡ stack.old.savings.items) }
     {
         if about.low < part.low {
@@ -206,35 +226,40 @@ impl Field<'_> {
                 low: about.low,
                 bits: part.bits,
             };
-            return self.lone(stack, self.pieces[first].label, lower);
+            return self.lone::<K>(stack, self.pieces[first].label, lower);
         }
-        self.apart(stack, part.bits, end(part) as u32)
+        self.apart::<K>(stack, part.bits, end(part) as u32)
     }
 
     /// Puts down a part of one label, and what it saves behind the others.
     #[inline(always)]
-    fn one(&self, stack: &mut Stack, label: u32, part: Part) -> Result<(), Memory>
+    fn one<K: Keeping>(&self, stack: &mut Stack, label: u32, part: Part) -> Result<(), Memory>
         requires place { label < length self.now.weights.now }
         requires room { stack.old.cost + slice_index self.now.weights.now label < 2 ^ 128 }
-        ensures { OnOk result (IsPut self.now.keeps self.now.weights.now label part stack.old.savings.items stack.new.savings.items stack.old.cost stack.new.cost stack.old.next stack.new.next stack.old.choices.items stack.new.choices.items stack.old.also.items stack.new.also.items) }
+        ensures { OnOk result (IsPut K.KEEPS self.now.weights.now label part stack.old.savings.items stack.new.savings.items stack.old.cost stack.new.cost stack.old.next stack.new.next stack.old.choices.items stack.new.choices.items stack.old.also.items stack.new.also.items) }
     {
-        let saving = self.lone(stack, label, part)?;
+        let saving = self.lone::<K>(stack, label, part)?;
         keep(&mut stack.savings, saving)
     }
 
     /// Puts down a part of one label, and hands over what it saves.
     #[inline(always)]
-    fn lone(&self, stack: &mut Stack, label: u32, part: Part) -> Result<Option<LabelCost>, Memory>
+    fn lone<K: Keeping>(
+        &self,
+        stack: &mut Stack,
+        label: u32,
+        part: Part,
+    ) -> Result<Option<LabelCost>, Memory>
         requires place { label < length self.now.weights.now }
         requires room { stack.old.cost + slice_index self.now.weights.now label < 2 ^ 128 }
-        ensures put { IfOk result (λ one. IsPut self.now.keeps self.now.weights.now label part stack.old.savings.items (with_one stack.new.savings.items one) stack.old.cost stack.new.cost stack.old.next stack.new.next stack.old.choices.items stack.new.choices.items stack.old.also.items stack.new.also.items) }
+        ensures put { IfOk result (λ one. IsPut K.KEEPS self.now.weights.now label part stack.old.savings.items (with_one stack.new.savings.items one) stack.old.cost stack.new.cost stack.old.next stack.new.next stack.old.choices.items stack.new.choices.items stack.old.also.items stack.new.also.items) }
         ensures apart { stack.new.savings.items ≡ stack.old.savings.items }
     {
         let weight = self.weights[label as usize];
         stack.cost += weight;
         let below = stack.choices.len();
         let also = stack.also.len();
-        put(&mut stack.choices, self.keeps, also, label, part, below)?;
+        put(&mut stack.choices, K::KEEPS, also, label, part, below)?;
         Ok(saving_of(label, weight))
     }
 
@@ -289,7 +314,7 @@ impl Field<'_> {
     }
 
     /// Does the halves of the whole field, and gives the label of its row.
-    pub fn whole(&self, stack: &mut Stack, width: u8) -> Result<u32, Memory>
+    pub fn whole<K: Keeping>(&self, stack: &mut Stack, width: u8) -> Result<u32, Memory>
         requires fit { AreFit self.now.weights.now self.now.pieces.now }
         requires wide { width ≤ 32 }
         requires all { 2 ^ width ≡ reach 0 self.now.pieces.now }
@@ -297,7 +322,7 @@ impl Field<'_> {
         requires cost { stack.old.cost ≡ 0 }
         requires choices { stack.old.choices.items ≡ [] }
         requires savings { stack.old.savings.items ≡ [] }
-        ensures { IfOk result (λ y. IsWhole self.now.keeps self.now.weights.now self.now.pieces.now width y stack.new.cost stack.new.choices.items stack.new.also.items) }
+        ensures { IfOk result (λ y. IsWhole K.KEEPS self.now.weights.now self.now.pieces.now width y stack.new.cost stack.new.choices.items stack.new.also.items) }
     {
         let piece = self.pieces[0];
         let top = top(width, 0);
@@ -308,9 +333,9 @@ impl Field<'_> {
         let half = width - 1;
         let middle = middle(width, 0);
         let start = stack.savings.len();
-        self.part(stack, half, 0)?;
+        self.part::<K>(stack, half, 0)?;
         let end = stack.savings.len();
-        self.part(stack, half, middle)?;
+        self.part::<K>(stack, half, middle)?;
         let gain = join(
             &mut stack.savings,
             &mut stack.sums,

@@ -20,7 +20,7 @@ returns c =
     c.new-rows.ensures.items c.in_ok-push.ensures.items c.in_ok-write.ensures c.reverse.ensures.items in
     let rows = subst (AreFieldRows weights f width (costs_of whole.node).row) (sym is) whole.rows in
     let sorted = c.sort.new.rows.items in
-    let s = c.in_ok-sort.ensures in
+    let s = c.sort.ensures in
     let fresh : IsFresh (costs_of whole.node) (length weights) = λ h. absurd (omega (arith, whole.within (length weights) h)) in
     record {
       right = right sorted rows c.requires.wide s.same s.longest_first s.values_rise;
