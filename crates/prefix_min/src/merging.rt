@@ -169,6 +169,7 @@ fn join_one(
 }
 
 /// Joins what two parts save, which stands from `start` and from `middle` on.
+#[inline(always)]
 fn join_lists(
     savings: &mut Vec<LabelCost>,
     sums: &mut Vec<LabelCost>,

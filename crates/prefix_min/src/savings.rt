@@ -157,6 +157,7 @@ pub fn is_alone(savings: &[LabelCost], label: u32, weights: &[u128]) -> bool
 }
 
 /// Puts the labels beside the best that save the gain or more behind the others.
+#[inline(always)]
 fn put_further(also: &mut Vec<u32, &Bump>, sums: &[LabelCost], gain: Gain) -> Result<(), Memory>
     ensures { OnOk result (also.new.items ≡ also.old.items ++ further gain.gain gain.best sums.now) }
 {
@@ -169,6 +170,7 @@ fn put_further(also: &mut Vec<u32, &Bump>, sums: &[LabelCost], gain: Gain) -> Re
 }
 
 /// Puts the further labels of a gain behind the others, where choices are kept.
+#[inline(always)]
 pub fn put_more(
     also: &mut Vec<u32, &Bump>,
     keeps: bool,
