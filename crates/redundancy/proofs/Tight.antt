@@ -15,7 +15,7 @@ use Rattle.table_compose.specs.Composed.{AreComposed, HaveCosts, HaveLists, IsAn
 use Rattle.table_compose.proofs.Occurring.{entries_occur, occur_by}
 use Rattle.table_compose.proofs.Tables.{answers, counted}
 use Rattle.redundancy_laws.specs.Built.{ArePrefixes}
-use Rattle.redundancy_laws.specs.Entries.{IsPart, answer}
+use Rattle.ternary_words.specs.Entries.{IsPart, answer}
 use Rattle.redundancy_laws.specs.Flags.{with_flags}
 use Rattle.node_store.proofs.Orders.{order_level}
 use Rattle.field_boxes.specs.Orders.{IsOrder, picked}

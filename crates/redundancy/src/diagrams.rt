@@ -6,7 +6,7 @@ ghost use Rattle.node_store.specs.Diagram.{answer as diagram_answer, level_of};
 ghost use Rattle.table_compose.specs.Diagrams.{IsCostOf};
 ghost use Rattle.table_compose.specs.Composed.{IsAnswer, IsRefusal};
 ghost use Rattle.redundancy_laws.specs.Built.{ArePrefixes};
-ghost use Rattle.redundancy_laws.specs.Entries.{answer};
+ghost use Rattle.ternary_words.specs.Entries.{answer};
 ghost use Rattle.field_boxes.specs.Orders.{IsOrder, picked};
 ghost use Rattle.redundancy.specs.Kept.{AreKeptOf};
 

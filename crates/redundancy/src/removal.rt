@@ -42,7 +42,7 @@ impl<'a> Removal<'a> {
     ghost use Rattle.table_compose.specs.Composed.{HaveCosts, HaveLists, IsAnswer, IsPlaced, IsRefusal, boxes, open_all};
     ghost use Rattle.redundancy_laws.specs.Built.{ArePrefixes};
     ghost use Rattle.field_boxes.specs.Alike.{IsTight};
-    ghost use Rattle.redundancy_laws.specs.Entries.{answer};
+    ghost use Rattle.ternary_words.specs.Entries.{answer};
     ghost use Rattle.redundancy_laws.specs.Flags.{with_flags};
     ghost use Rattle.field_boxes.specs.Orders.{IsOrder, picked};
     ghost use Rattle.redundancy_laws.specs.Pass.{Keeps};

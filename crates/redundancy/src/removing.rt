@@ -2,7 +2,7 @@
 ghost use Rattle.std.specs.Prelude.{◌≡◌, ◌<◌, [], length, IfOk};
 ghost use Rattle.field_boxes.specs.Alike.{AreAlike, IsTight};
 ghost use Rattle.redundancy_laws.specs.Built.{ArePrefixes};
-ghost use Rattle.redundancy_laws.specs.Entries.{IsPart, answer};
+ghost use Rattle.ternary_words.specs.Entries.{IsPart, answer};
 ghost use Rattle.redundancy_laws.specs.Pass.{Keeps};
 ghost use Rattle.redundancy_laws.specs.Flags.{AreRightFlags, with_flags};
 ghost use Rattle.field_boxes.specs.Orders.{IsOrder};

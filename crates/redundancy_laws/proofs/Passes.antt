@@ -6,7 +6,7 @@ use Rattle.std.proofs.lemmas.Bool.{or_parts}
 use Rattle.field_boxes.specs.Alike.{AreAlike, IsTight}
 use Rattle.field_boxes.specs.Fields.{IsHeader}
 use Rattle.ternary_words.specs.declared.entry.Entry.{Entry}
-use Rattle.redundancy_laws.specs.Entries.{answer, entry_matches, IsPart}
+use Rattle.ternary_words.specs.Entries.{answer, entry_matches, IsPart}
 use Rattle.redundancy_laws.specs.Pass.{IsNeeded, IsRedundant, Keeps}
 
 part_step : (e : Entry) (entries kept later : List Entry) (N R : Type 0) → (N × (kept ≡ e ∷ later)) ⊎ (R × (kept ≡ later)) → IsPart later entries → IsPart kept (e ∷ entries)

@@ -17,7 +17,7 @@ use Rattle.ternary_words.proofs.Parted.{has_masks, part_within, word_of_parts}
 use Rattle.ternary_words.proofs.PrefixHolds.{agrees-fields}
 use Rattle.redundancy_laws.specs.Rows.{matches, each_holds}
 use Rattle.redundancy_laws.specs.Built.{row_at, span_at}
-use Rattle.redundancy_laws.specs.Entries.{entry_matches}
+use Rattle.ternary_words.specs.Entries.{entry_matches}
 use Rattle.field_boxes.specs.Orders.{IsOrder, picked}
 use Rattle.field_boxes.proofs.Orders.{any_order, of_all, picked_stated}
 use Rattle.ternary_words.proofs.Spanned.{five_tests}

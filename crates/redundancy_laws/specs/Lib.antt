@@ -3,7 +3,6 @@ pub mod Marks
 pub mod Contexts
 pub mod Layers
 pub mod Sifted
-pub mod Entries
 pub mod Pass
 pub mod Built
 pub mod Flags

@@ -3,7 +3,7 @@ use Rattle.std.specs.Prelude.{◌≡◌, ◌≢◌, ◌⊎◌, ℕ, false, true,
 use Rattle.std.specs.List.{list_any}
 use Rattle.field_boxes.specs.Fields.{IsHeader}
 use Rattle.ternary_words.specs.declared.entry.Entry.{Entry}
-use Rattle.redundancy_laws.specs.Entries.{answer, entry_matches}
+use Rattle.ternary_words.specs.Entries.{answer, entry_matches}
 
 -- the header meets the entry first, where the others stand before it
 abbrev pub MeetsFirst : List Entry → Entry → List ℕ → Type 0

@@ -18,7 +18,7 @@ ghost use Rattle.node_store.specs.declared.edge.NodeId.{NodeId};
 ghost use Rattle.redundancy_laws.specs.declared.context.Context.{Context};
 ghost use Rattle.redundancy_laws.specs.declared.sifted.Sifted.{Sifted};
 ghost use Rattle.redundancy_laws.specs.Drafts.{Fill};
-ghost use Rattle.redundancy_laws.specs.Entries.{IsPart, answer as table_answer, entry_matches};
+ghost use Rattle.ternary_words.specs.Entries.{IsPart, answer as table_answer, entry_matches};
 ghost use Rattle.field_boxes.specs.Orders.{IsOrder, picked};
 ghost use Rattle.redundancy_laws.specs.Pass.{Keeps};
 ghost use Rattle.redundancy_laws.specs.Built.{field_of, row_at, ArePrefixes, HaveSpan};

@@ -11,7 +11,7 @@ use Rattle.ternary_words.specs.Limits.{AreNumbered}
 use Rattle.ternary_words.specs.Table.{Entry, answer, entry_matches}
 use Rattle.ternary_words.specs.Views.{entry_of, word_of}
 use Rattle.ternary_words.specs.Word.{agrees, header_bits}
-use Rattle.redundancy_laws.specs.Entries as numbers
+use Rattle.ternary_words.specs.Entries as numbers
 
 answer_step : (names : List (List ℕ)) (t : Bool) (e : code.Entry) (o : Option Entry) (n : ℕ) → option_and_then (λ x. x.decision) o ≡ name_at names n →
     option_and_then (λ x. x.decision) (cond t (Some (entry_of names e)) o) ≡ name_at names (cond t e.decision n)

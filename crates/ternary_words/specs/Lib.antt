@@ -4,5 +4,6 @@ pub mod Table
 pub mod Hexadecimal
 pub mod TableText
 pub mod Views
+pub mod Entries
 pub mod Limits
 pub mod Copies

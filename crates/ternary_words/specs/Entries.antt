@@ -1,8 +1,13 @@
--- What tables answer by number, and their parts.
+-- What entries answer by number, and their parts.
 use Rattle.std.specs.Prelude.{◌≡◌, ◌⊎◌, ℕ, Bool, cond, List, [], ◌∷◌}
+use Rattle.ternary_words.specs.declared.word.Word.{Word}
 use Rattle.ternary_words.specs.declared.entry.Entry.{Entry}
 use Rattle.ternary_words.specs.Word.{agrees, header_bits}
 use Rattle.ternary_words.specs.Views.{word_of}
+
+-- whether the word matches the header
+abbrev pub matches : List ℕ → Word → Bool
+matches header w = agrees (word_of w) (header_bits header)
 
 -- whether the entry's word matches the header
 abbrev pub entry_matches : List ℕ → Entry → Bool
