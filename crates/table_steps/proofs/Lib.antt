@@ -1,0 +1,9 @@
+pub mod Outcomes
+pub mod Among
+pub mod Passes
+pub mod Openings
+pub mod Removed
+pub mod Parted
+pub mod Kept
+pub mod Exchanged
+pub mod Ends

@@ -1,0 +1,5 @@
+pub mod Free
+pub mod Passing
+pub mod Shortened
+pub mod Needs
+pub mod Exchange

@@ -1,0 +1,67 @@
+//! Whether an entry is needed, with a header to show for it.
+
+ghost use Rattle.std.specs.Prelude.{◌<◌, IfOk, length};
+ghost use Rattle.std.specs.Bool.{OnTrue};
+ghost use Rattle.std.specs.List.{remove};
+ghost use Rattle.field_boxes.specs.Alike.{AreApart, IsTight};
+ghost use Rattle.ternary_words.specs.Entries.{answer};
+ghost use Rattle.table_steps.specs.Needs.{IsNeed};
+
+use crate::steps::redundant;
+use crate::wanted::{candidate, is_wanted};
+use field_boxes::Header;
+use razor_base::Memory;
+use std::alloc::Global;
+use ternary_words::Entry;
+
+/// Whether a table needs an entry: it doesn't, or it answers this header otherwise without it, or it wasn't seen.
+#[derive(Drop)]
+pub enum Need {
+    Redundant,
+    Needed(Header),
+    Unknown,
+}
+
+/// Whether the table needs the entry at the place to answer as it does.
+pub fn needs(alloc: Global, table: &[Entry], place: usize, budget: u32) -> Result<Need, Memory>
+    requires { place < length table.now }
+    ensures { IfOk result (λ need. IsNeed table.now place need) }
+{
+    if redundant(alloc, table, place, budget)? {
+        return Ok(Need::Redundant);
+    }
+    let entry = table[place];
+    let before = &table[..place];
+    let later = &table[place + 1..];
+    let Some(header) = candidate(alloc, before, &entry, later, budget)? else {
+        return Ok(Need::Unknown);
+    };
+    if is_wanted(before, &entry, later, &header) {
+        return Ok(Need::Needed(header));
+    }
+    Ok(Need::Unknown)
+}
+
+/// Whether no entry can be left out alone; no where that isn't seen.
+pub fn is_tight(alloc: Global, table: &[Entry], budget: u32) -> Result<bool, Memory>
+    ensures { IfOk result (λ yes. OnTrue yes (IsTight answer table.now)) }
+{
+    for place in 0..table.len() {
+        if !is_needed(alloc, table, place, budget)? {
+            return Ok(false);
+        }
+    }
+    Ok(true)
+}
+
+/// Whether the entry at the place is seen to be needed.
+fn is_needed(alloc: Global, table: &[Entry], place: usize, budget: u32) -> Result<bool, Memory>
+    requires { place < length table.now }
+    ensures { IfOk result (λ yes. OnTrue yes (AreApart (answer (remove table.now place)) (answer table.now))) }
+{
+    match needs(alloc, table, place, budget)? {
+        Need::Needed(_header) => Ok(true),
+        Need::Redundant => Ok(false),
+        Need::Unknown => Ok(false),
+    }
+}
