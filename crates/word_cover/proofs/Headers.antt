@@ -1,6 +1,6 @@
 -- Headers as keys: a word matches where the key fits.
 use Rattle.std.proofs.Common.{◌≡◌, ◌⊎◌, ◌∷◌, ℕ, List, [], Bool, true, false, ◌+◌, ◌*◌, ◌^◌, ap, refl, sym, ◌∙◌, inl, inr, bit_and, bit_or, bit_xor, nat_eq, slice_index, ◌||◌}
-use Rattle.std.proofs.lemmas.Nat.{or_lt}
+use Rattle.std.proofs.lemmas.Nat.{or_comm, or_lt}
 use Rattle.std.proofs.lemmas.Bool.{eqb-true, false≢true}
 use Rattle.std.proofs.Common.{eq-eqb}
 use Rattle.field_boxes.specs.Bits.{bits}
@@ -12,7 +12,7 @@ use Rattle.ternary_words.proofs.Joined.{bits-header}
 use Rattle.ternary_words.proofs.Matching.{agrees-mask}
 use Rattle.ternary_words.specs.Entries.{matches}
 use Rattle.word_cover.specs.Covers.{Covers, AreDisjoint}
-use Rattle.word_cover.proofs.Numbers.{Fits, fits-inside, fits-two, fits-or, fits-halves}
+use Rattle.word_cover.proofs.Numbers.{Fits, fits-inside, fits-two, fits-or, fits-part, fits-halves}
 
 -- the key of a header
 key : List ℕ → ℕ
@@ -58,6 +58,23 @@ meet-is a b h is p q =
     let m = bit_or a.mask b.mask in
     let f = fits-or (key h) a.value a.mask b.value b.mask a.masked b.masked (fits_from h a is p) (fits_from h b is q) in
     ap (agrees (trits (bits 104 m) (bits 104 v))) (sym (key_bits h is)) ∙ sym (agrees-mask 104 m v (key h) (or_lt 104 a.mask b.mask a.narrow b.narrow)) ∙ eq-eqb (bit_and (bit_xor (key h) v) m) 0 f
+
+-- where some header fits both, what fits the join fits each
+meet_part : (a b : Word) (h g : List ℕ) → IsHeader h → matches h a ≡ true → matches h b ≡ true → IsHeader g →
+    agrees (trits (bits 104 (bit_or a.mask b.mask)) (bits 104 (bit_or a.value b.value))) (header_bits g) ≡ true → matches g a ≡ true
+meet_part a b h g is p q has m =
+    let v = bit_or a.value b.value in
+    let x = bit_or a.mask b.mask in
+    let agree = fits-two (key h) a.value a.mask b.value b.mask (fits_from h a is p) (fits_from h b is q) in
+    let test = agrees-mask 104 x v (key g) (or_lt 104 a.mask b.mask a.narrow b.narrow) ∙ ap (agrees (trits (bits 104 x) (bits 104 v))) (key_bits g has) ∙ m in
+    matches_from g a has (fits-part (key g) a.value a.mask b.value b.mask a.masked b.masked agree (eqb-true (bit_and (bit_xor (key g) v) x) 0 test))
+
+pub meet-alone : (a b : Word) (h : List ℕ) → IsHeader h → matches h a ≡ true → matches h b ≡ true → (g : List ℕ) → IsHeader g →
+    agrees (trits (bits 104 (bit_or a.mask b.mask)) (bits 104 (bit_or a.value b.value))) (header_bits g) ≡ true → (matches g a ≡ true) × (matches g b ≡ true)
+meet-alone a b h is p q g has m =
+    let swapped = ap (λ v. agrees (trits (bits 104 (bit_or b.mask a.mask)) (bits 104 v)) (header_bits g)) (or_comm b.value a.value)
+    ∙ ap (λ x. agrees (trits (bits 104 x) (bits 104 (bit_or a.value b.value))) (header_bits g)) (or_comm b.mask a.mask) ∙ m in
+    (meet_part a b h g is p q has m, meet_part b a h g is q p has swapped)
 
 first_of : (s t : Bool) → s ≡ true → s || (t || false) ≡ true
 first_of s t e = ap (λ x. x || (t || false)) e

@@ -17,6 +17,11 @@ AreDisjoint a b = (header : List ℕ) → IsHeader header → matches header a �
 abbrev pub HoldsBoth : Word → Word → Word → Type 0
 HoldsBoth a b both = (header : List ℕ) → IsHeader header → matches header a ≡ true → matches header b ≡ true → matches header both ≡ true
 
+-- where some header is matched by both, what the third matches is matched by both
+abbrev pub HoldsOnlyBoth : Word → Word → Word → Type 0
+HoldsOnlyBoth a b both = (header : List ℕ) → IsHeader header → matches header a ≡ true → matches header b ≡ true →
+    (other : List ℕ) → IsHeader other → matches other both ≡ true → (matches other a ≡ true) × (matches other b ≡ true)
+
 -- what one of the first words matches, one of the others matches
 abbrev pub AreAmong : List Word → List Word → Type 0
 AreAmong some words = (header : List ℕ) → list_any (matches header) some ≡ true → list_any (matches header) words ≡ true

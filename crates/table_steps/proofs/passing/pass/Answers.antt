@@ -15,7 +15,7 @@ returns-then-inside c =
     let e = c.args.entry.now in
     elim c.if-entry-decision.branch [
       | then-entry-decision+in_ok-push w ↦ last-same above e c.args.word.now c.args.decision w.if-entry-decision.true c.if-inside.ensures
-      | else-entry-decision+in_ok-covered+else-not-branch w ↦ last-hidden above e c.args.word.now w.meet.result c.args.decision w.meet.ensures
+      | else-entry-decision+in_ok-covered+else-not-branch w ↦ last-hidden above e c.args.word.now w.meet.result c.args.decision w.meet.ensures.holds
           (subst (λ (xs : List Word). Covers xs w.meet.result) w.as_slice.ensures.value (OnTrue_at w.if-not-branch.false w.in_ok-covered.ensures)) c.if-inside.ensures
     ]
 
@@ -26,6 +26,6 @@ returns c =
     let e = c.args.entry.now in
     elim c.if-entry-decision.branch [
       | then-entry-decision+in_ok-push w ↦ next-same above new e c.args.word.now c.args.decision w.if-entry-decision.true (rw w.above-is w.in_ok-push.ensures.items)
-      | else-entry-decision+in_ok-covered+else-not-branch w ↦ next-hidden above new e c.args.word.now w.meet.result c.args.decision (rw w.above-is refl) w.meet.ensures
+      | else-entry-decision+in_ok-covered+else-not-branch w ↦ next-hidden above new e c.args.word.now w.meet.result c.args.decision (rw w.above-is refl) w.meet.ensures.holds
           (subst (λ (xs : List Word). Covers xs w.meet.result) w.as_slice.ensures.value (OnTrue_at w.if-not-branch.false w.in_ok-covered.ensures))
     ]
