@@ -1,5 +1,5 @@
 -- Words that are pushed behind others.
-use Rattle.std.proofs.Common.{◌≡◌, ◌∷◌, ◌++◌, ℕ, List, [], Bool, true, false, ◌+◌, ◌<◌, ◌||◌, ap, refl, sym, subst, ◌∙◌, length, get_or, take, append_assoc}
+use Rattle.std.proofs.Common.{◌≡◌, ◌∷◌, ◌++◌, ℕ, List, [], false, ◌+◌, ◌<◌, ap, refl, sym, subst, ◌∙◌, length, get_or, take, append_assoc}
 use Rattle.std.specs.List.{list_any}
 use Rattle.std.proofs.lemmas.List.{take_more, map-append}
 use Rattle.std.proofs.lemmas.List.Folds.{list_any-append}

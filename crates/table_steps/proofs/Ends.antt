@@ -1,5 +1,5 @@
 -- The last entries that two tables share.
-use Rattle.std.proofs.Common.{◌≡◌, ◌∷◌, ◌++◌, ℕ, List, [], Bool, true, false, cond, ◌+◌, ◌<◌, ◌≤◌, ◌-◌, ap, refl, sym, ◌∙◌, arith, length, get_or, take, drop, suc, eqb}
+use Rattle.std.proofs.Common.{◌≡◌, ◌∷◌, ◌++◌, ℕ, List, [], Bool, true, false, cond, ◌+◌, ◌<◌, ◌-◌, ap, refl, sym, ◌∙◌, arith, length, get_or, take, drop, suc, eqb}
 use Rattle.std.specs.Prelude.{◌&&◌}
 use Rattle.std.proofs.Math.Seq.{drop-cons}
 use Rattle.std.proofs.lemmas.Bool.{eqb-true}

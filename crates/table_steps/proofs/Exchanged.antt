@@ -1,5 +1,5 @@
 -- Tables whose first entries are exchanged for others.
-use Rattle.std.proofs.Common.{◌≡◌, ◌⊎◌, ◌∷◌, ◌++◌, ℕ, List, [], Bool, true, false, ◌+◌, ◌<◌, ◌≤◌, ◌-◌, ◌||◌, ap, refl, sym, ◌∙◌, arith, length, get_or, take, drop, suc, zero, inl, inr, cond, subst}
+use Rattle.std.proofs.Common.{◌≡◌, ◌⊎◌, ◌∷◌, ◌++◌, ℕ, List, [], Bool, true, false, ◌+◌, ◌<◌, ◌-◌, ◌||◌, ap, refl, sym, ◌∙◌, length, get_or, take, drop, suc, zero, inl, inr, cond, subst}
 use Rattle.std.specs.List.{list_any}
 use Rattle.std.proofs.lemmas.List.{take_more, take_rest}
 use Rattle.std.proofs.lemmas.List.Folds.{list_any-append}
@@ -11,7 +11,7 @@ use Rattle.ternary_words.specs.Entries.{matches, entry_matches, answer}
 use Rattle.word_cover.specs.Covers.{AreAmong, Covers}
 use Rattle.table_steps.specs.Free.{IsFree, words_of}
 use Rattle.table_steps.specs.Exchange.{AnswerAs, LeaveRest}
-use Rattle.table_steps.proofs.Outcomes.{neither, by_case, not_both, unless}
+use Rattle.table_steps.proofs.Outcomes.{neither, by_case, not_both}
 use Rattle.table_steps.proofs.Among.{none_among, none_in_both, none_with, words_more}
 use Rattle.table_steps.proofs.Kept.{kept_here}
 

@@ -1,9 +1,9 @@
 -- The first entries that a word passes with nothing above.
-use Rattle.std.proofs.Common.{◌≡◌, ◌∷◌, ◌++◌, ℕ, List, [], false, ◌+◌, ◌<◌, ap, refl, ◌∙◌, length, get_or, take, drop, inl, inr}
+use Rattle.std.proofs.Common.{◌≡◌, ◌∷◌, ◌++◌, ℕ, List, [], ◌+◌, ◌<◌, ap, refl, ◌∙◌, length, get_or, take, drop, inl, inr}
 use Rattle.std.specs.List.{list_any}
 use Rattle.ternary_words.specs.declared.word.Word.{Word}
 use Rattle.ternary_words.specs.declared.entry.Entry.{Entry}
-use Rattle.ternary_words.specs.Entries.{matches, answer}
+use Rattle.ternary_words.specs.Entries.{matches}
 use Rattle.word_cover.specs.Covers.{Covers, AreDisjoint, AreAmong}
 use Rattle.table_steps.specs.Free.{words_of, IsFree}
 use Rattle.table_steps.specs.Passing.{ArePassed}

@@ -1,5 +1,5 @@
 -- A word passes entries, one after another.
-use Rattle.std.proofs.Common.{◌≡◌, ◌⊎◌, ◌∷◌, ◌++◌, ℕ, List, [], Bool, true, false, ◌+◌, ◌<◌, ◌≤◌, ap, refl, sym, subst, ◌∙◌, length, get_or, drop, inl, inr, cond}
+use Rattle.std.proofs.Common.{◌≡◌, ◌⊎◌, ◌∷◌, ◌++◌, ℕ, List, [], Bool, true, false, ◌+◌, ◌<◌, ◌≤◌, ap, sym, subst, ◌∙◌, length, get_or, drop, inl, inr, cond}
 use Rattle.std.specs.List.{list_any}
 use Rattle.std.proofs.lemmas.List.{at_drop_more, at_drop_all}
 use Rattle.field_boxes.specs.Fields.{IsHeader}

@@ -1,5 +1,4 @@
 use Rattle.std.proofs.Common.{arith}
-use Rattle.std.proofs.lemmas.Bool.{OnTrue_at}
 use Rattle.table_steps.proofs.Ends.{end-start, end-next}
 use Rattle.table_steps.proofs.tables.common_end.Goals as goal
 
