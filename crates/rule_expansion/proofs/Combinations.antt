@@ -1,5 +1,5 @@
 -- Combinations of prefixes: how many there are, which values they hold, and that they fit.
-use Rattle.std.proofs.Common.{◌≡◌, ◌∷◌, ◌++◌, ℕ, ◌*◌, ◌≤◌, List, [], Bool, true, false, length, map, ap, refl, ◌∙◌, arith}
+use Rattle.std.proofs.Common.{◌≡◌, ◌∷◌, ◌++◌, ℕ, suc, ◌*◌, ◌≤◌, List, [], Bool, true, false, length, map, ap, refl, ◌∙◌, arith}
 use Rattle.std.specs.Prelude.{◌&&◌, ◌||◌}
 use Rattle.std.specs.List.{list_any, flat_map, AllByRecursion}
 use Rattle.std.proofs.lemmas.List.{length-append, length-map}
@@ -82,7 +82,7 @@ any_combination law (f ∷ fs) (v ∷ vs) rule narrow are =
     ∙ ap (λ t. t && list_any (λ ps. all_hold fs ps vs) (combinations (covers fs rule))) ((law (width f) (λ n. set_holds f n rule) narrow.0).cover.exact.exact v are.0)
     ∙ ap (λ t. set_holds f v rule && t) (any_combination law fs vs rule narrow.1 are.1)
 
-AllByRecursion-append : {A : Type 0} (P : A → Type 0) (xs ys : List A) → AllByRecursion P xs → AllByRecursion P ys → AllByRecursion P (xs ++ ys)
+pub AllByRecursion-append : {A : Type 0} (P : A → Type 0) (xs ys : List A) → AllByRecursion P xs → AllByRecursion P ys → AllByRecursion P (xs ++ ys)
 AllByRecursion-append P [] ys h k = k
 AllByRecursion-append P (x ∷ xs) ys h k = (h.0, AllByRecursion-append P xs ys h.1 k)
 
@@ -100,3 +100,18 @@ fit_combinations law [] rule narrow = (tt, tt)
 fit_combinations law (f ∷ fs) rule narrow =
     let cover = shortest_cover (width f) (λ n. set_holds f n rule) in
     fit_row f fs cover (combinations (covers fs rule)) (recursion_from_All (FitsWidth (width f)) cover (law (width f) (λ n. set_holds f n rule) narrow.0).cover.exact.fit) (fit_combinations law fs rule narrow.1)
+
+long_behind : (n : ℕ) (p : Prefix) (rest : List (List Prefix)) → AllByRecursion (λ (ps : List Prefix). length ps ≡ n) rest → AllByRecursion (λ (ps : List Prefix). length ps ≡ suc n) (in_front p rest)
+long_behind n p [] h = tt
+long_behind n p (ps ∷ rest) h = (ap suc h.0, long_behind n p rest h.1)
+
+long_row : (n : ℕ) (items : List Prefix) (rest : List (List Prefix)) → AllByRecursion (λ (ps : List Prefix). length ps ≡ n) rest →
+    AllByRecursion (λ (ps : List Prefix). length ps ≡ suc n) (flat_map (λ p. in_front p rest) items)
+long_row n [] rest h = tt
+long_row n (p ∷ items) rest h =
+    AllByRecursion-append (λ (ps : List Prefix). length ps ≡ suc n) (in_front p rest) (flat_map (λ q. in_front q rest) items) (long_behind n p rest h) (long_row n items rest h)
+
+-- each combination has a prefix for each of its fields
+pub long_combinations : {A : Type 0} (fs : List ℕ) (rule : Rule A) → AllByRecursion (λ (ps : List Prefix). length ps ≡ length fs) (combinations (covers fs rule))
+long_combinations [] rule = (refl, tt)
+long_combinations (f ∷ fs) rule = long_row (length fs) (shortest_cover (width f) (λ n. set_holds f n rule)) (combinations (covers fs rule)) (long_combinations fs rule)

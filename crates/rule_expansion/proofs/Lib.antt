@@ -3,3 +3,4 @@ pub mod Adding
 pub mod Deciding
 pub mod Naming
 pub mod Places
+pub mod Prefixed

@@ -78,7 +78,7 @@ many_words (r ∷ rules) =
     ∙ ap (λ n. product_of_lengths (covers stated rule) + n) (many_words rules)
     ∙ sym (sum_by-cons (λ (x : Rule ℕ). product_of_lengths (covers stated x)) rule (map rule_of rules))
 
-same_count : (names : List (List ℕ)) (rules : List code.Rule) → expanded_count (map rule_of rules) ≡ expanded_count (named_rules names rules)
+pub same_count : (names : List (List ℕ)) (rules : List code.Rule) → expanded_count (map rule_of rules) ≡ expanded_count (named_rules names rules)
 same_count names [] = refl
 same_count names (r ∷ rules) =
     sum_by-cons (λ (x : Rule ℕ). product_of_lengths (covers stated x)) (rule_of r) (map rule_of rules)

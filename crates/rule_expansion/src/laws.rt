@@ -1,12 +1,14 @@
 //! Laws of the definitions, for whoever relies on them. The functions do nothing.
 ghost use Rattle.std.specs.Prelude.{◌≡◌, ℕ, List, All, length, map};
 ghost use Rattle.field_boxes.specs.declared.rule.Rule as code;
-ghost use Rattle.field_boxes.specs.NamedRules.{IsNumberedBy};
+ghost use Rattle.field_boxes.specs.NamedRules.{IsNumberedBy, named_rules};
 ghost use Rattle.field_boxes.specs.Rules.{rule_of};
 ghost use Rattle.ternary_words.specs.declared.entry.Entry as code_entry;
 ghost use Rattle.field_boxes.specs.Fields.{IsHeader, stated};
 ghost use Rattle.field_boxes.specs.Classifier.{Rule, source};
+ghost use Rattle.ternary_words.specs.Prefixes.{IsPrefixInEach};
 ghost use Rattle.ternary_words.specs.Table.{answer};
+ghost use Rattle.ternary_words.specs.Views.{word_of};
 ghost use Rattle.rule_expansion.specs.Entries.{decided_of, AreEntriesOf};
 ghost use Rattle.rule_expansion.specs.Expansion.{expansion, expanded_count, decided_words};
 
@@ -26,9 +28,22 @@ pub fn expansion_is_counted()
     ensures { (rules : List (Rule (List ℕ))) → length (expansion rules) ≡ expanded_count rules }
 {}
 
+/// How many entries rules come to has nothing to do with the names of their decisions.
+pub fn names_count_alike()
+    ensures { (names : List (List ℕ)) (rules : List code.Rule) → expanded_count (map rule_of rules) ≡ expanded_count (named_rules names rules) }
+{}
+
 /// What the words of rules with numbers decide, by name: the entries of the rules with names, as many as
 /// are counted.
 pub fn decided_words_are_entries()
     ensures { (names : List (List ℕ)) (rules : List code.Rule) (entries : List code_entry.Entry) →
         map decided_of entries ≡ decided_words (map rule_of rules) → All (IsNumberedBy names) rules → AreEntriesOf names rules entries }
 {}
+
+/// The words of rules are prefixes in each field.
+pub fn decided_words_are_prefixes()
+    ensures { (rules : List code.Rule) (entries : List code_entry.Entry) →
+        map decided_of entries ≡ decided_words (map rule_of rules) → All (λ e. IsPrefixInEach (word_of e.word)) entries }
+{
+    halving_is_shortest();
+}
