@@ -1,0 +1,39 @@
+//! An index of ternary entries, for a search that shortens tables.
+//!
+//! A [`Table`] holds rows in order: a cube of headers, a decision, and whether the row is fixed. Its moves
+//! keep what the table answers: rows that nothing needs are taken out ([`Table::tight`]), a row goes down as
+//! far as it can ([`Table::sink`]), gets wider ([`Table::prime`]) or narrower ([`Table::reduce`]). Each asks
+//! one question, [`free_for`]: may this cube stand here with this decision? It is answered from a [`View`],
+//! the rows that meet a cube, which the table finds by sets of slots for the prefixes of each field.
+//!
+//! Nothing is promised of any answer: who uses what comes out of a search checks it. All that holds is that
+//! every call returns, whatever it is given.
+#![tactic(auto)]
+
+mod cells;
+mod changes;
+mod covers;
+mod cube;
+mod fields;
+mod free;
+mod links;
+mod marks;
+mod moves;
+mod row;
+mod sets;
+mod sharpening;
+mod slots;
+mod table;
+#[cfg(test)]
+mod tests;
+mod view;
+
+pub use covers::{covered, covered_by};
+pub use cube::Cube;
+pub use fields::{FIELDS, field, raised};
+pub use free::{free_for, passes};
+pub use marks::{Failed, Mark};
+pub use row::Row;
+pub use sharpening::sharp;
+pub use table::Table;
+pub use view::View;

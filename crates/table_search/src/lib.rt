@@ -1,0 +1,43 @@
+//! A search that shortens ternary tables.
+//!
+//! [`Shortening`] holds a table and shortens it round by round. In a round each entry is widened where that makes
+//! others redundant, with exceptions put in front of it where it needs them. Where that gains little, entries are
+//! widened freely, the entries of small windows are arranged anew, and all are narrowed again. [`shorten_front`]
+//! shortens entries in front of others that stay as they are.
+//!
+//! Nothing is promised of what comes out: whoever uses it checks that it answers as the entries before did. It is
+//! the same each time, and every call ends.
+//!
+//! ```text
+//! let mut shortening = Shortening::new(alloc, &entries)?;
+//! for _ in 0..40 {
+//!     if !shortening.round()? {
+//!         break;
+//!     }
+//! }
+//! let shorter = shortening.entries()?;
+//! ```
+#![tactic(auto)]
+
+mod against;
+mod candidates;
+mod draws;
+mod effort;
+mod exceptions;
+mod front;
+mod gaining;
+mod groups;
+mod hashes;
+mod judging;
+mod known;
+mod lifting;
+mod rounds;
+mod rows;
+mod search;
+#[cfg(test)]
+mod tests;
+mod widening;
+mod windows;
+
+pub use front::shorten_front;
+pub use rounds::Shortening;

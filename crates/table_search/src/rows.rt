@@ -1,0 +1,30 @@
+//! Rows of entries, and entries of rows.
+
+use entry_index::{Cube, Row};
+use razor_base::Memory;
+use std::alloc::Global;
+use ternary_words::Entry;
+
+/// Puts rows of these entries behind the others.
+pub(crate) fn push_rows(rows: &mut Vec<Row>, entries: &[Entry], fixed: bool) -> Result<(), Memory> {
+    for entry in entries {
+        rows.push(Row {
+            cube: Cube::of(&entry.word),
+            decision: entry.decision,
+            fixed,
+        })?;
+    }
+    Ok(())
+}
+
+/// The entries of the rows.
+pub(crate) fn entries_of(alloc: Global, rows: &[Row]) -> Result<Vec<Entry>, Memory> {
+    let mut entries = Vec::with_capacity(alloc, rows.len())?;
+    for row in rows {
+        entries.push(Entry {
+            word: row.cube.word(),
+            decision: row.decision,
+        })?;
+    }
+    Ok(entries)
+}
