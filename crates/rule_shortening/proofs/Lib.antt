@@ -1,0 +1,4 @@
+mod Fronts
+mod Named
+mod Outcomes
+mod Shorter

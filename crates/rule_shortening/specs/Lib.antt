@@ -1,0 +1,3 @@
+pub mod Shortened
+pub mod Drafts
+pub mod Trimmed
