@@ -2,7 +2,7 @@
 import dataclasses
 import re
 
-from fuzzing.commands import COMMANDS, FILES
+from fuzzing.commands import COMMANDS, FILES, MAKERS, parted
 
 REASONS = {
     "list": (
@@ -36,6 +36,8 @@ OUTPUTS = {
     "migrate": TABLE,
     "arrange": TABLE,
     "merge": TABLE,
+    "trim": TABLE,
+    "shorten": TABLE,
     "audit": f"({STATE_LINE})*",
     "query": f"({SPAN} {SPAN} {SPAN} {SPAN} {SPAN}\n)*boxes {NUMBER}\n",
     "equiv": "equal\n",
@@ -65,6 +67,10 @@ class Run:
     def files(self):
         """The file words of the command that is spelled."""
         return [text for kind, text in self.pairs or () if kind in FILES]
+
+    def options(self):
+        """The options of the command that is spelled, with their values."""
+        return parted(self.words[1:], COMMANDS[self.words[0]])[0]
 
 
 def matches(pattern, text):
@@ -144,8 +150,7 @@ def of_message(run, name):
         patterns = [f"{re.escape(text)}: read fault\n" for _, text in files if text in run.unreadable]
     else:
         patterns = [{6: "write fault\n", 7: "out of memory\n"}.get(run.status, "")]
-        if run.status == 0 and name in ("expand", "compile"):
-            patterns = [f"rules {NUMBER}, flagged {NUMBER}\n"]
-        elif run.status == 0 and name == "arrange":
-            patterns = [f"rules {NUMBER}, flagged {NUMBER}, order [0-4]{{5}}\n"]
+        if run.status == 0 and name in MAKERS:
+            order = ", order [0-4]{5}" if name == "arrange" or "--order" in run.options() else ""
+            patterns = [f"rules {NUMBER}, flagged {NUMBER}{order}\n"]
     return "" if any(matches(pattern, run.err) for pattern in patterns) else "a message of another form"

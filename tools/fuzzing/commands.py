@@ -45,7 +45,12 @@ COMMANDS = {
     "audit": Command(("list",)),
     "query": Command(("list", *SPANS, "decision")),
     "session": Command(("session", "list"), options=("--slots", "--limit", "--slot"), needed=("--slots",)),
+    "trim": Command(("table",)),
+    "shorten": Command(("list",), options=("--order", "--limit", "--slot"), counts_entries=True),
 }
+
+# The commands that make a table of a list.
+MAKERS = ("expand", "compile", "arrange", "shorten")
 
 
 def built_commands(usage):

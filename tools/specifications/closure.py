@@ -112,8 +112,10 @@ class Promise:
 
     @functools.cached_property
     def methods(self):
-        """The types of the code by which one constructor of commands stands for several commands."""
-        return {place for _, cited in self.cited.clauses(self.command) for place in cited if place.file.startswith("declared.")}
+        """The types by which one constructor of commands stands for several commands: those that stand beside the commands."""
+        beside = self.cited.specifications.files[self.command.place.crate, self.command.place.file].definitions.values()
+        types = {it.place for it in beside if it.kind == "data" and it is not self.command}
+        return types.intersection(place for _, cited in self.cited.clauses(self.command) for place in cited)
 
     @functools.cached_property
     def commands(self):
@@ -126,10 +128,8 @@ class Promise:
         return found
 
     def variants(self, of):
-        """The constructors of a type of the code that specifications name."""
-        file = of.file + VARIANTS
-        places = (place for each in self.cited.specifications.files.values() for place in each.names.values())
-        return sorted({place for place in places if (place.crate, place.file) == (of.crate, file)}, key=lambda place: place.name)
+        """The constructors of such a type."""
+        return [Place(of.crate, of.file, name) for name in self.cited.specifications.owners[of].constructors()]
 
     def closure(self, live):
         """What the promise stands on, for the command that these constructors make."""
@@ -166,11 +166,15 @@ class Promise:
     def is_of_commands(self, constructor):
         return self.cited.type_of(constructor) == self.command.place
 
+    def is_of_command(self, constructor):
+        """Whether the place is a constructor of commands, or one of a type by which a constructor of these stands for several."""
+        return self.cited.type_of(constructor) in {self.command.place, *self.methods}
+
     def cases(self, reached, live):
         """The clauses of the definitions that were met which are for this command alone."""
         for definition in reached.definitions.values():
             if definition.place in self.of_words.definitions:
                 continue
             for (pattern, _), text in zip(self.cited.clauses(definition), definition.parts()):
-                if any(map(self.is_of_commands, pattern)) and live.issuperset(filter(self.is_of_commands, pattern)):
+                if any(map(self.is_of_commands, pattern)) and live.issuperset(filter(self.is_of_command, pattern)):
                     yield text

@@ -8,12 +8,14 @@ pub record Sizes : Type 0 where
   pub limit : ℕ
   pub slot : ℕ
 
--- how a table is made of a list: by direct expansion, or by composition of the field-by-field least cost, in the order in which
--- the fields stand or in the order that is wanted
+-- how a table is made of a list: by direct expansion, by composition of the field-by-field least cost, in the order in which
+-- the fields stand or in the order that is wanted, or by a search for a short table, which may take the composition in an
+-- order for comparison
 pub data Method : Type 0 where
   Expand : Method
   Compile : Method
   Arrange : Wanted → Method
+  Shorten : Option Wanted → Method
 
 -- a command; one that makes a table of a list says by which method, and one that asks a list in which spans, and for which
 -- decision, or for none
@@ -31,3 +33,4 @@ pub data Command : Type 0 where
   Audit : List ℕ → Command
   Query : List ℕ → List Interval → Option (List ℕ) → Command
   Session : ℕ → Sizes → List ℕ → List ℕ → Command
+  Trim : List ℕ → Command

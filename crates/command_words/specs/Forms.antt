@@ -1,7 +1,7 @@
 -- How the commands are spelled: their names, their options, and what their other words are called.
 use Rattle.std.specs.Prelude.{ℕ, List, [], ◌∷◌, codes}
 use Rattle.command_words.specs.declared.form.CommandName.{CommandName}
-use Rattle.command_words.specs.declared.form.CommandName.TheVariants.{Expand, Compile, Equiv, Cert, Check, Trace, Drive, Gen, Selfrun, Migrate, Arrange, Merge, Audit, Query, Session}
+use Rattle.command_words.specs.declared.form.CommandName.TheVariants.{Expand, Compile, Equiv, Cert, Check, Trace, Drive, Gen, Selfrun, Migrate, Arrange, Merge, Audit, Query, Session, Trim, Shorten}
 use Rattle.command_words.specs.declared.form.Need.{Need}
 use Rattle.command_words.specs.declared.form.Need.TheVariants.{Never, Maybe, Always}
 
@@ -53,4 +53,6 @@ forms =
     ∷ plain_form Audit (codes "audit") (codes "LIST")
     ∷ plain_form Query (codes "query") (codes "LIST S D SP DP P DECISION")
     ∷ session_form Session (codes "session")
+    ∷ plain_form Trim (codes "trim") (codes "TABLE")
+    ∷ ordered_form Shorten (codes "shorten")
     ∷ []

@@ -1,14 +1,14 @@
 -- The command of a name, over the values of its options and its other words.
-use Rattle.std.specs.Prelude.{ℕ, Bool, true, not, ◌&&◌, List, [], ◌∷◌, length, nat_le, Option, Some, None, if◌then◌else◌}
+use Rattle.std.specs.Prelude.{ℕ, Bool, true, not, ◌&&◌, List, [], ◌∷◌, length, nat_le, Option, Some, None, unwrap_or, if◌then◌else◌}
 use Rattle.std.specs.List.{list_any}
 use Rattle.std.specs.Str.{bytes_eq}
 use Rattle.razor_base.specs.declared.limits.TheConstants.{MOST_RULES}
 use Rattle.field_boxes.specs.Classifier.{Interval}
 use Rattle.command_words.specs.declared.form.CommandName.{CommandName}
 use Rattle.command_words.specs.declared.form.CommandName.TheVariants as names
-use Rattle.command_words.specs.Command.{Command, Sizes, Expand, Compile, Arrange, Make, Equiv, Cert, Check, Trace, Drive, Gen, Selfrun, Migrate, Merge, Audit, Query, Session}
+use Rattle.command_words.specs.Command.{Command, Sizes, Expand, Compile, Arrange, Shorten, Make, Equiv, Cert, Check, Trace, Drive, Gen, Selfrun, Migrate, Merge, Audit, Query, Session, Trim}
 use Rattle.command_words.specs.Questions.{decision_asked, spans_asked}
-use Rattle.command_words.specs.Orders.{Wanted}
+use Rattle.command_words.specs.Orders.{Best, Wanted}
 use Rattle.command_words.specs.Numbers.{number_between}
 use Rattle.text_lines.specs.Steps.{◌>>=◌}
 
@@ -16,7 +16,7 @@ use Rattle.text_lines.specs.Steps.{◌>>=◌}
 pub record Settings : Type 0 where
   pub sizes : Sizes
   pub slots : ℕ
-  pub order : Wanted
+  pub order : Option Wanted
 
 -- no two of the words are equal
 abbrev pub all_differ : List (List ℕ) → Bool
@@ -79,8 +79,10 @@ command_named names.Drive settings words = over_script settings.slots words
 command_named names.Gen settings words = drawing Gen words
 command_named names.Selfrun settings words = drawing Selfrun words
 command_named names.Migrate settings words = over_one Migrate words
-command_named names.Arrange settings words = over_one (Make (Arrange settings.order) settings.sizes) words
+command_named names.Arrange settings words = over_one (Make (Arrange (unwrap_or settings.order Best)) settings.sizes) words
 command_named names.Merge settings words = over_one Merge words
 command_named names.Audit settings words = over_one Audit words
 command_named names.Query settings words = asking Query words
 command_named names.Session settings words = over_two (Session settings.slots settings.sizes) words
+command_named names.Trim settings words = over_one Trim words
+command_named names.Shorten settings words = over_one (Make (Shorten settings.order) settings.sizes) words

@@ -1,5 +1,5 @@
 -- The options: how they are written, and which values they take.
-use Rattle.std.specs.Prelude.{◌≡◌, ◌≤◌, ◌⊎◌, ℕ, Bool, true, false, ◌||◌, ◌==◌, List, Option, Some, None, codes, if◌then◌else◌}
+use Rattle.std.specs.Prelude.{◌≡◌, ◌≤◌, ◌⊎◌, ℕ, Bool, true, false, ◌||◌, ◌==◌, List, Option, Some, None, option_map, codes, if◌then◌else◌}
 use Rattle.razor_base.specs.declared.limits.TheConstants.{MOST_ENTRIES}
 use Rattle.command_words.specs.declared.option.OptionName.{OptionName}
 use Rattle.command_words.specs.declared.option.OptionName.TheVariants.{Limit, Slot, Slots, Order}
@@ -44,6 +44,11 @@ abbrev pub given : Need → Option (List ℕ) → Option (Option (List ℕ))
 given Never (Some value) = None
 given Always None = None
 given need value = Some value
+
+-- what the value comes to, or none where it is left out
+abbrev pub optional : {A : Type 0} → (List ℕ → Option A) → Option (List ℕ) → Option (Option A)
+optional read None = Some None
+optional read (Some value) = option_map (λ x. Some x) (read value)
 
 -- what the value comes to, or what is usual where it is left out
 abbrev pub or_usual : {A : Type 0} → A → (List ℕ → Option A) → Option (List ℕ) → Option A

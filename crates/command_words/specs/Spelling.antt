@@ -7,8 +7,8 @@ use Rattle.command_words.specs.Command.{Command}
 use Rattle.command_words.specs.Forms.{Form, forms}
 use Rattle.command_words.specs.Items.{Item, items_of, plain_of, values_of}
 use Rattle.command_words.specs.Naming.{Settings, command_named}
-use Rattle.command_words.specs.Options.{given, or_usual, size_in, width_in}
-use Rattle.command_words.specs.Orders.{Best, order_wanted}
+use Rattle.command_words.specs.Options.{given, optional, or_usual, size_in, width_in}
+use Rattle.command_words.specs.Orders.{order_wanted}
 use Rattle.text_lines.specs.Steps.{◌>>=◌}
 
 -- the value of each option, where one is given, and the other words
@@ -39,14 +39,14 @@ found_among items = do
   plain ← few_words (plain_of items)
   Some (record { limit = limit; slot = slot; slots = slots; order = order; plain = plain })
 
--- what the options of the form come to, each that is left out to its usual value: the greatest number, 144 bits, and the
--- order that costs least
+-- what the options of the form come to, each that is left out to its usual value: the greatest number, 144 bits, and no
+-- order
 abbrev pub settings_of : Form → Found → Option Settings
 settings_of form found = do
   limit ← given form.limit found.limit >>= or_usual MOST_ENTRIES size_in
   slot ← given form.slot found.slot >>= or_usual 144 width_in
   slots ← given form.slots found.slots >>= or_usual MOST_ENTRIES size_in
-  order ← given form.order found.order >>= or_usual Best order_wanted
+  order ← given form.order found.order >>= optional order_wanted
   Some (record { sizes = record { limit = limit; slot = slot }; slots = slots; order = order })
 
 -- the command that the words spell, or none

@@ -1,5 +1,5 @@
 -- Values of the code without where they lie in memory.
-use Rattle.std.specs.Prelude.{ℕ, Bool, true, List}
+use Rattle.std.specs.Prelude.{ℕ, Bool, true, List, option_map}
 use Rattle.field_boxes.specs.Spans.{intervals_of}
 use Rattle.command_words.specs.declared.command.Command as code_command
 use Rattle.command_words.specs.declared.command.Command.TheVariants as asked
@@ -8,7 +8,7 @@ use Rattle.command_words.specs.declared.reading.WordKind.{WordKind}
 use Rattle.command_words.specs.declared.reading.WordKind.TheVariants as code
 use Rattle.command_words.specs.declared.settings.Settings as code_settings
 use Rattle.command_words.specs.declared.sizes.Sizes as code_sizes
-use Rattle.command_words.specs.Command.{Command, Method, Sizes, Expand, Compile, Arrange, Make, Equiv, Cert, Check, Trace, Gen, Selfrun, Migrate, Merge, Audit, Query, Session}
+use Rattle.command_words.specs.Command.{Command, Method, Sizes, Expand, Compile, Arrange, Shorten, Make, Equiv, Cert, Check, Trace, Gen, Selfrun, Migrate, Merge, Audit, Query, Session, Trim}
 use Rattle.command_words.specs.declared.command.Method as code_method
 use Rattle.command_words.specs.declared.command.Method.TheVariants as methods
 use Rattle.command_words.specs.declared.wanted.Wanted as code_wanted
@@ -53,10 +53,11 @@ abbrev pub method_seen : code_method.Method → Method
 method_seen methods.Expand = Expand
 method_seen methods.Compile = Compile
 method_seen (methods.Arrange wanted) = Arrange (wanted_seen wanted)
+method_seen (methods.Shorten wanted) = Shorten (option_map wanted_seen wanted)
 
 -- what the options come to
 abbrev pub settings_seen : code_settings.Settings → Settings
-settings_seen settings = record { sizes = sizes_of settings.sizes; slots = settings.slots.count; order = wanted_seen settings.order }
+settings_seen settings = record { sizes = sizes_of settings.sizes; slots = settings.slots.count; order = option_map wanted_seen settings.order }
 
 -- the words are those of a script and of its tables, where the command keeps none itself
 abbrev pub are_words_of : code_command.Command → List (List ℕ) → Bool
@@ -78,3 +79,4 @@ spelled_over words (asked.Merge table) = Merge table.now
 spelled_over words (asked.Audit list) = Audit list.now
 spelled_over words (asked.Query question) = Query question.list.now (intervals_of question.spans) (name_in question.decision.now)
 spelled_over words (asked.Session slots sizes files) = Session slots.count (sizes_of sizes) files.first.now files.second.now
+spelled_over words (asked.Trim table) = Trim table.now

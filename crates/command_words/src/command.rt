@@ -14,6 +14,8 @@ pub enum Method {
     Compile,
     /// That composition, over the fields in another order.
     Arrange(Wanted),
+    /// A search for a short table; where an order is given, at most the composition in it.
+    Shorten(Option<Wanted>),
 }
 
 /// A command with its numbers and file words.
@@ -55,4 +57,6 @@ pub enum Command<'a> {
         sizes: Sizes,
         files: TwoFiles<'a>,
     },
+    /// Writes a table without its redundant entries.
+    Trim(&'a str),
 }

@@ -23,6 +23,8 @@ pub(crate) enum CommandName {
     Audit,
     Query,
     Session,
+    Trim,
+    Shorten,
 }
 
 /// Whether a command takes an option: never, if it is there, or it has to be there.
@@ -123,7 +125,7 @@ fn session_form(command: CommandName, name: &'static str) -> CommandForm
 
 /// The forms of the commands that are built, in the order of the usage text.
 #[tactic(auto, unfolding(crate::specs::Forms::forms))]
-pub(crate) fn forms() -> [CommandForm; 15]
+pub(crate) fn forms() -> [CommandForm; 17]
     ensures { map form_seen result ≡ forms }
 {
     [
@@ -142,6 +144,8 @@ pub(crate) fn forms() -> [CommandForm; 15]
         plain_form(CommandName::Audit, "audit", "LIST"),
         plain_form(CommandName::Query, "query", "LIST S D SP DP P DECISION"),
         session_form(CommandName::Session, "session"),
+        plain_form(CommandName::Trim, "trim", "TABLE"),
+        ordered_form(CommandName::Shorten, "shorten"),
     ]
 }
 

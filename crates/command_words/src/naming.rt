@@ -12,6 +12,7 @@ use crate::form::CommandName;
 use crate::question::question_of;
 use crate::settings::Settings;
 use crate::sizes::{Sizes, Slots};
+use crate::wanted::or_best;
 
 /// The command that makes a table of the only file.
 fn making<'a>(method: Method, sizes: Sizes, words: &[&'a str]) -> Option<Command<'a>>
@@ -62,7 +63,7 @@ pub(crate) fn named<'a>(
         CommandName::Gen => Some(Command::Gen(seed_and_rules(words)?)),
         CommandName::Selfrun => Some(Command::Selfrun(seed_and_rules(words)?)),
         CommandName::Migrate => Some(Command::Migrate(one_file(words)?)),
-        CommandName::Arrange => making(Method::Arrange(order), sizes, words),
+        CommandName::Arrange => making(Method::Arrange(or_best(order)), sizes, words),
         CommandName::Merge => Some(Command::Merge(one_file(words)?)),
         CommandName::Audit => Some(Command::Audit(one_file(words)?)),
         CommandName::Query => Some(Command::Query(question_of(words)?)),
@@ -71,5 +72,7 @@ pub(crate) fn named<'a>(
             sizes,
             files: two_files(words)?,
         }),
+        CommandName::Trim => Some(Command::Trim(one_file(words)?)),
+        CommandName::Shorten => making(Method::Shorten(order), sizes, words),
     }
 }

@@ -3,7 +3,7 @@
 
 ghost use Rattle.std.specs.Prelude.{◌≡◌, ◌∷◌, [], ◌++◌, Some, None, codes};
 ghost use Rattle.std.specs.List.{flat_map};
-ghost use Rattle.command_words.specs.Command.{Arrange, Audit, Cert, Compile, Expand, Check, Drive, Equiv, Gen, Make, Query, Selfrun, Session};
+ghost use Rattle.command_words.specs.Command.{Arrange, Audit, Cert, Compile, Expand, Check, Drive, Equiv, Gen, Make, Query, Selfrun, Session, Shorten, Trim};
 ghost use Rattle.command_words.specs.Orders.{Best, In};
 ghost use Rattle.command_words.specs.Questions.{span};
 ghost use Rattle.command_words.specs.Spelling.{command_of};
@@ -49,6 +49,17 @@ pub fn worked_orders()
     ensures no_digit { command_of (codes "arrange" ∷ codes "--order" ∷ codes "/1234" ∷ codes "in" ∷ []) ≡ None }
     ensures empty { command_of (codes "arrange" ∷ codes "--order=" ∷ codes "in" ∷ []) ≡ None }
     ensures other_command { command_of (codes "compile" ∷ codes "--order" ∷ codes "01234" ∷ codes "in" ∷ []) ≡ None }
+{}
+
+/// A short table is searched for, beside the composition in an order where one is given; a table is trimmed as it stands.
+pub fn worked_short_tables()
+    ensures no_order { command_of (codes "shorten" ∷ codes "in" ∷ []) ≡ Some (Make (Shorten None) (record { limit = 262144; slot = 144 }) (codes "in")) }
+    ensures best { command_of (codes "shorten" ∷ codes "--order" ∷ codes "best" ∷ codes "in" ∷ []) ≡ Some (Make (Shorten (Some Best)) (record { limit = 262144; slot = 144 }) (codes "in")) }
+    ensures all { command_of (codes "shorten" ∷ codes "--limit=9" ∷ codes "in" ∷ codes "--slot=288" ∷ codes "--order=01243" ∷ []) ≡ Some (Make (Shorten (Some (In (0 ∷ 1 ∷ 2 ∷ 4 ∷ 3 ∷ [])))) (record { limit = 9; slot = 288 }) (codes "in")) }
+    ensures no_list { command_of (codes "shorten" ∷ codes "--order" ∷ codes "best" ∷ []) ≡ None }
+    ensures table { command_of (codes "trim" ∷ codes "table" ∷ []) ≡ Some (Trim (codes "table")) }
+    ensures two_tables { command_of (codes "trim" ∷ codes "a" ∷ codes "b" ∷ []) ≡ None }
+    ensures no_option { command_of (codes "trim" ∷ codes "--slot" ∷ codes "104" ∷ codes "table" ∷ []) ≡ None }
 {}
 
 /// The first `--` that is no value ends the options. Before it a word with a `-` in front is an option of the
@@ -163,5 +174,7 @@ pub fn worked_usage()
         ∷ codes "  audit LIST"
         ∷ codes "  query LIST S D SP DP P DECISION"
         ∷ codes "  session --slots N [--limit N] [--slot W] SCRIPT LIST"
+        ∷ codes "  trim TABLE"
+        ∷ codes "  shorten [--order P] [--limit N] [--slot W] LIST"
         ∷ []) }
 {}

@@ -2,8 +2,8 @@
 ghost use Rattle.std.specs.Prelude.{◌≡◌, ◌≤◌, Some, IfSome, option_and_then};
 ghost use Rattle.std.specs.Option.{option_map};
 ghost use Rattle.razor_base.specs.declared.limits.TheConstants.{MOST_ENTRIES};
-ghost use Rattle.command_words.specs.Options.{IsSlotWidth, given, or_usual, size_in, width_in};
-ghost use Rattle.command_words.specs.Orders.{Best, order_wanted};
+ghost use Rattle.command_words.specs.Options.{IsSlotWidth, given, optional, or_usual, size_in, width_in};
+ghost use Rattle.command_words.specs.Orders.{order_wanted};
 ghost use Rattle.command_words.specs.Parts.{found_seen};
 ghost use Rattle.command_words.specs.Spelling.{settings_of};
 ghost use Rattle.command_words.specs.Views.{form_seen, settings_seen, wanted_seen};
@@ -20,7 +20,7 @@ use razor_base::limits::MOST_ENTRIES;
 pub(crate) struct Settings {
     pub sizes: Sizes,
     pub slots: Slots,
-    pub order: Wanted,
+    pub order: Option<Wanted>,
 }
 
 /// The value of an option as a command takes it, or none of it where it is left out; nothing where the command
@@ -57,13 +57,13 @@ fn width(need: Need, value: Option<&[u8]>) -> Option<u32>
     }
 }
 
-/// The order that is wanted, the best one where it is left out.
-fn wanted(need: Need, value: Option<&[u8]>) -> Option<Wanted>
-    ensures { option_map wanted_seen result ≡ option_and_then (or_usual Best order_wanted) (given need (option_map (λ bytes. bytes.now) value.entry)) }
+/// The order that is wanted, none where it is left out.
+fn wanted(need: Need, value: Option<&[u8]>) -> Option<Option<Wanted>>
+    ensures { option_map (option_map wanted_seen) result ≡ option_and_then (optional order_wanted) (given need (option_map (λ bytes. bytes.now) value.entry)) }
 {
     match given(need, value)? {
-        Some(value) => order_wanted(value),
-        None => Some(Wanted::Best),
+        Some(value) => Some(Some(order_wanted(value)?)),
+        None => Some(None),
     }
 }
 

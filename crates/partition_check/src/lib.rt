@@ -40,6 +40,7 @@ mod word;
 mod write;
 
 pub use checker::Checker;
+pub use prefix_words::first_other;
 pub use row::{NotPrefix, Row, Why, Wrong};
 pub use stream::{Stop, check_stream};
 pub use write::{put_row, write_row};

@@ -14,7 +14,7 @@ fn is_prefix(word: &Word) -> bool
 }
 
 /// The place of the first entry whose word isn't a prefix in each field.
-pub(crate) fn first_other(entries: &[Entry]) -> Option<usize>
+pub fn first_other(entries: &[Entry]) -> Option<usize>
     ensures { MatchOption result (ArePrefixes entries.now) (λ place. IsFirstOther entries.now place) }
 {
     for (place, entry) in entries.iter().enumerate() {

@@ -1,7 +1,7 @@
 -- The boxes of a list for a decision that a text names, and how a query ends.
-use Rattle.std.proofs.Common.{◌≡◌, ℕ, zero, suc, ◌+◌, ◌<◌, ◌≤◌, ◌++◌, List, [], ◌∷◌, Bool, true, false, cond, Some, None, length, get_or, refl, ap, sym, subst, ◌∙◌, arith, add-one, map}
+use Rattle.std.proofs.Common.{◌≡◌, ℕ, zero, suc, ◌+◌, ◌<◌, ◌≤◌, ◌++◌, List, [], ◌∷◌, Bool, true, false, cond, Some, None, length, get_or, refl, ap, sym, subst, ◌∙◌, arith, add-one}
 use Rattle.std.specs.Prelude.{All, Option, find, option_map, position, slice_get, if◌then◌else◌}
-use Rattle.std.specs.Io.KnownBytes.{Appends, Keeps}
+use Rattle.std.specs.Io.KnownBytes.{Appends}
 use Rattle.std.specs.Str.{bytes_eq}
 use Rattle.std.proofs.lemmas.Option.{none-some, slice_get-get_or}
 use Rattle.std.proofs.lemmas.Slice.Eq.{bytes_eq-Decides}

@@ -49,11 +49,11 @@ entry_seen names [] k x at = absurd cc
 entry_seen names (y ∷ es) zero x at = cc
 entry_seen names (y ∷ es) (suc k) x at = entry_seen names es k x at
 
-prefix_at : (names : List (List ℕ)) (es : List Entry) → ArePrefixes es → (k : ℕ) (e : tables.Entry) → slice_get (map (entry_of names) es) k ≡ Some e → IsPrefixInEach e.word
+pub prefix_at : (names : List (List ℕ)) (es : List Entry) → ArePrefixes es → (k : ℕ) (e : tables.Entry) → slice_get (map (entry_of names) es) k ≡ Some e → IsPrefixInEach e.word
 prefix_at names es are k e at = let found = entry_at names es k e at in subst (λ (x : tables.Entry). IsPrefixInEach x.word) (sym found.2) (are k found.0 found.1)
 
 -- the first word that isn't a prefix is that of the table, as the specification sees it
-first_other : (table : Table) (place : ℕ) → IsFirstOther table.entries.items place → IsFirstOtherWord (table_of table).entries place
+pub first_other : (table : Table) (place : ℕ) → IsFirstOther table.entries.items place → IsFirstOtherWord (table_of table).entries place
 first_other table place h = record {
   entry = entry_of table.names h.entry;
   at = entry_seen table.names table.entries.items place h.entry h.at;

@@ -15,7 +15,6 @@ use Rattle.bank_update.specs.declared.drive.DriveError.{DriveError}
 use Rattle.bank_update.specs.declared.drive.DriveError.TheVariants as errors
 use Rattle.command_words.specs.Command.{Drive}
 use Rattle.razor_core.specs.declared.ending.Ending.{Ending}
-use Rattle.razor_core.specs.declared.ending.Ending.TheVariants.{Memory, WriteFault}
 use Rattle.razor_core.specs.Inputs.{Value, inputs, script_input, script_value}
 use Rattle.razor_core.specs.Outcome.{Outcome}
 use Rattle.razor_core.specs.Outside.{Outside, Tells}

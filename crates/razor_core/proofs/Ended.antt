@@ -4,19 +4,19 @@ use Rattle.std.specs.Prelude.{Bool, Option, Ok, Err, Result, ◌⊎◌}
 use Rattle.std.specs.Io.KnownBytes.{Appends, Keeps}
 use Rattle.razor_base.specs.Faults.{Rose}
 use Rattle.razor_base.specs.Output.{AppendsFront}
-use Rattle.command_words.specs.Command.{Command, Make, Method, Session, Sizes}
+use Rattle.command_words.specs.Command.{Command, Make, Method, Session, Shorten, Sizes}
 use Rattle.filter_reader.specs.FilterList.{FilterList}
 use Rattle.razor_core.specs.declared.ending.Ending.{Ending}
 use Rattle.razor_core.specs.declared.ending.Ending.TheVariants.{Done, No, BadLine as Bad, TooLong, TooMany, ReadFault, WriteFault, Memory}
 use Rattle.razor_core.specs.Inputs.{Input, Value, inputs, list_input, list_value, session_value, most_bytes, read_by}
-use Rattle.razor_core.specs.Make.{IsNeeded, IsNotMade}
+use Rattle.razor_core.specs.Make.{IsNeeded, IsNotMade, IsRoom}
 use Rattle.razor_core.specs.Outcome.{Outcome}
 use Rattle.razor_core.specs.Gives.{Begins, Gives}
 use Rattle.razor_core.specs.Outside.{Outside, AreKept, Tells}
 use Rattle.razor_core.specs.Standing.{StandsCut, StandsShort, WritesInTurn}
 use Rattle.razor_core.specs.Taking.{EndsTurn}
 use Rattle.razor_core.specs.Turns.{Stop, bad_line, too_long, too_many, turns_of}
-use Rattle.razor_core.specs.Stopping.{IsFree}
+use Rattle.razor_core.specs.Stopping.{IsFree, MayGoOn}
 use Rattle.razor_core.specs.Ending.{Ends, IsDone, Stops}
 use Rattle.razor_core.specs.Deciding.{EndsInTurn, IsFaultUnder, IsStopOf}
 use Rattle.razor_core.proofs.Turns.{AllRead, AllTold, Passed, StopsWith, ends_in_turn, fault_later, turns_pass, turns_stop}
@@ -97,10 +97,10 @@ ends_later input before between after first second last (ReadFault file) keeps l
 ends_later input before between after first second last WriteFault keeps le h = absurd h
 ends_later input before between after first second last Memory keeps le h = tt
 
--- all was written
-pub done_ends : (command : Command) (before after : Outside) (values : List Value) (outcome : Outcome) (answer : Bool) → Passed before (inputs command) values → IsFree command values → Gives command values outcome →
+-- all was written, of a command that goes on
+pub done_goes_on : (command : Command) (before after : Outside) (values : List Value) (outcome : Outcome) (answer : Bool) → Passed before (inputs command) values → IsFree command values ⊎ MayGoOn command → Gives command values outcome →
     outcome.yes ≡ answer → Appends before.written after.written outcome.text → AllRead after (read_by command answer) → Tells before command → IsDone command before after answer outcome.line
-done_ends command before after values outcome answer passed free gives answered written read tells = record {
+done_goes_on command before after values outcome answer passed free gives answered written read tells = record {
   values = values;
   outcome = outcome;
   pass = record { turns = turns_pass before (inputs command) values passed tells; free = free };
@@ -111,13 +111,18 @@ done_ends command before after values outcome answer passed free gives answered 
   read = read;
 }
 
+-- all was written
+pub done_ends : (command : Command) (before after : Outside) (values : List Value) (outcome : Outcome) (answer : Bool) → Passed before (inputs command) values → IsFree command values → Gives command values outcome →
+    outcome.yes ≡ answer → Appends before.written after.written outcome.text → AllRead after (read_by command answer) → Tells before command → IsDone command before after answer outcome.line
+done_ends command before after values outcome answer passed free gives = done_goes_on command before after values outcome answer passed (inl free) gives
+
 -- what a command defines, it begins with
 begins_of : (command : Command) (values : List Value) (outcome : Outcome) → Gives command values outcome → Begins command values outcome
 begins_of (Session slots sizes script file) (session_value events ∷ list_value list ∷ values) outcome h = record { front = events; rest = []; parts = sym (append-nil events); edits = h }
 begins_of command values outcome h = h
 
 -- a write failed
-pub cut_off_ends : (command : Command) (before after : Outside) (values : List Value) (outcome : Outcome) → Passed before (inputs command) values → IsFree command values ⊎ WritesInTurn command → Gives command values outcome →
+pub cut_off_ends : (command : Command) (before after : Outside) (values : List Value) (outcome : Outcome) → Passed before (inputs command) values → IsFree command values ⊎ WritesInTurn command ⊎ MayGoOn command → Gives command values outcome →
     Rose before.write_faults after.write_faults → AppendsFront before.written after.written outcome.text → Ends command before after WriteFault
 cut_off_ends command before after values outcome passed free gives rose written = (
   rose,
@@ -132,14 +137,24 @@ cut_off_ends command before after values outcome passed free gives rose written 
 )
 
 -- no more entries are needed than the limit
-pub make_free : (method : Method) (sizes : Sizes) (file : List ℕ) (list : FilterList) → ((needed : ℕ) → IsNeeded method list.rules needed → needed ≤ sizes.limit) → IsFree (Make method sizes file) (list_value list ∷ [])
-make_free method sizes file list room (bad_line name bad) later = later
-make_free method sizes file list room (too_long name limit) later = later
-make_free method sizes file list room (too_many needed limit) later =
+room_free : (method : Method) (sizes : Sizes) (file : List ℕ) (list : FilterList) → ((needed : ℕ) → IsNeeded method list.rules needed → needed ≤ sizes.limit) → IsFree (Make method sizes file) (list_value list ∷ [])
+room_free method sizes file list room (bad_line name bad) later = later
+room_free method sizes file list room (too_long name limit) later = later
+room_free method sizes file list room (too_many needed limit) later =
     let within = room needed later.0 in
     let limited = later.1 in
     let above = later.2 in
     omega arith
+
+-- a table was made
+pub make_free : (method : Method) (sizes : Sizes) (file : List ℕ) (list : FilterList) → IsRoom method list.rules sizes.limit → IsFree (Make method sizes file) (list_value list ∷ []) ⊎ MayGoOn (Make method sizes file)
+make_free (Shorten wanted) sizes file list room = inr tt
+make_free method sizes file list room = inl (room_free method sizes file list room)
+
+-- a command that goes on, or writes in turn
+pub or_in_turn : {A B C : Type 0} → A ⊎ C → A ⊎ B ⊎ C
+or_in_turn (inl a) = inl a
+or_in_turn (inr c) = inr (inr c)
 
 -- no table was made
 pub not_made_ends : (method : Method) (sizes : Sizes) (file : List ℕ) (before after : Outside) (list : FilterList) (ending : Ending) → Passed before (list_input file ∷ []) (list_value list ∷ []) → IsNotMade (IsNeeded method list.rules) sizes.limit ending →

@@ -1,11 +1,11 @@
 -- What an ending shows of the status, whatever the command.
 use Rattle.std.proofs.Common.{◌≡◌, ◌≢◌, ◌≤◌, ℕ, List, [], ◌∷◌, Some, None, refl, ap, arith, subst, inl, inr}
-use Rattle.std.specs.Prelude.{◌⊎◌, Ok, Err, Option, Result, option_map, true, false}
+use Rattle.std.specs.Prelude.{◌⊎◌, Bool, Ok, Err, Option, Result, option_map, true, false}
 use Rattle.std.specs.Io.KnownBytes.{Keeps}
 use Rattle.trace_run.specs.Outcome.{GoesOn}
 use Rattle.trace_run.specs.Trace as traces
 use Rattle.trace_run.specs.Trace.{trace_within}
-use Rattle.command_words.specs.Command.{Command, Make, Equiv, Cert, Check, Trace, Drive, Gen, Selfrun, Migrate, Merge, Audit, Query, Session}
+use Rattle.command_words.specs.Command.{Command, Make, Equiv, Cert, Check, Trace, Drive, Gen, Selfrun, Migrate, Merge, Audit, Query, Session, Shorten, Trim}
 use Rattle.razor_base.specs.Faults.{Rose}
 use Rattle.razor_core.specs.declared.ending.Ending.{Ending}
 use Rattle.razor_core.specs.declared.ending.Ending.TheVariants.{Done, No, BadLine as Bad, TooLong, TooMany, ReadFault, WriteFault, Memory}
@@ -14,11 +14,13 @@ use Rattle.razor_core.specs.Outside.{Outside, Tells}
 use Rattle.razor_core.specs.Standing.{IsCutOff, StandsCut, StandsShort, WritesInTurn, WritesNothing}
 use Rattle.razor_core.specs.Trace.{HasBadLine, bad_line_of, taken_of}
 use Rattle.razor_core.specs.Turns.{Stop, bad_line, too_long, too_many, stop_status, turns_of}
-use Rattle.razor_core.specs.Stopping.{Pass, IsFree, IsStopped, StopsLater}
+use Rattle.razor_core.specs.Stopping.{MayGoOn, Pass, IsFree, IsStopped, StopsLater}
 use Rattle.razor_core.specs.Ending.{status_of, ending_line, IsDone, IsDoneLine, Ends, Stops}
 use Rattle.razor_core.proofs.Ended.{passed_or_stopped, same_values}
 use Rattle.razor_core.specs.Messages.{stop_line, write_fault_line, memory_line}
-use Rattle.razor_core.specs.Promise.{IsEnded, IsStatusOfPass, IsStatusOfStop, IsUnread, KeepsPromise}
+use Rattle.razor_core.specs.Outcome.{Outcome}
+use Rattle.razor_core.specs.Gives.{Gives}
+use Rattle.razor_core.specs.Promise.{IsEnded, IsStatusOfGoingOn, IsStatusOfPass, IsStatusOfStop, IsUnread, KeepsPromise}
 
 same_stop : (turns : Result (List Value) Stop) (a b : Stop) → turns ≡ Err a → turns ≡ Err b → a ≡ b
 same_stop turns a b p q = cc
@@ -52,6 +54,8 @@ later_alike (Trace table trace) (table_value entries ∷ lines_value text ∷ va
 later_alike (Trace table trace) (table_value entries ∷ lines_value text ∷ values) (too_long other most) b h k = absurd k
 later_alike (Selfrun seed rules) values (too_many needed limit) (too_many more most) h k = refl
 later_alike (Selfrun seed rules) values (too_many needed limit) b h k = absurd k
+later_alike (Trim table) (table_value entries ∷ values) (bad_line name bad) (bad_line other worse) h k = refl
+later_alike (Trim table) (table_value entries ∷ values) (bad_line name bad) b h k = absurd k
 later_alike command values a b h k = absurd h
 
 -- what ends a command has one status
@@ -117,14 +121,45 @@ complete_by command before after (ReadFault file) h tells values pass = inr (inr
 complete_by command before after WriteFault h tells values pass = inr (inr (inr (inl refl)))
 complete_by command before after Memory h tells values pass = inr (inr (inr (inr refl)))
 
--- a command that writes last isn't cut off where something ends it
-cut_by_stop : (command : Command) (before : Outside) (stop : Stop) (values : List Value) → turns_of before (inputs command) ≡ Ok values → IsFree command values ⊎ WritesInTurn command → IsStopped command before stop → IsStatusOfStop command stop 6
+-- what ends a command later that may go on is a number of entries
+counted : (command : Command) (values : List Value) (stop : Stop) (status : ℕ) → MayGoOn command → (status ≡ 0) ⊎ (status ≡ 6) → StopsLater command values stop → IsStatusOfGoingOn command stop status
+counted (Make (Shorten wanted) sizes file) (list_value list ∷ values) (too_many needed limit) status may which h = (may, which)
+counted (Make (Shorten wanted) sizes file) (list_value list ∷ values) stop status may which h = absurd h
+counted (Make (Shorten wanted) sizes file) values stop status may which h = absurd h
+counted command values stop status may which h = absurd may
+
+goes_on : (command : Command) (before : Outside) (stop : Stop) (values : List Value) (status : ℕ) → turns_of before (inputs command) ≡ Ok values → MayGoOn command → (status ≡ 0) ⊎ (status ≡ 6) → IsStopped command before stop →
+    IsStatusOfStop command stop status
+goes_on command before stop values status turns may which (inl h) = absurd (passed_or_stopped (turns_of before (inputs command)) values stop turns h)
+goes_on command before stop values status turns may which (inr h) = inr (inr (inr (inr (counted command h.values stop status may which h.later))))
+
+-- a command that writes last isn't cut off where something ends it, unless it goes on all the same
+cut_by_stop : (command : Command) (before : Outside) (stop : Stop) (values : List Value) → turns_of before (inputs command) ≡ Ok values → IsFree command values ⊎ WritesInTurn command ⊎ MayGoOn command → IsStopped command before stop →
+    IsStatusOfStop command stop 6
 cut_by_stop command before stop values turns (inl free) s = absurd (pass_or_stopped command before values stop (record { turns = turns; free = free }) s)
-cut_by_stop command before stop values turns (inr writes) s = inr (inr (inr (refl, writes)))
+cut_by_stop command before stop values turns (inr (inl writes)) s = inr (inr (inr (inl (refl, writes))))
+cut_by_stop command before stop values turns (inr (inr may)) s = goes_on command before stop values 6 turns may (inr refl) s
+
+done_by_stop : (command : Command) (before : Outside) (stop : Stop) (values : List Value) → turns_of before (inputs command) ≡ Ok values → IsFree command values ⊎ MayGoOn command → IsStopped command before stop → IsStatusOfStop command stop 0
+done_by_stop command before stop values turns (inl free) s = absurd (pass_or_stopped command before values stop (record { turns = turns; free = free }) s)
+done_by_stop command before stop values turns (inr may) s = goes_on command before stop values 0 turns may (inl refl) s
+
+yes_or_no : (answer : Bool) → answer ≡ true → answer ≡ false → ⊥
+yes_or_no answer t f = cc
+
+-- a command that may go on doesn't say no
+says_yes : (command : Command) (values : List Value) (outcome : Outcome) → MayGoOn command → Gives command values outcome → outcome.yes ≡ false → ⊥
+says_yes (Make (Shorten wanted) sizes file) (list_value list ∷ values) outcome may gives denied = yes_or_no outcome.yes gives.yes denied
+says_yes (Make (Shorten wanted) sizes file) values outcome may gives denied = absurd gives
+says_yes command values outcome may gives denied = absurd may
+
+no_by_stop : (command : Command) (before after : Outside) (stop : Stop) → (done : IsDone command before after false []) → IsFree command done.values ⊎ MayGoOn command → IsStopped command before stop → IsStatusOfStop command stop 1
+no_by_stop command before after stop done (inl free) s = absurd (pass_or_stopped command before done.values stop (record { turns = done.pass.turns; free = free }) s)
+no_by_stop command before after stop done (inr may) s = absurd (says_yes command done.values done.outcome may done.gives done.answered)
 
 stopped_by_turns : (command : Command) (before after : Outside) (ending : Ending) → Ends command before after ending → Tells before command → (stop : Stop) → IsStopped command before stop → IsStatusOfStop command stop (status_of ending)
-stopped_by_turns command before after (Done summary) h tells stop s = absurd (pass_or_stopped command before (h.1 tells).values stop (h.1 tells).pass s)
-stopped_by_turns command before after No h tells stop s = absurd (pass_or_stopped command before (h tells).values stop (h tells).pass s)
+stopped_by_turns command before after (Done summary) h tells stop s = let done = h.1 tells in done_by_stop command before stop done.values done.pass.turns done.pass.free s
+stopped_by_turns command before after No h tells stop s = let done = h tells in no_by_stop command before after stop done done.pass.free s
 stopped_by_turns command before after (Bad file line reason) h tells stop s = inl (one_status command before (bad_line file.now (record { line = line; reason = reason })) stop (h.stopped tells) s)
 stopped_by_turns command before after (TooLong file limit) h tells stop s = inl (one_status command before (too_long file.now limit) stop (h.stopped tells) s)
 stopped_by_turns command before after (TooMany needed limit) h tells stop s = inl (one_status command before (too_many needed limit) stop (h.stopped tells) s)
@@ -153,6 +188,7 @@ cut_unchanged (Gen seed rules) before after file last h = h
 cut_unchanged (Selfrun seed rules) before after file last h = h
 cut_unchanged (Migrate table) before after file last h = h
 cut_unchanged (Merge table) before after file last h = h
+cut_unchanged (Trim table) before after file last h = h
 cut_unchanged (Audit list) before after file last h = h
 cut_unchanged (Query list box name) before after file last h = h
 cut_unchanged (Session slots sizes script list) before after file last h = h
@@ -168,6 +204,7 @@ short_unchanged (Gen seed rules) before after last h = h
 short_unchanged (Selfrun seed rules) before after last h = h
 short_unchanged (Migrate table) before after last h = h
 short_unchanged (Merge table) before after last h = h
+short_unchanged (Trim table) before after last h = h
 short_unchanged (Audit list) before after last h = h
 short_unchanged (Query list box name) before after last h = h
 short_unchanged (Session slots sizes script list) before after last h = absurd (last refl)

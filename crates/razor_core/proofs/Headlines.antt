@@ -1,5 +1,5 @@
 -- What status 0 of a command means, over bytes.
-use Rattle.std.proofs.Common.{◌≡◌, ℕ, List, [], ◌∷◌, Some, ap, inl, inr, refl, subst, sym, ◌∙◌}
+use Rattle.std.proofs.Common.{◌≡◌, ℕ, List, [], ◌∷◌, Some, None, ap, inl, inr, refl, subst, sym, ◌∙◌}
 use Rattle.std.specs.Prelude.{Bool, true, false, Option, Ok, Err, Result, IsSome, length, map, unwrap_or, if◌then◌else◌}
 use Rattle.filter_reader.specs.FilterList as lists
 use Rattle.filter_reader.specs.FilterList.{FilterList, list_of}
@@ -14,13 +14,14 @@ use Rattle.filter_reader.specs.ListText.{list_text}
 use Rattle.list_generator.specs.DrawnRules.{generated}
 use Rattle.bit_merge.proofs.Merged.{is_alike, is_fewer, is_tight}
 use Rattle.command_words.specs.Orders.{Wanted}
-use Rattle.command_words.specs.Command.{Command, Method, Arrange, Compile, Expand, Cert, Check, Drive, Equiv, Gen, Make, Migrate, Merge, Selfrun, Session, Sizes, Trace, Audit, Query}
+use Rattle.command_words.specs.Command.{Command, Method, Arrange, Compile, Expand, Shorten, Cert, Check, Drive, Equiv, Gen, Make, Migrate, Merge, Selfrun, Session, Sizes, Trace, Trim, Audit, Query}
 use Rattle.razor_core.specs.Selfrun.{Summarises}
 use Rattle.razor_core.specs.Trace.{answers_text, taken_of}
 use Rattle.razor_core.specs.Cert.{IsCertificateOf, Writes}
 use Rattle.razor_core.specs.Check.{Certifies}
 use Rattle.razor_core.specs.Equiv.{Compares}
-use Rattle.razor_core.specs.Headlines.{Adds, AgreeByName, AreEqualLists, IsAnswered, IsArrangedText, IsCertified, IsCompiledText, IsDriven, IsExpandedText, IsMigrated, IsMergedText, IsAudited, IsEdited, IsQueried}
+use Rattle.razor_core.specs.Headlines.{Adds, AgreeByName, AreEqualLists, IsCheap, IsAnswered, IsArrangedText, IsCertified, IsCompiledText, IsDriven, IsExpandedText, IsMigrated, IsMergedText, IsAudited, IsEdited, IsQueried, IsShortenedText, IsTrimmedText}
+use Rattle.rule_shortening.specs.Shortened.{IsShortTable}
 use Rattle.razor_core.specs.Make.{IsMade, IsOrderOf}
 use Rattle.razor_core.specs.Inputs.{Input, Value, as_list, as_script, as_session, as_table, certificate_input, lines_value, is_too_long, list_input, list_value, script_input, script_value, session_input, session_value, table_input, table_value, trace_input, text_of_list, text_of_script, text_of_session, text_of_table}
 use Rattle.razor_core.specs.Gives.{Gives}
@@ -106,7 +107,7 @@ turn_told before input text value known h = subst (λ (t : List ℕ). turn input
 module _ (before after : Outside) (line : List ℕ) where
   -- a table that was made of a list
   pub made : (method : Method) (sizes : Sizes) (file text : List ℕ) → KeepsPromise (Make method sizes file) before after line 0 → before.remaining file ≡ Some text →
-      (list : FilterList) × (list_of text ≡ Ok list) × Adds before after (λ written. (order : List ℕ) × IsOrderOf method list.rules order × (table : Table) × IsMade method order list.rules sizes.slot table × IsTextOf table written)
+      (list : FilterList) × (list_of text ≡ Ok list) × Adds before after (λ written. (order : List ℕ) × IsOrderOf method list.rules order × (table : Table) × IsMade method order list.rules sizes table × IsTextOf table written)
   made method sizes file text is known =
       let command : Command = Make method sizes file in
       let done = is.done refl (told (before.remaining file) text known, tt) in
@@ -141,6 +142,33 @@ module _ (before after : Outside) (line : List ℕ) where
           least = meets.composed;
           few = meets.few;
           tight = meets.tight;
+        },
+      )
+
+  cheap_in : (wanted : Option Wanted) (order : List ℕ) (sizes : Sizes) (list : FilterList) (table : Table) → IsMade (Shorten wanted) order list.rules sizes table → IsCheap wanted order list.rules table
+  cheap_in None order sizes list table meets = tt
+  cheap_in (Some wanted) order sizes list table meets = meets.cheap
+
+  short_in : (wanted : Option Wanted) (order : List ℕ) (sizes : Sizes) (list : FilterList) (table : Table) → IsMade (Shorten wanted) order list.rules sizes table → IsShortTable list.rules sizes.limit sizes.slot table
+  short_in None order sizes list table meets = meets
+  short_in (Some wanted) order sizes list table meets = meets.short
+
+  pub shortened : (wanted : Option Wanted) (sizes : Sizes) (file text : List ℕ) → KeepsPromise (Make (Shorten wanted) sizes file) before after line 0 → before.remaining file ≡ Some text → Adds before after (IsShortenedText wanted sizes text)
+  shortened wanted sizes file text is known =
+      let h = made (Shorten wanted) sizes file text is known in
+      let table = h.2.2.2 in
+      let meets = h.2.2.3 in (
+        h.2.0,
+        h.2.1,
+        record {
+          list = h.0;
+          table = table;
+          order = h.2.2.0;
+          spelled = h.1;
+          reads_back = h.2.2.4.spells;
+          is_order = h.2.2.1;
+          short = short_in wanted h.2.2.0 sizes h.0 table meets;
+          cheap = cheap_in wanted h.2.2.0 sizes h.0 table meets;
         },
       )
 
@@ -225,6 +253,15 @@ module _ (before after : Outside) (line : List ℕ) where
       let read = tabled file text first.value (turn_told before (table_input file) text first.value known first.turned_is) in
       let gives = subst (λ (v : Value). Gives command (v ∷ first.rest) done.outcome) read.2 (subst (λ (vs : List Value). Gives command vs done.outcome) first.values_are done.gives) in
       (done.outcome.text, done.written, record { table = read.0; table_spelled = read.1; compact = gives.0.written; reads_back = gives.0.spells })
+
+  pub trimmed : (file text : List ℕ) → KeepsPromise (Trim file) before after line 0 → before.remaining file ≡ Some text → Adds before after (IsTrimmedText text)
+  trimmed file text is known =
+      let command : Command = Trim file in
+      let done = is.done refl (told (before.remaining file) text known, tt) in
+      let first = first_of (turn (table_input file) (bytes_at before file)) (Ok []) done.values done.pass.turns in
+      let read = tabled file text first.value (turn_told before (table_input file) text first.value known first.turned_is) in
+      let gives = subst (λ (v : Value). Gives command (v ∷ first.rest) done.outcome) read.2 (subst (λ (vs : List Value). Gives command vs done.outcome) first.values_are done.gives) in
+      (done.outcome.text, done.written, record { table = read.0; trimmed = gives.0; table_spelled = read.1; reads_back = gives.2.spells; is_trimmed = gives.1 })
 
   pub merged : (file text : List ℕ) → KeepsPromise (Merge file) before after line 0 → before.remaining file ≡ Some text → Adds before after (IsMergedText text)
   merged file text is known =

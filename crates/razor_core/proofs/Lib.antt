@@ -6,6 +6,7 @@ pub mod Ended
 pub mod Endings
 pub mod Tables
 pub mod TraceEnding
+pub mod TrimEnding
 pub mod Turns
 pub mod CertEnding
 pub mod CheckEnding

@@ -10,7 +10,7 @@ use Rattle.razor_core.specs.declared.ending.Summary.TheVariants.{Nothing}
 use Rattle.razor_core.specs.Ending.{Ends, IsDoneLine}
 use Rattle.razor_core.specs.Gives.{Gives}
 use Rattle.razor_core.specs.Inputs.{Value, inputs, read_by}
-use Rattle.razor_core.specs.OneText.{HasText, IsEndOf}
+use Rattle.razor_core.specs.OneText.{IsEndOf}
 use Rattle.razor_core.specs.Outcome.{Outcome}
 use Rattle.razor_core.specs.Outside.{Outside, Tells}
 use Rattle.razor_core.specs.Standing.{StandsShort}

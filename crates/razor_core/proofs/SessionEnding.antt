@@ -1,12 +1,11 @@
 -- How a command ends that runs a session.
-use Rattle.std.proofs.Common.{◌≡◌, ℕ, ◌+◌, ◌≤◌, ◌<◌, List, [], ◌∷◌, ◌++◌, append-nil, append_assoc, inl, inr, refl, subst, sym, ap, arith, length, ◌∙◌}
+use Rattle.std.proofs.Common.{◌≡◌, ℕ, ◌+◌, ◌≤◌, List, [], ◌∷◌, ◌++◌, append-nil, append_assoc, inl, inr, refl, subst, sym, ap, arith, length, ◌∙◌}
 use Rattle.std.specs.Prelude.{true, false, Bool, Ok, Err, Option, Result, ◌⊎◌, fold, if◌then◌else◌}
 use Rattle.std.specs.List.{concat}
 use Rattle.std.proofs.lemmas.List.{length-append}
 use Rattle.std.proofs.lemmas.List.Folds.{concat-append}
 use Rattle.std.specs.Io.KnownBytes.{Appends, Keeps}
 use Rattle.razor_base.specs.Faults.{Rose}
-use Rattle.razor_base.specs.Output.{AppendsFront}
 use Rattle.field_boxes.specs.Classifier.{Rule}
 use Rattle.field_boxes.specs.Names.{is_known, with_name}
 use Rattle.filter_reader.specs.FirstSeen.{first_seen}

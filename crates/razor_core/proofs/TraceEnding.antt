@@ -1,5 +1,5 @@
 -- How a command ends that answers a trace.
-use Rattle.std.proofs.Common.{◌≡◌, ◌≢◌, ℕ, ◌≤◌, List, [], ◌∷◌, ◌++◌, Some, None, length, inr, le-leb, refl, subst, sym, ap, arith, ◌∙◌}
+use Rattle.std.proofs.Common.{◌≡◌, ◌≢◌, ℕ, ◌≤◌, List, [], ◌∷◌, ◌++◌, Some, None, length, inl, inr, le-leb, refl, subst, sym, ap, arith, ◌∙◌}
 use Rattle.std.specs.Prelude.{Bool, true, Option, IfSome, IsErrOf, Ok, Err, Result, map, option_map, take, unwrap_or, if◌then◌else◌}
 use Rattle.std.specs.Io.KnownBytes.{Appends, Keeps}
 use Rattle.razor_base.specs.Faults.{Rose}
@@ -21,7 +21,7 @@ use Rattle.trace_run.specs.declared.error.TraceError.TheVariants as errors
 use Rattle.trace_run.specs.declared.reason.TraceReason.{TraceReason}
 use Rattle.command_words.specs.Command.{Trace}
 use Rattle.razor_core.specs.declared.ending.Ending.{Ending}
-use Rattle.razor_core.specs.declared.ending.Ending.TheVariants.{BadLine as Bad, TooLong, ReadFault, WriteFault, Memory}
+use Rattle.razor_core.specs.declared.ending.Ending.TheVariants.{BadLine as Bad, TooLong, ReadFault}
 use Rattle.razor_core.specs.declared.line_reason.LineReason.{LineReason}
 use Rattle.razor_core.specs.declared.line_reason.LineReason.TheVariants.{OfTrace}
 use Rattle.razor_core.specs.Inputs.{BadLine, Input, Value, inputs, most_bytes, table_input, table_value, text_of_trace, trace_input, lines_value}
@@ -205,7 +205,7 @@ module _ (table trace : List ℕ) (before after : Outside) (entries : Table) (an
     values = values;
     outcome = outcome;
     turns = pass_all ended ran tells;
-    free = inr tt;
+    free = inr (inl tt);
     gives = refl;
     written = begun ended ran (taken_of text).headers front;
   }

@@ -1,7 +1,6 @@
 -- What `drive` defines: the lines of a script that runs over tables.
 use Rattle.std.specs.Prelude.{◌≡◌, ℕ, true, List, [], map, Ok, Result, Err}
 use Rattle.std.specs.List.{concat}
-use Rattle.ternary_words.specs.Table.{Table}
 use Rattle.ternary_words.specs.Views.{table_of}
 use Rattle.ternary_words.specs.declared.table.Table as code_table
 use Rattle.bank_update.specs.Machine.{unsettled}

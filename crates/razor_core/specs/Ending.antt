@@ -11,7 +11,7 @@ use Rattle.razor_core.specs.Inputs.{Value, read_by}
 use Rattle.razor_core.specs.Outside.{Outside, Tells, AreReadThrough}
 use Rattle.razor_core.specs.Standing.{IsCutOff, Stands, StandsCut, StandsShort, WritesNothing}
 use Rattle.razor_core.specs.Turns.{Stop, bad_line, too_long, too_many, stop_status}
-use Rattle.razor_core.specs.Stopping.{Pass, IsStopped}
+use Rattle.razor_core.specs.Stopping.{GoesThrough, IsStopped}
 use Rattle.razor_core.specs.Deciding.{FailsToRead, IsStopOf}
 use Rattle.razor_core.specs.Outcome.{Outcome}
 use Rattle.razor_core.specs.Gives.{Gives}
@@ -22,7 +22,7 @@ use Rattle.razor_core.specs.Messages.{ordered_line, rules_line, bad_line_line, t
 pub record IsDone (command : Command) (before after : Outside) (answer : Bool) (line : List ℕ) : Type 0 where
   pub values : List Value
   pub outcome : Outcome
-  pub pass : Pass command before values
+  pub pass : GoesThrough command before values
   pub gives : Gives command values outcome
   pub answered : outcome.yes ≡ answer
   pub lined : outcome.line ≡ line

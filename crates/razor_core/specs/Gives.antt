@@ -1,6 +1,6 @@
 -- What each command defines for what its inputs come to.
 use Rattle.std.specs.Prelude.{List, ◌∷◌}
-use Rattle.command_words.specs.Command.{Command, Make, Equiv, Cert, Check, Trace, Drive, Gen, Selfrun, Migrate, Merge, Audit, Query, Session}
+use Rattle.command_words.specs.Command.{Command, Make, Equiv, Cert, Check, Trace, Drive, Gen, Selfrun, Migrate, Merge, Audit, Query, Session, Trim}
 use Rattle.razor_core.specs.Outcome.{Outcome}
 use Rattle.razor_core.specs.Make.{IsTableOf}
 use Rattle.razor_core.specs.Equiv.{Compares}
@@ -12,14 +12,15 @@ use Rattle.razor_core.specs.Gen.{Draws}
 use Rattle.razor_core.specs.Selfrun.{SumsUp}
 use Rattle.razor_core.specs.Migrate.{Migrates}
 use Rattle.razor_core.specs.Merge.{Merges}
+use Rattle.razor_core.specs.Trim.{Trims}
 use Rattle.razor_core.specs.Audit.{Audits}
 use Rattle.razor_core.specs.Query.{Queries}
 use Rattle.razor_core.specs.Session.{BeginsEdits, Edits}
-use Rattle.razor_core.specs.Inputs.{Value, list_value, table_value, script_value, session_value, lines_value, inputs}
+use Rattle.razor_core.specs.Inputs.{Value, list_value, table_value, script_value, session_value, lines_value}
 
 -- the outcome is one that the command defines for these values
 abbrev pub Gives : Command → List Value → Outcome → Type 0
-Gives (Make method sizes file) (list_value list ∷ values) outcome = IsTableOf method list sizes.slot outcome
+Gives (Make method sizes file) (list_value list ∷ values) outcome = IsTableOf method list sizes outcome
 Gives (Equiv left right) (list_value first ∷ list_value second ∷ values) outcome = Compares first.rules second.rules outcome
 Gives (Cert list table) (list_value rules ∷ table_value entries ∷ values) outcome = Writes rules entries outcome
 Gives (Check list table certificate) (list_value rules ∷ table_value entries ∷ lines_value text ∷ values) outcome = Certifies rules entries text outcome
@@ -32,6 +33,7 @@ Gives (Merge file) (table_value table ∷ values) outcome = Merges table outcome
 Gives (Audit file) (list_value list ∷ values) outcome = Audits list.rules outcome
 Gives (Query file box name) (list_value list ∷ values) outcome = Queries box name list.rules outcome
 Gives (Session slots sizes script file) (session_value events ∷ list_value list ∷ values) outcome = Edits slots sizes list.rules events outcome
+Gives (Trim file) (table_value table ∷ values) outcome = Trims table outcome
 Gives command values outcome = ⊥
 
 -- the outcome is one that the command defines, or begins with, for these values: a session's may stop behind its first commands

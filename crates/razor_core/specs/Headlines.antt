@@ -1,17 +1,18 @@
 -- What status 0 of a command means, over the bytes of its inputs and of its output.
-use Rattle.std.specs.Prelude.{◌≡◌, ◌≤◌, ℕ, List, length, map, Ok, Option}
+use Rattle.std.specs.Prelude.{◌≡◌, ◌≤◌, ℕ, List, length, map, Ok, Option, Some, None}
 use Rattle.std.specs.Io.KnownBytes.{Appends}
 use Rattle.std.specs.List.{concat}
 use Rattle.bank_update.specs.Machine.{unsettled}
 use Rattle.bank_update.specs.Runs.{session}
 use Rattle.bank_update.specs.Script.{Event, script_of}
-use Rattle.command_words.specs.Command.{Arrange, Sizes}
+use Rattle.command_words.specs.Command.{Arrange, Shorten, Sizes}
 use Rattle.command_words.specs.Orders.{Wanted}
 use Rattle.field_boxes.specs.Alike.{AreAlike, IsTight, source_of}
-use Rattle.field_boxes.specs.Classifier.{Interval}
+use Rattle.field_boxes.specs.Classifier.{Interval, Rule}
 use Rattle.field_boxes.specs.Fields.{stated}
 use Rattle.filter_reader.specs.FilterList.{FilterList, list_of}
 use Rattle.rule_expansion.specs.Expansion.{expanded_count, expansion}
+use Rattle.rule_shortening.specs.Shortened.{IsShortTable, IsWithinCost}
 use Rattle.table_compose.specs.LeastCost.{IsLeastCost}
 use Rattle.table_text.specs.Reading.{table_in_text}
 use Rattle.ternary_words.specs.Table.{Table, answer}
@@ -20,6 +21,7 @@ use Rattle.ternary_words.specs.declared.table.Table as code
 use Rattle.razor_core.specs.Inputs.{table_input}
 use Rattle.razor_core.specs.Drive.{value_of_table}
 use Rattle.razor_core.specs.Merge.{IsMergedTable}
+use Rattle.razor_core.specs.Trim.{IsTrimmedTable}
 use Rattle.razor_core.specs.Make.{IsOrderOf}
 use Rattle.edit_session.specs.SessionText.{SessionEvent, session_of}
 use Rattle.razor_core.specs.Outcome.{Outcome}
@@ -59,6 +61,24 @@ pub record IsArrangedText (wanted : Wanted) (width : ℕ) (list_bytes written : 
   pub least : IsLeastCost order list.rules table.composed
   pub few : length table.entries ≤ table.composed
   pub tight : IsTight answer table.entries
+
+-- where an order is asked for, the table has at most as many entries as the rules cost field by field in it
+abbrev pub IsCheap : Option Wanted → List ℕ → List (Rule (List ℕ)) → Table → Type 0
+IsCheap None order rules table = Unit {0}
+IsCheap (Some wanted) order rules table = IsWithinCost order rules table
+
+-- the output is the text of a table whose first match gives every header the decision of the list's first match, by words that
+-- are prefixes in each field; none of its entries can go, they are at most the limit, and at most those of the direct expansion,
+-- and where an order is asked for, at most the list's field-by-field least cost in it
+pub record IsShortenedText (wanted : Option Wanted) (sizes : Sizes) (list_bytes written : List ℕ) : Type 0 where
+  pub list : FilterList
+  pub table : Table
+  pub order : List ℕ
+  pub spelled : list_of list_bytes ≡ Ok list
+  pub reads_back : table_in_text written ≡ Ok table
+  pub is_order : IsOrderOf (Shorten wanted) list.rules order
+  pub short : IsShortTable list.rules sizes.limit sizes.slot table
+  pub cheap : IsCheap wanted order list.rules table
 
 -- the output is the text of the direct expansion, whose first match gives every header the decision of the list's first
 -- match
@@ -120,6 +140,14 @@ pub record IsMergedText (table_bytes written : List ℕ) : Type 0 where
   pub answers : (header : List ℕ) → answer merged.entries header ≡ answer table.entries header
   pub few : length merged.entries ≤ length table.entries
   pub tight : IsTight answer table.entries → IsTight answer merged.entries
+
+-- the output is the text of the table that the input spells without its redundant entries
+pub record IsTrimmedText (table_bytes written : List ℕ) : Type 0 where
+  pub table : Table
+  pub trimmed : Table
+  pub table_spelled : table_in_text table_bytes ≡ Ok table
+  pub reads_back : table_in_text written ≡ Ok trimmed
+  pub is_trimmed : IsTrimmedTable table trimmed
 
 -- the output is what the commands of the script print in turn over the tables, in a memory of so many slots that never
 -- fails

@@ -6,7 +6,7 @@ use Rattle.table_text.specs.Reading as tables
 use Rattle.bank_update.specs.Script as scripts
 use Rattle.edit_session.specs.SessionText as sessions
 use Rattle.ternary_words.specs.Table.{Table}
-use Rattle.command_words.specs.Command.{Command, Make, Equiv, Cert, Check, Trace, Drive, Gen, Selfrun, Migrate, Merge, Audit, Query, Session}
+use Rattle.command_words.specs.Command.{Command, Make, Equiv, Cert, Check, Trace, Drive, Gen, Selfrun, Migrate, Merge, Audit, Query, Session, Trim}
 use Rattle.razor_core.specs.declared.line_reason.LineReason.{LineReason}
 use Rattle.razor_core.specs.declared.line_reason.LineReason.TheVariants.{OfList, OfTable, OfScript, OfSession}
 
@@ -68,6 +68,7 @@ inputs (Merge table) = table_input table ∷ []
 inputs (Audit list) = list_input list ∷ []
 inputs (Query list box name) = list_input list ∷ []
 inputs (Session slots sizes script list) = session_input script ∷ list_input list ∷ []
+inputs (Trim table) = table_input table ∷ []
 
 -- the inputs that a command reads to their end where its answer is yes, or no: a certificate that is wrong needn't be
 abbrev pub read_by : Command → Bool → List Input

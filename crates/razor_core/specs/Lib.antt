@@ -11,6 +11,7 @@ pub mod Gen
 pub mod Selfrun
 pub mod Migrate
 pub mod Merge
+pub mod Trim
 pub mod Session
 pub mod OneText
 pub mod Audit

@@ -1,5 +1,5 @@
--- What `expand`, `compile` and `arrange` define: the table of a list.
-use Rattle.std.specs.Prelude.{◌≡◌, ℕ, ◌<◌, true, List, length}
+-- What `expand`, `compile`, `arrange` and `shorten` define: the table of a list.
+use Rattle.std.specs.Prelude.{◌≡◌, ℕ, ◌<◌, ◌≤◌, true, List, length, Some, None}
 use Rattle.field_boxes.specs.Classifier.{Rule}
 use Rattle.field_boxes.specs.Fields.{stated}
 use Rattle.filter_reader.specs.FilterList.{FilterList}
@@ -9,46 +9,64 @@ use Rattle.field_order.specs.Best.{IsBestOrder}
 use Rattle.rule_compilation.specs.Compiled.{IsCompiledIn}
 use Rattle.rule_expansion.specs.Expansion.{expanded_count}
 use Rattle.rule_expansion.specs.Tables.{IsExpansion}
-use Rattle.command_words.specs.Command.{Method, Expand, Compile, Arrange}
-use Rattle.command_words.specs.Orders.{Best, In}
+use Rattle.rule_shortening.specs.Shortened.{IsLesser, IsShortTable, IsShortTableIn}
+use Rattle.command_words.specs.Command.{Method, Sizes, Expand, Compile, Arrange, Shorten}
+use Rattle.command_words.specs.Orders.{Wanted, Best, In}
 use Rattle.razor_core.specs.Messages.{ordered_line, rules_line}
 use Rattle.razor_core.specs.Outcome.{Outcome, IsTextOf}
 use Rattle.razor_core.specs.Turns.{Stop, too_many}
 use Rattle.razor_core.specs.declared.ending.Ending.{Ending}
 use Rattle.razor_core.specs.declared.ending.Ending.TheVariants.{TooMany, Memory}
 
--- the order of the fields in which the method composes: the stated one, the one that is asked for, or the one that costs
--- least
+-- the order is the one that is wanted: the one that costs least, or the one that is asked for
+abbrev pub IsWanted : Wanted → List (Rule (List ℕ)) → List ℕ → Type 0
+IsWanted Best rules order = (cost : ℕ) × IsBestOrder rules order cost
+IsWanted (In asked) rules order = order ≡ asked
+
+-- the order of the fields in which the method composes, or may compose: the stated one, or the one that is wanted
 abbrev pub IsOrderOf : Method → List (Rule (List ℕ)) → List ℕ → Type 0
 IsOrderOf Expand rules order = order ≡ stated
 IsOrderOf Compile rules order = order ≡ stated
-IsOrderOf (Arrange Best) rules order = (cost : ℕ) × IsBestOrder rules order cost
-IsOrderOf (Arrange (In asked)) rules order = order ≡ asked
+IsOrderOf (Arrange wanted) rules order = IsWanted wanted rules order
+IsOrderOf (Shorten None) rules order = order ≡ stated
+IsOrderOf (Shorten (Some wanted)) rules order = IsWanted wanted rules order
 
--- the method makes so many entries of the rules: those of the expansion, or their field-by-field least cost in its order
+-- the method makes so many entries of the rules: those of the expansion, or their field-by-field least cost in its order; a search
+-- makes fewer than the expansion, and with an order no more than the lesser of both
 abbrev pub IsNeeded : Method → List (Rule (List ℕ)) → ℕ → Type 0
 IsNeeded Expand rules needed = needed ≡ expanded_count rules
 IsNeeded Compile rules needed = IsLeastCost stated rules needed
-IsNeeded (Arrange wanted) rules needed = (order : List ℕ) × IsOrderOf (Arrange wanted) rules order × IsLeastCost order rules needed
+IsNeeded (Arrange wanted) rules needed = (order : List ℕ) × IsWanted wanted rules order × IsLeastCost order rules needed
+IsNeeded (Shorten None) rules needed = needed ≡ expanded_count rules
+IsNeeded (Shorten (Some wanted)) rules needed = (order : List ℕ) × IsWanted wanted rules order × IsLesser order rules needed
 
--- the method makes this table of the rules in the order, for slots of this width
-abbrev pub IsMade : Method → List ℕ → List (Rule (List ℕ)) → ℕ → Table → Type 0
-IsMade Expand order rules width table = IsExpansion rules width table
-IsMade Compile order rules width table = IsCompiledIn stated rules width table
-IsMade (Arrange wanted) order rules width table = IsCompiledIn order rules width table
+-- no more entries are needed than the limit; a search may keep within it however many are counted
+abbrev pub IsRoom : Method → List (Rule (List ℕ)) → ℕ → Type 0
+IsRoom (Shorten wanted) rules limit = Unit {0}
+IsRoom method rules limit = (needed : ℕ) → IsNeeded method rules needed → needed ≤ limit
+
+-- the method makes this table of the rules in the order, for slots of this width, and within this limit where it searches
+abbrev pub IsMade : Method → List ℕ → List (Rule (List ℕ)) → Sizes → Table → Type 0
+IsMade Expand order rules sizes table = IsExpansion rules sizes.slot table
+IsMade Compile order rules sizes table = IsCompiledIn stated rules sizes.slot table
+IsMade (Arrange wanted) order rules sizes table = IsCompiledIn order rules sizes.slot table
+IsMade (Shorten None) order rules sizes table = IsShortTable rules sizes.limit sizes.slot table
+IsMade (Shorten (Some wanted)) order rules sizes table = IsShortTableIn order rules sizes.limit sizes.slot table
 
 -- what is said of a list of so many rules, of which so many are flagged: the order too, where it may be asked for
 abbrev pub made_line : Method → List ℕ → ℕ → ℕ → List ℕ
 made_line Expand order rules flagged = rules_line rules flagged
 made_line Compile order rules flagged = rules_line rules flagged
 made_line (Arrange wanted) order rules flagged = ordered_line rules flagged order
+made_line (Shorten None) order rules flagged = rules_line rules flagged
+made_line (Shorten (Some wanted)) order rules flagged = ordered_line rules flagged order
 
 -- the text of a table that the method makes, and the line on the rules of its list
-pub record IsTableOf (method : Method) (list : FilterList) (width : ℕ) (outcome : Outcome) : Type 0 where
+pub record IsTableOf (method : Method) (list : FilterList) (sizes : Sizes) (outcome : Outcome) : Type 0 where
   pub order : List ℕ
   pub is_order : IsOrderOf method list.rules order
   pub table : Table
-  pub meets : IsMade method order list.rules width table
+  pub meets : IsMade method order list.rules sizes table
   pub yes : outcome.yes ≡ true
   pub text : IsTextOf table outcome.text
   pub line : outcome.line ≡ made_line method order (length list.rules) list.flagged

@@ -1,6 +1,6 @@
 -- What a command comes to.
 use Rattle.std.specs.Prelude.{◌≡◌, ℕ, Bool, List, Ok}
-use Rattle.ternary_words.specs.Table.{Table, answer}
+use Rattle.ternary_words.specs.Table.{Table}
 use Rattle.ternary_words.specs.TableText.{table_text}
 use Rattle.table_text.specs.Reading.{table_in_text}
 

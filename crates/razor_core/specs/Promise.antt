@@ -6,8 +6,8 @@ use Rattle.command_words.specs.Command.{Command}
 use Rattle.command_words.specs.Spelling.{command_of}
 use Rattle.razor_core.specs.Inputs.{Value}
 use Rattle.razor_core.specs.Outside.{Outside, Tells, IsNoInput}
-use Rattle.razor_core.specs.Turns.{Stop, stop_status}
-use Rattle.razor_core.specs.Stopping.{Pass, IsStopped}
+use Rattle.razor_core.specs.Turns.{Stop, stop_status, too_many}
+use Rattle.razor_core.specs.Stopping.{MayGoOn, Pass, IsStopped}
 use Rattle.razor_core.specs.Deciding.{FailsToRead, IsStopOf}
 use Rattle.razor_core.specs.Ending.{IsDone, IsDoneLine}
 use Rattle.razor_core.specs.Standing.{IsCutOff, Stands, StandsCut, StandsShort, WritesInTurn, WritesNothing}
@@ -17,9 +17,14 @@ use Rattle.razor_core.specs.Messages.{usage_text, stop_line, read_fault_line, wr
 abbrev pub IsStatusOfPass : ℕ → Type 0
 IsStatusOfPass status = (status ≡ 0) ⊎ (status ≡ 1) ⊎ (status ≡ 5) ⊎ (status ≡ 6) ⊎ (status ≡ 7)
 
+-- the status where a command goes on that counted more entries than its limit: its table was written, or a write failed
+abbrev pub IsStatusOfGoingOn : Command → Stop → ℕ → Type 0
+IsStatusOfGoingOn command (too_many needed limit) status = MayGoOn command × ((status ≡ 0) ⊎ (status ≡ 6))
+IsStatusOfGoingOn command stop status = ⊥
+
 -- the status where this ends the command, where reading and memory allow it, and writing by then
 abbrev pub IsStatusOfStop : Command → Stop → ℕ → Type 0
-IsStatusOfStop command stop status = (status ≡ stop_status stop) ⊎ (status ≡ 5) ⊎ (status ≡ 7) ⊎ ((status ≡ 6) × WritesInTurn command)
+IsStatusOfStop command stop status = (status ≡ stop_status stop) ⊎ (status ≡ 5) ⊎ (status ≡ 7) ⊎ ((status ≡ 6) × WritesInTurn command) ⊎ IsStatusOfGoingOn command stop status
 
 -- the command is ended by a bad line, by a byte after the limit, or by more entries than the limit
 pub record IsEnded (command : Command) (before after : Outside) (line : List ℕ) (status : ℕ) : Type 0 where

@@ -8,7 +8,7 @@ use Rattle.razor_core.specs.Outside.{Outside, Tells}
 use Rattle.razor_core.specs.Outcome.{Outcome}
 use Rattle.razor_core.specs.Gives.{Begins, Gives}
 use Rattle.razor_core.specs.Turns.{Stop, turns_of}
-use Rattle.razor_core.specs.Stopping.{IsFree}
+use Rattle.razor_core.specs.Stopping.{IsFree, MayGoOn}
 use Rattle.razor_core.specs.Trace.{AnswersCut}
 use Rattle.razor_core.specs.Check.{IsRightSoFar}
 
@@ -40,7 +40,7 @@ pub record IsCutOff (command : Command) (before after : Outside) : Type 0 where
   pub values : List Value
   pub outcome : Outcome
   pub turns : turns_of before (inputs command) ≡ Ok values
-  pub free : IsFree command values ⊎ WritesInTurn command
+  pub free : IsFree command values ⊎ WritesInTurn command ⊎ MayGoOn command
   pub gives : Begins command values outcome
   pub written : AppendsFront before.written after.written outcome.text
 

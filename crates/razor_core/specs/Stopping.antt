@@ -2,7 +2,7 @@
 use Rattle.std.specs.Prelude.{◌≡◌, ◌⊎◌, List, ◌∷◌, Ok, Err}
 use Rattle.razor_base.specs.declared.limits.TheConstants.{MOST_ENTRIES}
 use Rattle.list_generator.specs.DrawnRules.{generated}
-use Rattle.command_words.specs.Command.{Command, Compile, Make, Cert, Check, Trace, Selfrun}
+use Rattle.command_words.specs.Command.{Command, Compile, Shorten, Make, Cert, Check, Trace, Selfrun, Trim}
 use Rattle.razor_core.specs.Turns.{Stop, turns_of}
 use Rattle.razor_core.specs.Make.{NeedsMore}
 use Rattle.razor_core.specs.Cert.{HasOther}
@@ -18,16 +18,27 @@ StopsLater (Cert list table) (list_value rules ∷ table_value entries ∷ value
 StopsLater (Check list table certificate) (list_value rules ∷ table_value entries ∷ lines_value text ∷ values) stop = HasTooMuch certificate rules entries text stop
 StopsLater (Trace table trace) (table_value entries ∷ lines_value text ∷ values) stop = EndsTrace trace text stop
 StopsLater (Selfrun seed rules) values stop = NeedsMore Compile (generated seed rules).rules MOST_ENTRIES stop
+StopsLater (Trim table) (table_value entries ∷ values) stop = HasOther table entries stop
 StopsLater command values stop = ⊥
 
 -- nothing ends the command later
 abbrev pub IsFree : Command → List Value → Type 0
 IsFree command values = (stop : Stop) → StopsLater command values stop → ⊥
 
+-- more entries may be counted than the limit, and the command goes on all the same: a search may find a table within it
+abbrev pub MayGoOn : Command → Type 0
+MayGoOn (Make (Shorten wanted) sizes file) = Unit {0}
+MayGoOn command = ⊥
+
 -- all turns pass, and nothing ends the command later
 pub record Pass (command : Command) (before : Outside) (values : List Value) : Type 0 where
   pub turns : turns_of before (inputs command) ≡ Ok values
   pub free : IsFree command values
+
+-- all turns pass, and the command goes on: nothing ends it later, or it may go on all the same
+pub record GoesThrough (command : Command) (before : Outside) (values : List Value) : Type 0 where
+  pub turns : turns_of before (inputs command) ≡ Ok values
+  pub free : IsFree command values ⊎ MayGoOn command
 
 -- all turns pass, and this ends the command later
 pub record IsStoppedLater (command : Command) (before : Outside) (stop : Stop) : Type 0 where

@@ -6,7 +6,6 @@ use Rattle.field_boxes.specs.Names.{text_of}
 use Rattle.ternary_words.specs.Table.{Table, answer}
 use Rattle.trace_run.specs.Trace as traces
 use Rattle.trace_run.specs.Trace.{trace_of, trace_within, whole_lines}
-use Rattle.command_words.specs.Command.{Trace}
 use Rattle.trace_run.specs.declared.error.TraceError.{TraceError}
 use Rattle.trace_run.specs.declared.error.TraceError.TheVariants as errors
 use Rattle.trace_run.specs.Outcome.{IsCut, GoesOn}

@@ -25,7 +25,9 @@ mod migrate;
 mod query;
 mod selfrun;
 mod session;
+mod shorten;
 mod trace;
+mod trim;
 
 use crate::ending::Ending;
 use audit::audit_list;
@@ -44,6 +46,7 @@ use selfrun::run_load;
 use session::run_session;
 use std::alloc::Global;
 use trace::answer_trace;
+use trim::trim_table;
 
 /// Does what the command says.
 pub fn run<'a, D: Desk, K: Sink>(
@@ -80,5 +83,6 @@ pub fn run<'a, D: Desk, K: Sink>(
             sizes,
             files,
         } => run_session(alloc, slots, sizes, files, desk, out),
+        Command::Trim(file) => trim_table(alloc, file, desk, out),
     }
 }

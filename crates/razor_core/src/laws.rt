@@ -2,9 +2,9 @@
 //! nothing.
 ghost use Rattle.std.specs.Prelude.{◌≡◌, ℕ, List, Option, Some};
 ghost use Rattle.field_boxes.specs.Classifier.{Interval};
-ghost use Rattle.command_words.specs.Command.{Arrange, Audit, Cert, Check, Compile, Drive, Equiv, Expand, Gen, Make, Merge, Migrate, Query, Selfrun, Session, Sizes, Trace};
+ghost use Rattle.command_words.specs.Command.{Arrange, Audit, Cert, Check, Compile, Drive, Equiv, Expand, Gen, Make, Merge, Migrate, Query, Selfrun, Session, Shorten, Sizes, Trace, Trim};
 ghost use Rattle.command_words.specs.Orders.{Wanted};
-ghost use Rattle.razor_core.specs.Headlines.{Adds, AgreeByName, AreEqualLists, IsAnswered, IsArrangedText, IsAudited, IsCertified, IsCompiledText, IsDriven, IsEdited, IsExpandedText, IsMergedText, IsMigrated, IsQueried};
+ghost use Rattle.razor_core.specs.Headlines.{Adds, AgreeByName, AreEqualLists, IsAnswered, IsArrangedText, IsAudited, IsCertified, IsCompiledText, IsDriven, IsEdited, IsExpandedText, IsMergedText, IsMigrated, IsQueried, IsShortenedText, IsTrimmedText};
 ghost use Rattle.razor_core.specs.Outside.{Outside, Tells};
 ghost use Rattle.razor_core.specs.Promise.{KeepsPromise};
 ghost use Rattle.razor_core.specs.Selfrun.{Summarises};
@@ -31,6 +31,14 @@ pub fn expanded_tables_decide_as_their_lists()
     ensures { (before after : Outside) (line : List ℕ) (sizes : Sizes) (file text : List ℕ) →
         KeepsPromise (Make Expand sizes file) before after line 0 → before.remaining file ≡ Some text →
         Adds before after (IsExpandedText sizes.slot text) }
+{}
+
+/// What `shorten` has written is a table that decides as the list, with no entry to spare, at most as long as the direct
+/// expansion, and where an order is asked for, as the list's least cost in it.
+pub fn shortened_tables_decide_as_their_lists()
+    ensures { (before after : Outside) (line : List ℕ) (wanted : Option Wanted) (sizes : Sizes) (file text : List ℕ) →
+        KeepsPromise (Make (Shorten wanted) sizes file) before after line 0 → before.remaining file ≡ Some text →
+        Adds before after (IsShortenedText wanted sizes text) }
 {}
 
 /// Where `equiv` says that two lists are equal, they decide every header alike.
@@ -88,6 +96,13 @@ pub fn merged_tables_answer_alike()
     ensures { (before after : Outside) (line : List ℕ) (file text : List ℕ) →
         KeepsPromise (Merge file) before after line 0 → before.remaining file ≡ Some text →
         Adds before after (IsMergedText text) }
+{}
+
+/// What `trim` has written is the table that was read without its redundant entries, which answers as it does.
+pub fn trimmed_tables_answer_alike()
+    ensures { (before after : Outside) (line : List ℕ) (file text : List ℕ) →
+        KeepsPromise (Trim file) before after line 0 → before.remaining file ≡ Some text →
+        Adds before after (IsTrimmedText text) }
 {}
 
 /// What `audit` has written is the state of each rule.

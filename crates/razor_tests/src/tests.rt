@@ -17,7 +17,9 @@ mod migrating;
 mod refused;
 mod running;
 mod selfrun;
+mod shortening;
 mod tracing;
+mod trimming;
 
 use crate::setting::{Setting, calm};
 use compiling::ORDINARY;
@@ -56,7 +58,7 @@ const WEB_TABLE: &[u8] =
 
 /// The usage text.
 const USAGE: &[u8] =
-    b"usage: razor COMMAND\n  expand [--limit N] [--slot W] LIST\n  compile [--limit N] [--slot W] LIST\n  equiv A B\n  cert LIST TABLE\n  check LIST TABLE CERT\n  trace TABLE TRACE\n  drive --slots N SCRIPT TABLE ..\n  gen SEED N\n  selfrun SEED N\n  migrate TABLE\n  arrange [--order P] [--limit N] [--slot W] LIST\n  merge TABLE\n  audit LIST\n  query LIST S D SP DP P DECISION\n  session --slots N [--limit N] [--slot W] SCRIPT LIST\n";
+    b"usage: razor COMMAND\n  expand [--limit N] [--slot W] LIST\n  compile [--limit N] [--slot W] LIST\n  equiv A B\n  cert LIST TABLE\n  check LIST TABLE CERT\n  trace TABLE TRACE\n  drive --slots N SCRIPT TABLE ..\n  gen SEED N\n  selfrun SEED N\n  migrate TABLE\n  arrange [--order P] [--limit N] [--slot W] LIST\n  merge TABLE\n  audit LIST\n  query LIST S D SP DP P DECISION\n  session --slots N [--limit N] [--slot W] SCRIPT LIST\n  trim TABLE\n  shorten [--order P] [--limit N] [--slot W] LIST\n";
 
 /// How a call ended, with what it wrote and said.
 #[derive(Drop)]

@@ -15,7 +15,11 @@ pub struct Step {
 }
 
 /// Every command.
-pub const STEPS: [Step; 18] = [
+pub const STEPS: [Step; 21] = [
+    Step {
+        words: &["shorten", "lab.list"],
+        file: None,
+    },
     Step {
         words: &["compile", "lab.list"],
         file: Some("lab.table"),
@@ -69,6 +73,14 @@ pub const STEPS: [Step; 18] = [
     },
     Step {
         words: &["merge", "hosts.table"],
+        file: None,
+    },
+    Step {
+        words: &["expand", "edge.list"],
+        file: Some("edge.table"),
+    },
+    Step {
+        words: &["trim", "edge.table"],
         file: None,
     },
     Step {

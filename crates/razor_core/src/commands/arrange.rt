@@ -7,7 +7,7 @@ ghost use Rattle.filter_reader.specs.Lists.{filter_list};
 ghost use Rattle.rule_compilation.specs.Compiled.{IsCompiledIn};
 ghost use Rattle.ternary_words.specs.Limits.{IsSlotWidth};
 ghost use Rattle.ternary_words.specs.Views.{table_of};
-ghost use Rattle.razor_core.specs.Make.{IsNeeded, IsNotMade, IsOrderOf};
+ghost use Rattle.razor_core.specs.Make.{IsNeeded, IsNotMade, IsOrderOf, IsWanted};
 
 use crate::commands::made::Made;
 use crate::ending::Ending;
@@ -22,8 +22,8 @@ use table_compose::ComposeError;
 use table_compose::laws::one_least_cost;
 
 /// The order that is wanted.
-fn order_of(alloc: Global, list: &RuleList, wanted: Wanted) -> Result<Order, Memory>
-    ensures { IfOk result (λ order. IsOrderOf (Arrange (wanted_seen wanted)) (filter_list list.now).rules order) }
+pub(super) fn order_of(alloc: Global, list: &RuleList, wanted: Wanted) -> Result<Order, Memory>
+    ensures { IfOk result (λ order. IsWanted (wanted_seen wanted) (filter_list list.now).rules order) }
 {
     list.names.are_names();
     match wanted {

@@ -1,4 +1,4 @@
-//! What `expand`, `compile` and `arrange` share: a list is read, and its table is written.
+//! What `expand`, `compile`, `arrange` and `shorten` share: a list is read, and its table is written.
 ghost use Rattle.std.specs.Prelude.{◌≡◌, ◌≢◌, ◌≤◌, ℕ, List, IfOk, MatchResult, length};
 ghost use Rattle.std.specs.Io.KnownBytes.{Keeps};
 ghost use Rattle.command_words.specs.Command.{Make};
@@ -7,12 +7,13 @@ ghost use Rattle.filter_reader.specs.Lists.{filter_list};
 ghost use Rattle.ternary_words.specs.Views.{table_of};
 ghost use Rattle.razor_core.specs.Outside.{seen};
 ghost use Rattle.razor_core.specs.Ending.{Ends, summary_text};
-ghost use Rattle.razor_core.specs.Make.{IsMade, IsNeeded, IsNotMade, IsOrderOf, made_line};
+ghost use Rattle.razor_core.specs.Make.{IsMade, IsNeeded, IsNotMade, IsOrderOf, IsRoom, made_line};
 
 use crate::commands::arrange::arrange_list;
 use crate::commands::compile::compile_list;
 use crate::commands::expand::expand_list;
 use crate::commands::made::Made;
+use crate::commands::shorten::shorten_list;
 use crate::ending::{Ending, Summary};
 use crate::taking::take;
 use crate::texts::ListText;
@@ -59,15 +60,16 @@ fn make_by<'a>(
     sizes: Sizes,
 ) -> Result<Made, Ending<'a>>
     ensures made { MatchResult result
-        (λ made. IsOrderOf (method_seen method) (filter_list list.now).rules made.order × IsMade (method_seen method) made.order (filter_list list.now).rules sizes.slot (table_of made.table))
+        (λ made. IsOrderOf (method_seen method) (filter_list list.now).rules made.order × IsMade (method_seen method) made.order (filter_list list.now).rules (sizes_of sizes) (table_of made.table))
         (λ ending. IsNotMade (IsNeeded (method_seen method) (filter_list list.now).rules) sizes.limit ending) }
     ensures names { IfOk result (λ made. made.table.names ≡ list.now.names) }
-    ensures room { IfOk result (λ made. (needed : ℕ) → IsNeeded (method_seen method) (filter_list list.now).rules needed → needed ≤ sizes.limit) }
+    ensures room { IfOk result (λ made. IsRoom (method_seen method) (filter_list list.now).rules sizes.limit) }
 {
     match method {
         Method::Expand => expand_list(alloc, list, sizes.limit, sizes.slot),
         Method::Compile => compile_list(alloc, list, sizes.limit, sizes.slot),
         Method::Arrange(wanted) => arrange_list(alloc, list, wanted, sizes.limit, sizes.slot),
+        Method::Shorten(wanted) => shorten_list(alloc, list, wanted, sizes.limit, sizes.slot),
     }
 }
 
@@ -78,8 +80,10 @@ fn summary(method: Method, list: &RuleList, order: [u8; 5]) -> Summary
     let rules = list.rules.len() as u64;
     let flagged = list.flagged;
     match method {
-        Method::Expand | Method::Compile => Summary::Rules { rules, flagged },
-        Method::Arrange(_) => Summary::Ordered {
+        Method::Expand | Method::Compile | Method::Shorten(None) => {
+            Summary::Rules { rules, flagged }
+        }
+        Method::Arrange(_) | Method::Shorten(Some(_)) => Summary::Ordered {
             rules,
             flagged,
             order,

@@ -41,6 +41,16 @@ fn call<R: Abort + AllocGlobal>(
 /// The words that write a certificate.
 const CERT: [&str; 3] = ["cert", "list", "table"];
 
+/// Whether the program certifies that the list and the table decide every header alike.
+pub(super) fn are_certified<R: Abort + AllocGlobal>(
+    rt: &R,
+    list: &[u8],
+    table: &[u8],
+) -> Result<bool, Fail> {
+    let ended = call(rt, &CERT, list, table, b"", ROOM)?;
+    Ok(ended.status == 0)
+}
+
 /// Writes the certificate of a list and a table.
 fn check<R: Abort + AllocGlobal>(
     rt: &R,

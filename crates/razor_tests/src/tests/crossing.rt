@@ -30,7 +30,7 @@ fn add_line(alloc: Global, text: &mut Vec<u8>, place: u32) -> Result<(), Fail> {
 }
 
 /// These 1,024 lines, in this order or the other way round, and a last line that accepts all else.
-fn crossing(alloc: Global, reversed: bool) -> Result<Vec<u8>, Fail> {
+pub(super) fn crossing(alloc: Global, reversed: bool) -> Result<Vec<u8>, Fail> {
     let mut text = Vec::new(alloc);
     for place in 0..1024u32 {
         add_line(

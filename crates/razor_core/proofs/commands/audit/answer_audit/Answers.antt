@@ -1,4 +1,4 @@
-use Rattle.std.proofs.Common.{List, refl, subst, sym}
+use Rattle.std.proofs.Common.{List, refl, subst}
 use Rattle.razor_base.specs.Output.{AppendsFront}
 use Rattle.rule_audit.specs.declared.state.RuleState.{RuleState}
 use Rattle.razor_core.specs.Audit.{states_text}

@@ -1,4 +1,4 @@
-use Rattle.std.proofs.Common.{◌≡◌, ◌∙◌, ◌≤◌, List, None, ap, arith, inl, length, refl, subst, sym, ℕ}
+use Rattle.std.proofs.Common.{◌≡◌, ◌∙◌, List, None, ap, arith, inl, length, refl, ℕ}
 use Rattle.std.proofs.lemmas.List.{length-map, length-replicate}
 use Rattle.field_boxes.specs.NamedRules.{named_rule}
 use Rattle.filter_reader.specs.FirstSeen.{first_seen}

@@ -1,0 +1,59 @@
+use Rattle.std.proofs.Common.{[], ◌∷◌, inl, refl, subst, sym, true}
+use Rattle.ternary_words.specs.TableText.{table_text}
+use Rattle.ternary_words.specs.Views.{table_of}
+use Rattle.table_text.proofs.TableTexts.{table-read}
+use Rattle.command_words.specs.Command.{Trim}
+use Rattle.razor_core.specs.Inputs.{table_input}
+use Rattle.razor_core.specs.Outcome.{IsTextOf, Outcome}
+use Rattle.razor_core.specs.Outside.{seen}
+use Rattle.razor_core.specs.Taking.{table_value_of}
+use Rattle.razor_core.proofs.Ended.{cut_off_ends, done_ends, turn_ends}
+use Rattle.razor_core.proofs.SpelledNames.{AreSpelled}
+use Rattle.razor_core.proofs.TrimEnding.{free, other_stops}
+use Rattle.razor_core.proofs.Turns.{kept, passed_taken, read_taken}
+use Rattle.razor_core.proofs.commands.trim.trim_table.Goals as goal
+
+pub returns-in-Err-clause-ends : goal.returns-in-Err-clause-ends
+returns-in-Err-clause-ends g c =
+    let file = c.args.file.now in
+    let before = seen g.D.Desk.remaining g.D.Desk.faults g.K.Sink.written g.K.Sink.faults c.args.desk.now c.args.out.now in
+    let after = seen g.D.Desk.remaining g.D.Desk.faults g.K.Sink.written g.K.Sink.faults c.take.new.desk c.args.out.now in
+    let still = kept (g.K.Sink.written c.args.out.now) in
+    turn_ends (Trim file) before after [] [] (table_input file) [] c.in-Err.ending (record { inputs_are = refl; passed = tt; kept = tt })
+    (record { keeps = still; cut = λ file e. still; calm = refl; short = still }) c.in-Err.ensures.turn
+
+pub returns-in-Some-clause-ends : goal.returns-in-Some-clause-ends
+returns-in-Some-clause-ends g c =
+    let before = seen g.D.Desk.remaining g.D.Desk.faults g.K.Sink.written g.K.Sink.faults c.args.desk.now c.args.out.now in
+    let after = seen g.D.Desk.remaining g.D.Desk.faults g.K.Sink.written g.K.Sink.faults c.take.new.desk c.args.out.now in
+    other_stops c.args.file.now before after c.in-Ok.table c.in-Ok.ensures.turn c.in-Some.place (rw c.deref.ensures.value at c.in-Some.ensures) (kept (g.K.Sink.written c.args.out.now))
+
+pub trimmed-requires : goal.trimmed-requires
+trimmed-requires g c = rw c.deref.ensures.value at c.in_default.ensures
+
+pub returns-in-Ok-write_table-clause-ends : goal.returns-in-Ok-write_table-clause-ends
+returns-in-Ok-write_table-clause-ends g c =
+    let file = c.args.file.now in
+    let before = seen g.D.Desk.remaining g.D.Desk.faults g.K.Sink.written g.K.Sink.faults c.args.desk.now c.args.out.now in
+    let after = seen g.D.Desk.remaining g.D.Desk.faults g.K.Sink.written g.K.Sink.faults c.take.new.desk c.write_table.new.out in
+    let taken = c.in-Ok.ensures.turn in
+    let value = table_value_of c.in-Ok.table in
+    let table = table_of c.in-Ok-trimmed.table in
+    let text : IsTextOf table (table_text table) = record { written = refl; spells = table-read c.in-Ok-trimmed.table (subst AreSpelled (sym c.in-Ok-trimmed.ensures.names) c.in-Ok.ensures.holds) } in
+    let outcome : Outcome = record { yes = true; text = table_text table; line = [] } in (
+      refl,
+      λ tells. done_ends (Trim file) before after (value ∷ []) outcome true (passed_taken (table_input file) (before.remaining file) (after.remaining file) value taken, tt) (free file before after c.in-Ok.table taken (rw c.deref.ensures.value at c.in_default.ensures)) (table, c.in-Ok-trimmed.ensures.trimmed, text, refl, refl) refl
+          c.in-Ok-write_table.ensures.ok (read_taken (table_input file) (before.remaining file) (after.remaining file) value taken tells.0, tt) tells,
+    )
+
+pub returns-clause-ends : goal.returns-clause-ends
+returns-clause-ends g c =
+    let file = c.args.file.now in
+    let before = seen g.D.Desk.remaining g.D.Desk.faults g.K.Sink.written g.K.Sink.faults c.args.desk.now c.args.out.now in
+    let after = seen g.D.Desk.remaining g.D.Desk.faults g.K.Sink.written g.K.Sink.faults c.take.new.desk c.write_table.new.out in
+    let value = table_value_of c.in-Ok.table in
+    let table = table_of c.in-Ok-trimmed.table in
+    let text : IsTextOf table (table_text table) = record { written = refl; spells = table-read c.in-Ok-trimmed.table (subst AreSpelled (sym c.in-Ok-trimmed.ensures.names) c.in-Ok.ensures.holds) } in
+    let outcome : Outcome = record { yes = true; text = table_text table; line = [] } in
+    cut_off_ends (Trim file) before after (value ∷ []) outcome (passed_taken (table_input file) (before.remaining file) (after.remaining file) value c.in-Ok.ensures.turn, tt) (inl (free file before after c.in-Ok.table c.in-Ok.ensures.turn (rw c.deref.ensures.value at c.in_default.ensures))) (table, c.in-Ok-trimmed.ensures.trimmed, text, refl, refl)
+    c.in-Err-write_table.ensures.failed c.in-Err-write_table.ensures.err

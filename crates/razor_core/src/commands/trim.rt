@@ -1,0 +1,76 @@
+//! `trim`: a table without its redundant entries.
+ghost use Rattle.std.specs.Prelude.{◌≡◌, ◌≢◌, ℕ, List, IfOk};
+ghost use Rattle.std.specs.Io.KnownBytes.{Keeps};
+ghost use Rattle.command_words.specs.Command.{Trim};
+ghost use Rattle.partition_check.specs.PrefixWords.{ArePrefixes};
+ghost use Rattle.ternary_words.specs.Views.{table_of};
+ghost use Rattle.razor_core.specs.Ending.{Ends};
+ghost use Rattle.razor_core.specs.Outside.{seen};
+ghost use Rattle.razor_core.specs.Trim.{IsTrimmedTable};
+
+use crate::ending::{Ending, Summary};
+use crate::line_reason::LineReason;
+use crate::taking::take;
+use crate::texts::TableText;
+use partition_check::first_other;
+use razor_base::{Desk, Memory, Sink};
+use rule_shortening::trim;
+use std::alloc::Global;
+use table_steps::laws::parts;
+use ternary_words::{Table, write_table};
+
+/// Writes a table without its redundant entries.
+pub fn trim_table<'a, D: Desk, K: Sink>(
+    alloc: Global,
+    file: &'a str,
+    desk: &mut D,
+    out: &mut K,
+) -> Ending<'a>
+    ensures ends { Ends (Trim file.now)
+        (seen D.remaining D.faults K.written K.faults desk.old out.old)
+        (seen D.remaining D.faults K.written K.faults desk.new out.new)
+        result }
+    ensures others { (other : List ℕ) → other ≢ file.now → Keeps (D.remaining desk.old other) (D.remaining desk.new other) }
+{
+    let table = match take(alloc, &TableText, file, desk) {
+        Ok(table) => table,
+        Err(ending) => return ending,
+    };
+    if let Some(place) = first_other(&table.entries) {
+        return Ending::BadLine {
+            file,
+            line: place as u64 + 2,
+            reason: LineReason::NotPrefix,
+        };
+    }
+    let table = match trimmed(alloc, table) {
+        Ok(table) => table,
+        Err(_) => return Ending::Memory,
+    };
+    match write_table(&table, out) {
+        Ok(()) => Ending::Done(Summary::Nothing),
+        Err(_) => Ending::WriteFault,
+    }
+}
+
+/// The table with the entries that are needed in the place of all.
+fn trimmed(alloc: Global, table: Table) -> Result<Table, Memory>
+    requires { ArePrefixes table.entries.items }
+    ensures trimmed { IfOk result (λ trimmed. IsTrimmedTable (table_of table) (table_of trimmed)) }
+    ensures names { IfOk result (λ trimmed. trimmed.names ≡ table.names) }
+{
+    parts();
+    let Table {
+        slot,
+        composed,
+        entries,
+        names,
+    } = table;
+    names.are_names();
+    Ok(Table {
+        slot,
+        composed,
+        entries: trim(alloc, entries)?,
+        names,
+    })
+}
