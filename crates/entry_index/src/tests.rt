@@ -1,4 +1,4 @@
-use crate::{Cube, Row, Table, View};
+use crate::{Cube, Row, Table, View, covered, raised, sharp};
 use std::process::Abort;
 use std::test::Fail;
 
@@ -112,4 +112,37 @@ fn assert_same(rt: &impl Abort, rows: &[Row]) {
         let header = u128::from(header);
         assert_eq!(rt; answer(rows, header), answer(&ROWS, header));
     }
+}
+
+/// The halves of the space by its lowest bit, and a cube of two fixed bits.
+const HALVES: [Cube; 2] = [Cube { value: 0, mask: 1 }, Cube { value: 1, mask: 1 }];
+
+const CORNER: Cube = Cube {
+    value: 0b0110,
+    mask: 0b0110,
+};
+
+#[test]
+fn cubes_are_covered_and_cut(rt: HostRuntime) -> Result<(), Fail> {
+    let alloc = rt.alloc();
+    let mut scratch = Vec::new(alloc);
+    assert!(rt; covered(CORNER, &HALVES, &mut scratch)?);
+    assert!(rt; !covered(CORNER, &HALVES[..1], &mut scratch)?);
+    let pieces = sharp(alloc, HALVES[0], &[CORNER])?.ok_or("too many")?;
+    assert_eq!(rt; pieces.len(), 2);
+    assert_eq!(rt; raised(CORNER, 0b0010).mask, 0b0100);
+    assert_eq!(rt; CORNER.word().mask, 0b0110);
+    Ok(())
+}
+
+#[test]
+fn rows_inside_are_found(rt: HostRuntime) -> Result<(), Fail> {
+    let alloc = rt.alloc();
+    let table = Table::new(alloc, &ROWS)?;
+    let mut view = View::new(alloc);
+    let mut found = Vec::new(alloc);
+    table.inside(ROWS[3].cube, 1, 0b1000, &mut view, &mut found)?;
+    let ids: Vec<usize> = found.iter().map(|row| row.0).collect(alloc)?;
+    assert_eq!(rt; ids.as_slice(), [0, 3, 4, 5].as_slice());
+    Ok(())
 }

@@ -1,9 +1,10 @@
 //! Whether an entry is needed, with a header to show for it.
 
-ghost use Rattle.std.specs.Prelude.{◌<◌, IfOk, length};
+ghost use Rattle.std.specs.Prelude.{◌<◌, ◌≢◌, IfOk, IfSome, length};
 ghost use Rattle.std.specs.Bool.{OnTrue};
 ghost use Rattle.std.specs.List.{remove};
 ghost use Rattle.field_boxes.specs.Alike.{AreApart, IsTight};
+ghost use Rattle.field_boxes.specs.Fields.{IsHeader};
 ghost use Rattle.ternary_words.specs.Entries.{answer};
 ghost use Rattle.table_steps.specs.Needs.{IsNeed};
 
@@ -30,16 +31,32 @@ pub fn needs(alloc: Global, table: &[Entry], place: usize, budget: u32) -> Resul
     if redundant(alloc, table, place, budget)? {
         return Ok(Need::Redundant);
     }
+    match shown(alloc, table, place, budget)? {
+        Some(header) => Ok(Need::Needed(header)),
+        None => Ok(Need::Unknown),
+    }
+}
+
+/// A header that the table answers otherwise without the entry at the place, if one is found.
+fn shown(
+    alloc: Global,
+    table: &[Entry],
+    place: usize,
+    budget: u32,
+) -> Result<Option<Header>, Memory>
+    requires { place < length table.now }
+    ensures { IfOk result (λ found. IfSome found (λ header. IsHeader header.values × (answer (remove table.now place) header.values ≢ answer table.now header.values))) }
+{
     let entry = table[place];
     let before = &table[..place];
     let later = &table[place + 1..];
     let Some(header) = candidate(alloc, before, &entry, later, budget)? else {
-        return Ok(Need::Unknown);
+        return Ok(None);
     };
     if is_wanted(before, &entry, later, &header) {
-        return Ok(Need::Needed(header));
+        return Ok(Some(header));
     }
-    Ok(Need::Unknown)
+    Ok(None)
 }
 
 /// Whether no entry can be left out alone; no where that isn't seen.
@@ -59,9 +76,5 @@ fn is_needed(alloc: Global, table: &[Entry], place: usize, budget: u32) -> Resul
     requires { place < length table.now }
     ensures { IfOk result (λ yes. OnTrue yes (AreApart (answer (remove table.now place)) (answer table.now))) }
 {
-    match needs(alloc, table, place, budget)? {
-        Need::Needed(_header) => Ok(true),
-        Need::Redundant => Ok(false),
-        Need::Unknown => Ok(false),
-    }
+    Ok(shown(alloc, table, place, budget)?.is_some())
 }

@@ -1,5 +1,5 @@
 use Rattle.table_steps.proofs.Kept.{wanted-apart}
-use Rattle.table_steps.proofs.need.needs.Goals as goal
+use Rattle.table_steps.proofs.need.shown.Goals as goal
 
 pub returns-then-is_wanted : goal.returns-then-is_wanted
 returns-then-is_wanted c =
