@@ -1,0 +1,246 @@
+-- Numbers of decisions in a list of names that grows.
+use Rattle.std.proofs.Common.{◌≡◌, ◌⊎◌, ◌≤◌, ◌<◌, ◌+◌, ◌-◌, ◌∷◌, ◌++◌, ◌&&◌, nat_eq, ℕ, zero, suc, min, Bool, true, false, ◌==◌, if◌then◌else◌, List, [], Option, Some, None, option_map, length, map, slice_get, slice_index, inl, inr, refl, ap, sym, ◌∙◌, subst, arith, replicate, append-nil, length-append, append_assoc}
+use Rattle.std.specs.Prelude.{IfSome}
+use Rattle.std.proofs.lemmas.Bool.{cases_eq}
+use Rattle.std.proofs.lemmas.Option.{slice_get-map}
+use Rattle.std.proofs.lemmas.List.Elements.{All-head, All-tail, All-nil, All-cons}
+use Rattle.field_boxes.specs.Names.{name_at, with_name, is_known, miss, text_of}
+use Rattle.ternary_words.specs.Limits.{AreNumbered}
+use Rattle.ternary_words.specs.Views.{entry_of, word_of}
+use Rattle.ternary_words.specs.Table as words
+use Rattle.ternary_words.specs.declared.entry.Entry.{Entry}
+use Rattle.ternary_words.specs.declared.word.Word.{Word}
+use Rattle.slot_patch.specs.Banks.{Bank, bank_of, table_in}
+use Rattle.slot_patch.specs.Least.{least_slots, same_word}
+use Rattle.slot_patch.specs.Machine.{IsOldOrNew, Patch, State, aborted, begun, begun_with, moved, reached, reached_by, settle, stepped, turned_back, with_patch}
+use Rattle.slot_patch.specs.Moving.{entries_in}
+use Rattle.slot_patch.specs.Naming.{AreNumbersOf, Grow, HaveWordsOf, IsAnswer, IsNumbered, renumbered}
+use Rattle.slot_patch.specs.declared.plan.Write.{Write}
+use Rattle.slot_patch.proofs.Naming.{named}
+
+abbrev Names : Type 0
+Names = List (List ℕ)
+
+-- a decision's number, at most so many
+abbrev UpTo : ℕ → Entry → Type 0
+UpTo n e = e.decision ≤ n
+
+get_front : (xs ys : Names) (k : ℕ) → k < length xs → slice_get (xs ++ ys) k ≡ slice_get xs k
+get_front [] ys k h = absurd (omega (arith, h))
+get_front (x ∷ xs) ys zero h = refl
+get_front (x ∷ xs) ys (suc k) h = get_front xs ys k (omega (arith, h))
+
+pub name-kept : (before now : Names) (n : ℕ) → Grow before now → n ≤ length before → name_at now n ≡ name_at before n
+name-kept before now zero g h = refl
+name-kept before now (suc k) g h = ap (λ (names : Names). slice_get names k) g.1 ∙ get_front before g.0 k (omega (arith, h))
+
+entries_kept : (before now : Names) (es : List Entry) → Grow before now → AreNumbered (length before) es → map (entry_of now) es ≡ map (entry_of before) es
+entries_kept before now [] g h = refl
+entries_kept before now (e ∷ es) g h =
+    let head = All-head (UpTo (length before)) e es h in
+    let name = name-kept before now e.decision g head in
+    let one : entry_of now e ≡ entry_of before e = ap (λ (d : Option (List ℕ)). let x : words.Entry = record { word = word_of e.word; decision = d } in x) name in
+    ap (λ (x : words.Entry). x ∷ map (entry_of now) es) one
+    ∙ ap (λ (xs : List words.Entry). entry_of before e ∷ xs) (entries_kept before now es g (All-tail (UpTo (length before)) e es h))
+
+pub table-kept : (before now : Names) (slots : List (Option Entry)) → Grow before now → AreNumbered (length before) (entries_in slots) → table_in now slots ≡ table_in before slots
+table-kept before now slots g h = entries_kept before now (entries_in slots) g h
+
+up_more : (m n : ℕ) (es : List Entry) → m ≤ n → AreNumbered m es → AreNumbered n es
+up_more m n es le h = λ k d small. let x = h k d small in omega (arith, x, le)
+
+grown : (before now : Names) → Grow before now → length before ≤ length now
+grown before now g = let e = ap length g.1 in let long = length-append before g.0 in omega (arith, e, long)
+
+pending_kept : (m n : ℕ) (p : Option Patch) → m ≤ n → IfSome p (λ (q : Patch). AreNumbered m (entries_in q.new)) → IfSome p (λ (q : Patch). AreNumbered n (entries_in q.new))
+pending_kept m n None le h = tt
+pending_kept m n (Some p) le h = up_more m n (entries_in p.new) le h
+
+pub numbered-kept : (before now : Names) (s : State) → Grow before now → IsNumbered before s → IsNumbered now s
+numbered-kept before now s g h = record {
+  settled = up_more (length before) (length now) (entries_in s.settled) (grown before now g) h.settled;
+  pending = pending_kept (length before) (length now) s.pending (grown before now g) h.pending;
+}
+
+-- growing
+
+pub grow-none : (names : Names) → Grow names names
+grow-none names = ([], sym (append-nil names))
+
+pub grow-on : (a b c : Names) → Grow a b → Grow b c → Grow a c
+grow-on a b c g h = (g.0 ++ h.0, h.1 ∙ ap (λ (ns : Names). ns ++ h.0) g.1 ∙ append_assoc a g.0 h.0)
+
+with_case : (names : Names) (name : List ℕ) (t : Bool) → Grow names (if t then names else names ++ name ∷ [])
+with_case names name true = grow-none names
+with_case names name false = (name ∷ [], refl)
+
+pub grow-with : (names : Names) (name : List ℕ) → Grow names (with_name names name)
+grow-with names name = with_case names name (is_known names name)
+
+-- numbers of the same names
+
+renamed_one : (names list : Names) (numbers : List ℕ) (e : Entry) → AreNumbersOf (length names) names list numbers → e.decision ≤ length names → entry_of list (renumbered numbers e) ≡ entry_of names e
+renamed_one names list numbers e h small =
+    ap (λ (d : Option (List ℕ)). let x : words.Entry = record { word = word_of e.word; decision = d } in x) (h.same e.decision small)
+
+pub renamed : (names list : Names) (numbers : List ℕ) (es : List Entry) → AreNumbersOf (length names) names list numbers → AreNumbered (length names) es →
+    map (entry_of list) (map (renumbered numbers) es) ≡ map (entry_of names) es
+renamed names list numbers [] h small = refl
+renamed names list numbers (e ∷ es) h small =
+    ap (λ (x : words.Entry). x ∷ map (entry_of list) (map (renumbered numbers) es)) (renamed_one names list numbers e h (All-head (UpTo (length names)) e es small))
+    ∙ ap (λ (xs : List words.Entry). entry_of names e ∷ xs) (renamed names list numbers es h (All-tail (UpTo (length names)) e es small))
+
+pub renumbered-within : (names list : Names) (numbers : List ℕ) (es : List Entry) → AreNumbersOf (length names) names list numbers → AreNumbered (length names) es →
+    AreNumbered (length list) (map (renumbered numbers) es)
+renumbered-within names list numbers [] h small = All-nil (UpTo (length list))
+renumbered-within names list numbers (e ∷ es) h small =
+    All-cons (UpTo (length list)) (renumbered numbers e) (map (renumbered numbers) es) (h.within e.decision (All-head (UpTo (length names)) e es small))
+    (renumbered-within names list numbers es h (All-tail (UpTo (length names)) e es small))
+
+pub renumbered-words : (numbers : List ℕ) (es : List Entry) → HaveWordsOf (map (renumbered numbers) es) es
+renumbered-words numbers [] = tt
+renumbered-words numbers (e ∷ es) = (refl, renumbered-words numbers es)
+
+pub numbers-none : (names list : Names) (numbers : List ℕ) → numbers ≡ 0 ∷ [] → AreNumbersOf 0 names list numbers
+numbers-none names list numbers is = record {
+  many = ap length is;
+  same = λ k h. let zero_is : k ≡ 0 = omega (arith, h) in
+      ap (λ n. name_at list (slice_index numbers n)) zero_is ∙ ap (λ (ns : List ℕ). name_at list (slice_index ns 0)) is ∙ ap (name_at names) (sym zero_is);
+  within = λ k h. let zero_is : k ≡ 0 = omega (arith, h) in
+      let e = ap (slice_index numbers) zero_is ∙ ap (λ (ns : List ℕ). slice_index ns 0) is in omega (arith, e);
+}
+
+name_there : (names : Names) (k : ℕ) → k < length names → name_at names (suc k) ≡ Some (text_of (name_at names (suc k)))
+name_there [] k h = absurd (omega (arith, h))
+name_there (x ∷ names) zero h = refl
+name_there (x ∷ names) (suc k) h = name_there names k (omega (arith, h))
+
+index_front : (xs : List ℕ) (n k : ℕ) → k < length xs → slice_index (xs ++ n ∷ []) k ≡ slice_index xs k
+index_front [] n k h = absurd (omega (arith, h))
+index_front (x ∷ xs) n zero h = refl
+index_front (x ∷ xs) n (suc k) h = index_front xs n k (omega (arith, h))
+
+index_last : (xs : List ℕ) (n : ℕ) → slice_index (xs ++ n ∷ []) (length xs) ≡ n
+index_last [] n = refl
+index_last (x ∷ xs) n = index_last xs n
+
+pub numbers-more : (names before now : Names) (numbers made : List ℕ) (count n : ℕ) (text : List ℕ) → AreNumbersOf count names before numbers → Grow before now → name_at now n ≡ Some text →
+    text ≡ text_of (name_at names (suc count)) → count < length names → n ≤ length now → made ≡ numbers ++ n ∷ [] → AreNumbersOf (suc count) names now made
+numbers-more names before now numbers made count n text h g name is less small made_is =
+    let many = h.many in
+    let long = length-append numbers (n ∷ []) in
+    let more = grown before now g in
+    let last : slice_index made (suc count) ≡ n = ap (λ (ns : List ℕ). slice_index ns (suc count)) made_is ∙ ap (slice_index (numbers ++ n ∷ [])) (sym many) ∙ index_last numbers n in
+    let front = λ (k : ℕ) (le : k ≤ count). (ap (λ (ns : List ℕ). slice_index ns k) made_is ∙ index_front numbers n k (omega (arith, le, many))) in
+    record {
+      many = ap length made_is ∙ (let e : length (numbers ++ n ∷ []) ≡ suc (suc count) = omega (arith, long, many) in e);
+      same = λ k le. elim (cases_eq k (suc count)) [
+        | inl same ↦ ap (λ m. name_at now (slice_index made m)) same ∙ ap (name_at now) last ∙ name ∙ ap (λ (t : List ℕ). let o : Option (List ℕ) = Some t in o) is
+            ∙ sym (name_there names count less) ∙ ap (name_at names) (sym same)
+        | inr other ↦
+            let low : k ≤ count = omega (arith, le, other) in
+            ap (name_at now) (front k low) ∙ name-kept before now (slice_index numbers k) g (h.within k low) ∙ h.same k low
+      ];
+      within = λ k le. elim (cases_eq k (suc count)) [
+        | inl same ↦ let e = ap (slice_index made) same ∙ last in omega (arith, e, small)
+        | inr other ↦
+            let low : k ≤ count = omega (arith, le, other) in
+            let f = front k low in
+            let w = h.within k low in
+            omega (arith, f, w, more)
+      ];
+    }
+
+-- how many slots are needed depends on words alone
+
+same_either : (a b c : Entry) → b.word ≡ c.word → same_word a b ≡ same_word a c
+same_either a b c h = ap (λ (w : Word). nat_eq a.word.mask w.mask && nat_eq a.word.value w.value) h
+
+pub least-alike : (old made new : List Entry) → HaveWordsOf made new → least_slots same_word old made ≡ least_slots same_word old new
+least-alike [] [] [] h = refl
+least-alike [] [] (b ∷ new) h = absurd h
+least-alike [] (m ∷ made) [] h = absurd h
+least-alike [] (m ∷ made) (b ∷ new) h = ap suc (least-alike [] made new h.1)
+least-alike (a ∷ old) [] [] h = refl
+least-alike (a ∷ old) [] (b ∷ new) h = absurd h
+least-alike (a ∷ old) (m ∷ made) [] h = absurd h
+least-alike (a ∷ old) (m ∷ made) (b ∷ new) h =
+    let x = least-alike old (m ∷ made) (b ∷ new) h in
+    let y = least-alike (a ∷ old) made new h.1 in
+    let z = least-alike old made new h.1 in
+    let t = same_either a m b h.0 in
+    ap (λ n. suc (min (min n (least_slots same_word (a ∷ old) made)) (if same_word a m then least_slots same_word old made else n))) x
+    ∙ ap (λ n. suc (min (min (least_slots same_word old (b ∷ new)) n) (if same_word a m then least_slots same_word old made else least_slots same_word old (b ∷ new)))) y
+    ∙ ap (λ n. suc (min (min (least_slots same_word old (b ∷ new)) (least_slots same_word (a ∷ old) new)) (if same_word a m then n else least_slots same_word old (b ∷ new)))) z
+    ∙ ap (λ u. suc (min (min (least_slots same_word old (b ∷ new)) (least_slots same_word (a ∷ old) new)) (if u then least_slots same_word old new else least_slots same_word old (b ∷ new)))) t
+
+pub length-words : (made new : List Entry) → HaveWordsOf made new → length made ≡ length new
+length-words [] [] h = refl
+length-words [] (b ∷ new) h = absurd h
+length-words (m ∷ made) [] h = absurd h
+length-words (m ∷ made) (b ∷ new) h = ap suc (length-words made new h.1)
+
+-- the machine's states
+
+back_case : (names : Names) (s : State) (p : Patch) (over : Bool) → AreNumbered (length names) (entries_in s.settled) → AreNumbered (length names) (entries_in p.new) →
+    IsNumbered names (if over then with_patch s None else with_patch s (Some p))
+back_case names s p true h g = record { settled = h; pending = tt }
+back_case names s p false h g = record { settled = h; pending = g }
+
+ahead_case : (names : Names) (s : State) (p : Patch) (over : Bool) → AreNumbered (length names) (entries_in s.settled) → AreNumbered (length names) (entries_in p.new) →
+    IsNumbered names (if over then settle p else with_patch s (Some p))
+ahead_case names s p true h g = record { settled = g; pending = tt }
+ahead_case names s p false h g = record { settled = h; pending = g }
+
+way_case : (names : Names) (s : State) (p : Patch) (back none all : Bool) → AreNumbered (length names) (entries_in s.settled) → AreNumbered (length names) (entries_in p.new) →
+    IsNumbered names (if back then (if none then with_patch s None else with_patch s (Some p)) else (if all then settle p else with_patch s (Some p)))
+way_case names s p true none all h g = back_case names s p none h g
+way_case names s p false none all h g = ahead_case names s p all h g
+
+pub numbered-reached : (names : Names) (s : State) (p : Patch) → AreNumbered (length names) (entries_in s.settled) → AreNumbered (length names) (entries_in p.new) → IsNumbered names (reached s p)
+numbered-reached names s p h g = way_case names s p p.back (p.done == 0) (p.done == length p.writes) h g
+
+changed_case : (names : Names) (change : Patch → Patch) (s : State) (p : Option Patch) → ((q : Patch) → (change q).new ≡ q.new) → AreNumbered (length names) (entries_in s.settled) →
+    IfSome p (λ (q : Patch). AreNumbered (length names) (entries_in q.new)) → IsNumbered names s → IsNumbered names (reached_by change s p)
+changed_case names change s None same h g n = n
+changed_case names change s (Some p) same h g n =
+    numbered-reached names s (change p) h (subst (λ (slots : List (Option Entry)). AreNumbered (length names) (entries_in slots)) (sym (same p)) g)
+
+pub numbered-stepped : (names : Names) (s : State) → IsNumbered names s → IsNumbered names (stepped s)
+numbered-stepped names s n = changed_case names moved s s.pending (λ q. refl) n.settled n.pending n
+
+pub numbered-aborted : (names : Names) (s : State) → IsNumbered names s → IsNumbered names (aborted s)
+numbered-aborted names s n = changed_case names turned_back s s.pending (λ q. refl) n.settled n.pending n
+
+begun_case : (names : Names) (s : State) (p : Option Patch) (writes : List Write) (next : List (Option Entry)) → IsNumbered names s → AreNumbered (length names) (entries_in next) →
+    IsNumbered names (begun_with s p writes next)
+begun_case names s None writes next n h = numbered-reached names s (record { writes = writes; new = next; done = 0; back = false }) n.settled h
+begun_case names s (Some p) writes next n h = n
+
+pub numbered-begun : (names : Names) (s : State) (writes : List Write) (next : List (Option Entry)) → IsNumbered names s → AreNumbered (length names) (entries_in next) →
+    IsNumbered names (begun s writes next)
+numbered-begun names s writes next n h = begun_case names s s.pending writes next n h
+
+none_numbered : (count n : ℕ) → entries_in (replicate count None) ≡ []
+none_numbered zero n = refl
+none_numbered (suc count) n = none_numbered count n
+
+pub numbered-none : (names : Names) (count : ℕ) → IsNumbered names (record { settled = replicate count None; pending = None })
+numbered-none names count = record { settled = subst (AreNumbered (length names)) (sym (none_numbered count 0)) (All-nil (UpTo (length names))); pending = tt }
+
+-- a number behind the last name has none
+pub text-none : {K : Type 0} (text : K → List ℕ) (keys : List K) (n : ℕ) → (n ≡ 0 → ⊥) → slice_get keys (n - 1) ≡ None → text_of (name_at (map text keys) n) ≡ miss
+text-none text keys zero apart none = absurd (apart refl)
+text-none text keys (suc k) apart none =
+    ap text_of (slice_get-map text keys k ∙ ap (option_map text) (ap (slice_get keys) (let e : k ≡ suc k - 1 = omega arith in e) ∙ none))
+
+pub bank-none : (n : ℕ) → bank_of (replicate n None) ≡ replicate n None
+bank-none zero = refl
+bank-none (suc n) = ap (λ (slots : Bank). None ∷ slots) (bank-none n)
+
+-- what a look-up answers by name
+
+pub answers : (names : Names) (s : State) (p : Option Patch) (values text : List ℕ) (n : ℕ) → IsOldOrNew s p values n → text ≡ text_of (name_at names n) → IsAnswer names s p values text
+answers names s None values text n h is = is ∙ ap (λ m. text_of (name_at names m)) h ∙ ap text_of (named names s.settled values)
+answers names s (Some p) values text n (inl h) is = inl (is ∙ ap (λ m. text_of (name_at names m)) h ∙ ap text_of (named names s.settled values))
+answers names s (Some p) values text n (inr h) is = inr (is ∙ ap (λ m. text_of (name_at names m)) h ∙ ap text_of (named names p.new values))

@@ -1,0 +1,52 @@
+//! A new table whole, beside the old one.
+ghost use Rattle.std.specs.Prelude.{◌≡◌, ◌≤◌, ◌+◌, ◌<◌, ◌^◌, length, IfOk};
+ghost use Rattle.slot_patch.specs.Banks.{bank_of};
+ghost use Rattle.slot_patch.specs.Layouts.{free_slots};
+ghost use Rattle.slot_patch.specs.Moving.{entries_in};
+ghost use Rattle.slot_patch.specs.Plans.{IsPatch};
+
+use crate::draft::in_place;
+use crate::plan::Plan;
+use razor_base::Memory;
+use std::alloc::Global;
+use ternary_words::Entry;
+
+/// The plan that writes the table whole into free slots, and then clears the old one.
+pub(crate) fn plan_beside(
+    alloc: Global,
+    held: &[Option<Entry>],
+    table: &[Entry],
+) -> Result<Plan, Memory>
+    requires few { length held.now < 2 ^ 32 }
+    requires room { length (entries_in held.now) + length table.now ≤ length held.now }
+    ensures patch { IfOk result (λ plan. IsPatch (bank_of held.now) (bank_of plan.table.items) plan.writes.items) }
+    ensures entries { IfOk result (λ plan. entries_in plan.table.items ≡ table.now) }
+    ensures slots { IfOk result (λ plan. length plan.table.items ≡ length held.now) }
+    ensures count { IfOk result (λ plan. length plan.writes.items ≡ length (entries_in held.now) + length table.now) }
+{
+    let next = into_free(alloc, held, table)?;
+    let plan = in_place(alloc, held, next)?;
+    Ok(plan)
+}
+
+/// The entries in the first free slots.
+fn into_free(
+    alloc: Global,
+    held: &[Option<Entry>],
+    table: &[Entry],
+) -> Result<Vec<Option<Entry>>, Memory>
+    ensures { IfOk result (λ next. next.items ≡ free_slots held.now table.now) }
+{
+    let mut next = Vec::new(alloc);
+    let mut rest = table;
+    for slot in held {
+        match (slot, rest) {
+            (None, [entry, behind @ ..]) => {
+                next.push(Some(*entry))?;
+                rest = behind;
+            }
+            _ => next.push(None)?,
+        }
+    }
+    Ok(next)
+}
