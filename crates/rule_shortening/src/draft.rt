@@ -17,7 +17,7 @@ use table_search::shorten_front;
 use ternary_words::Entry;
 
 /// Entries of one rule above which they are shortened before the next rule comes.
-const MANY: u128 = 100;
+const MANY: u128 = 300;
 
 /// Entries that stand for the rules from the place `first` on.
 #[derive(Drop)]

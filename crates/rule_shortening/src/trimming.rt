@@ -7,6 +7,7 @@ use crate::checked::STEPS;
 use razor_base::Memory;
 use redundancy::remove;
 use std::alloc::Global;
+use table_steps::laws::parts;
 use table_steps::{is_tight, tight};
 use ternary_words::Entry;
 
@@ -19,6 +20,10 @@ pub fn trim(alloc: Global, entries: Vec<Entry>) -> Result<Vec<Entry>, Memory>
     requires { ArePrefixes entries.items }
     ensures { IfOk result (λ kept. AreTrimmed entries.items kept.items) }
 {
+    parts();
+    if is_tight(alloc, entries.as_slice(), STEPS)? {
+        return Ok(entries);
+    }
     match trimmed_by_covers(alloc, entries.as_slice())? {
         Some(kept) => Ok(kept),
         None => remove(alloc, entries),
