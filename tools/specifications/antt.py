@@ -10,6 +10,10 @@ IMPORT = re.compile(r"^(?:pub )?use Rattle\.(\w+)\.specs\.([\w.]+?)(?:\.\{([^}]*
 HEAD = re.compile(r"(abbrev |unfoldable )?(pub )?(record |data )?([^\s:(){}]+) (.*)")
 BINDER = re.compile(r"[({]([^(){}:]+) :|λ ([^.]+)\.")
 WORD = re.compile(r"[^\s(){},;]+")
+MODULE = re.compile(r"^(?:pub )?mod (\w+)", re.MULTILINE)
+
+# The folder of specs/ with what the headline stands on.
+HEADLINE = "Headline"
 
 
 @dataclasses.dataclass(frozen=True)
@@ -78,17 +82,18 @@ def clause_of(text, is_clause, kind):
 class File:
     """A file of specs/."""
 
-    def __init__(self, crate, path):
-        self.crate, self.name = crate, path.stem
+    def __init__(self, crate, name):
+        self.crate, self.name = crate, name
+        path = specs_of(crate) / f"{name.replace('.', '/')}.antt"
         text = path.read_text()
         lines = text.splitlines()
         count = next((at for at, line in enumerate(lines) if not line.startswith("--")), len(lines))
         self.says = sentence(lines[:count])
         self.modules, self.names = imports(text)
-        self.definitions = {it.place.name: it for it in definitions(crate, path.stem, lines[count:])}
+        self.definitions = {it.place.name: it for it in definitions(crate, name, lines[count:])}
         for it in self.definitions.values():
             for name in (it.place.name, *it.constructors()):
-                self.names[name.replace("◌", "")] = Place(crate, path.stem, name)
+                self.names[name.replace("◌", "")] = Place(crate, self.name, name)
 
 
 def sentence(lines):
@@ -101,7 +106,7 @@ def imports(text):
     modules, names = {}, {}
     for crate, path, listed, alias in IMPORT.findall(text):
         # The constructors of a type may be imported from a path that ends with the type.
-        file = path if path.startswith("declared.") else path.partition(".")[0]
+        file = path if path.startswith("declared.") else ".".join(path.split(".")[: 2 if path.startswith(f"{HEADLINE}.") else 1])
         if listed:
             for one in listed.split(","):
                 name, _, other = one.strip().partition(" as ")
@@ -127,6 +132,20 @@ def definitions(crate, file, lines):
     return found
 
 
+def specs_of(crate):
+    return ROOT / "crates" / crate / "specs"
+
+
+def modules(crate):
+    """The files of a crate's specs/, as its Lib.antt and the list of the headline's folder name them."""
+    specs = specs_of(crate)
+    if not (specs / "Lib.antt").exists():
+        return []
+    names = MODULE.findall((specs / "Lib.antt").read_text())
+    within = MODULE.findall((specs / f"{HEADLINE}.antt").read_text()) if HEADLINE in names else []
+    return [*(f"{HEADLINE}.{name}" for name in within), *(name for name in names if name != HEADLINE)]
+
+
 def crates():
     """The crates, in the order of crates.txt."""
     return re.findall(r"^(\w+)(?: staticlib)?:", (ROOT / "crates.txt").read_text(), re.MULTILINE)
@@ -136,12 +155,7 @@ class Specifications:
     """All files of specs/ that their Lib.antt names."""
 
     def __init__(self):
-        self.files = {}
-        for crate in crates():
-            specs = ROOT / "crates" / crate / "specs"
-            if (specs / "Lib.antt").exists():
-                names = re.findall(r"^(?:pub )?mod (\w+)", (specs / "Lib.antt").read_text(), re.MULTILINE)
-                self.files |= {(crate, name): File(crate, specs / f"{name}.antt") for name in names}
+        self.files = {(crate, name): File(crate, name) for crate in crates() for name in modules(crate)}
         self.owners = {
             Place(*key, name): it
             for key, file in self.files.items()

@@ -4,7 +4,7 @@ use Rattle.std.specs.Prelude.{find, position, option_and_then, slice_index_or}
 use Rattle.std.specs.List.{position_from}
 use Rattle.std.proofs.lemmas.Iterator.Adapters.{position_from-zero}
 use Rattle.field_boxes.specs.Names.{name_at}
-use Rattle.ternary_words.specs.Table as words
+use Rattle.ternary_words.specs.Headline.Table as words
 use Rattle.ternary_words.specs.Limits.{AreNumbered}
 use Rattle.ternary_words.specs.Views.{entry_of}
 use Rattle.ternary_words.specs.declared.entry.Entry.{Entry}

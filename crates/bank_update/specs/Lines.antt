@@ -1,7 +1,7 @@
 -- The lines that a script prints.
 use Rattle.std.specs.Prelude.{ℕ, Bool, List, [], ◌∷◌, ◌++◌, codes, Option, Some, None, Result, Ok, Err, if◌then◌else◌}
 use Rattle.std.specs.Fmt.{decimal}
-use Rattle.field_boxes.specs.Names.{text_of}
+use Rattle.field_boxes.specs.Headline.Names.{text_of}
 use Rattle.bank_update.specs.declared.stage.Stage.{Stage}
 use Rattle.bank_update.specs.declared.refusal.BeginRefusal.{BeginRefusal}
 use Rattle.bank_update.specs.declared.refusal.BeginRefusal.TheVariants.{Busy, NoRoom}

@@ -1,8 +1,8 @@
 -- Replacing a table in a bank write by write: what is kept, and what each event answers and does.
 use Rattle.std.specs.Prelude.{ℕ, zero, suc, ◌+◌, ◌-◌, ◌==◌, Bool, false, true, cond, List, [], length, map, Option, Some, None, option_map, option_and_then, Result, Ok, Err, if◌then◌else◌, nat_le}
 use Rattle.field_boxes.specs.Names.{name_at}
-use Rattle.ternary_words.specs.Word.{agrees, header_bits}
-use Rattle.ternary_words.specs.Table as words
+use Rattle.ternary_words.specs.Headline.Word.{agrees, header_bits}
+use Rattle.ternary_words.specs.Headline.Table as words
 use Rattle.ternary_words.specs.Views.{entry_of}
 use Rattle.ternary_words.specs.declared.entry.Entry.{Entry}
 use Rattle.tcam_sim.specs.Slots.{Stored, look_up, stored}

@@ -1,6 +1,7 @@
 -- What the commands of a script do and print, each in its turn.
 use Rattle.std.specs.Prelude.{◌≡◌, ℕ, ◌+◌, ◌-◌, ◌≤◌, ◌^◌, ◌⊎◌, Bool, false, ◌&&◌, List, [], ◌∷◌, length, map, slice_get, Option, Some, None, is_some, if◌then◌else◌}
 use Rattle.ternary_words.specs.declared.table.Table.{Table}
+use Rattle.tcam_sim.specs.Tries.{counted_times}
 use Rattle.bank_update.specs.Lines.{begin_line, fault_line, look_line, stage_or_idle}
 use Rattle.bank_update.specs.Machine.{State, abort_answer, aborted, begin_answer, begun, looked, stage, step_answer, stepped}
 use Rattle.bank_update.specs.Script.{Event, Begin, Step, Abort, Look, Stage}
@@ -56,6 +57,14 @@ faults_of s Abort fails = 0
 faults_of s (Look values) fails = 0
 faults_of s Stage fails = 0
 
+-- how many writes are tried with a command: one by a step while a swap is pending, and none by any other
+abbrev pub tries_of : State → Event → ℕ
+tries_of s (Begin number) = 0
+tries_of s Step = if is_some s.pending then 1 else 0
+tries_of s Abort = 0
+tries_of s (Look values) = 0
+tries_of s Stage = 0
+
 -- the state after turns
 abbrev pub state_after : List Table → State → List Turn → State
 state_after tables s [] = s
@@ -70,6 +79,11 @@ lines_of tables s (turn ∷ turns) = line_of tables s turn.event turn.fails ∷ 
 abbrev pub fault_count : List Table → State → List Turn → ℕ
 fault_count tables s [] = 0
 fault_count tables s (turn ∷ turns) = faults_of s turn.event turn.fails + fault_count tables (next tables s turn.event turn.fails) turns
+
+-- how many writes are tried in turns
+abbrev pub try_count : List Table → State → List Turn → ℕ
+try_count tables s [] = 0
+try_count tables s (turn ∷ turns) = tries_of s turn.event + try_count tables (next tables s turn.event turn.fails) turns
 
 -- what the commands print where no device fails, and the state after them
 abbrev pub session : List Table → State → List Event → List (List ℕ)
@@ -91,3 +105,8 @@ pub record IsRun (tables : List Table) (start last : State) (before after : ℕ)
   pub state : last ≡ state_after tables start turns
   pub printed : lines ≡ lines_of tables start turns
   pub counted : RoseBy (fault_count tables start turns) before after
+
+-- such a run, in which each step tried one write while a swap was pending, and nothing else tried any
+pub record IsTriedRun (tables : List Table) (start last : State) (before after tried tries : ℕ) (events : List Event) (lines : List (List ℕ)) : Type 0 where
+  pub run : IsRun tables start last before after events lines
+  pub once : tries ≡ counted_times (try_count tables start run.turns) tried

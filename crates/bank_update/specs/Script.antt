@@ -3,9 +3,9 @@ use Rattle.std.specs.Prelude.{ℕ, ◌+◌, ◌≤◌, List, [], ◌∷◌, ◌+
 use Rattle.std.specs.Str.{bytes_eq}
 use Rattle.field_boxes.specs.Fields.{greatest_of}
 use Rattle.text_lines.specs.Columns.{columns, first_column}
-use Rattle.text_lines.specs.Lines.{text_lines, is_skipped}
-use Rattle.text_lines.specs.Numbers.{number_within}
-use Rattle.text_lines.specs.Steps.{◌>>=◌}
+use Rattle.text_lines.specs.Headline.Lines.{text_lines, is_skipped}
+use Rattle.text_lines.specs.Headline.Numbers.{number_within}
+use Rattle.text_lines.specs.Headline.Steps.{◌>>=◌}
 use Rattle.bank_update.specs.declared.reason.ScriptReason.{ScriptReason}
 use Rattle.bank_update.specs.declared.reason.ScriptReason.TheVariants as reasons
 

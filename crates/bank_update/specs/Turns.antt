@@ -4,14 +4,17 @@ use Rattle.razor_base.specs.Output.{Writes}
 use Rattle.ternary_words.specs.declared.table.Table.{Table}
 use Rattle.bank_update.specs.Machine.{State}
 use Rattle.bank_update.specs.Script.{Event}
-use Rattle.bank_update.specs.Runs.{RoseBy, faults_of, line_of, next}
+use Rattle.tcam_sim.specs.Tries.{counted_times}
+use Rattle.bank_update.specs.Runs.{RoseBy, faults_of, line_of, next, tries_of}
 
--- the command took its turn, and its line is written: the state goes on, and so does the device's count of faults
-pub record TakesTurn {S T E : Type 0} (written : S → Option (List ℕ)) (faults : S → ℕ) (before after : S) (tables : List Table) (old new : State) (failed fails : ℕ) (event : Event) (answer : Result T E) : Type 0 where
+-- the command took its turn, and its line is written: the state goes on, and so do the device's counts of faults and of
+-- tries
+pub record TakesTurn {S T E : Type 0} (written : S → Option (List ℕ)) (faults : S → ℕ) (before after : S) (tables : List Table) (old new : State) (failed fails tried tries : ℕ) (event : Event) (answer : Result T E) : Type 0 where
   pub breaks : Bool
   pub state : new ≡ next tables old event breaks
   pub counted : RoseBy (faults_of old event breaks) failed fails
   pub counts : failed ≤ fails
+  pub once : tries ≡ counted_times (tries_of old event) tried
   pub line : Writes written faults before after (line_of tables old event breaks) answer
 
 -- the answer of begin without the table

@@ -4,7 +4,7 @@ ghost use Rattle.std.specs.Io.KnownBytes.{Appends};
 ghost use Rattle.razor_base.specs.Faults.{Rose};
 ghost use Rattle.bank_update.specs.Commands.{event_of};
 ghost use Rattle.bank_update.specs.Driven.{Outcome, UnlessWriteFault};
-ghost use Rattle.bank_update.specs.Runs.{IsRun};
+ghost use Rattle.bank_update.specs.Runs.{IsTriedRun};
 ghost use Rattle.bank_update.specs.Script.{Begin, IsWithin};
 ghost use Rattle.bank_update.specs.Turns.{TakesTurn, without_table};
 ghost use Rattle.bank_update.specs.declared.drive.DriveError.TheVariants as errors;
@@ -67,7 +67,7 @@ fn begin<K: Sink, V: Device>(
 ) -> Result<Result<(), Failed>, Memory>
     requires within { IsWithin (length tables.now) (Begin number) }
     requires nothing { pending.old ≡ [] }
-    ensures turn { IfOk result (λ written. TakesTurn K.written K.faults out.old out.new tables.now swapper.old.state swapper.new.state (V.faults swapper.old.device) (V.faults swapper.new.device) (Begin number) written) }
+    ensures turn { IfOk result (λ written. TakesTurn K.written K.faults out.old out.new tables.now swapper.old.state swapper.new.state (V.faults swapper.old.device) (V.faults swapper.new.device) (V.tries swapper.old.device) (V.tries swapper.new.device) (Begin number) written) }
     ensures none { pending.new ≡ [] }
     ensures refused { OnErr result ((swapper.new ≡ swapper.old) × (out.new ≡ out.old)) }
 {
@@ -87,7 +87,7 @@ fn take_turn<K: Sink, V: Device>(
 ) -> Result<Result<(), Failed>, Memory>
     requires within { IsWithin (length tables.now) (event_of command) }
     requires nothing { pending.old ≡ [] }
-    ensures turn { IfOk result (λ written. TakesTurn K.written K.faults out.old out.new tables.now swapper.old.state swapper.new.state (V.faults swapper.old.device) (V.faults swapper.new.device) (event_of command) written) }
+    ensures turn { IfOk result (λ written. TakesTurn K.written K.faults out.old out.new tables.now swapper.old.state swapper.new.state (V.faults swapper.old.device) (V.faults swapper.new.device) (V.tries swapper.old.device) (V.tries swapper.new.device) (event_of command) written) }
     ensures none { pending.new ≡ [] }
     ensures refused { OnErr result ((swapper.new ≡ swapper.old) × (out.new ≡ out.old)) }
 {
@@ -106,6 +106,7 @@ fn take_turn<K: Sink, V: Device>(
 /// A write that fails stops it with the command done whose line is cut off, and memory that is refused stops
 /// it before the command that wanted a copy. So the swapper stands where the update machine stands after
 /// the commands that were done.
+#[inline(never)]
 pub fn drive_on<K: Sink, V: Device>(
     alloc: Global,
     script: &Script,
@@ -115,8 +116,9 @@ pub fn drive_on<K: Sink, V: Device>(
 ) -> Result<u64, DriveError>
     requires { All (IsWithin (length tables.now)) script.now }
 
-    // What ran by the end is a run of the machine, in which no more steps failed than the device's count rose by.
-    ensures outcome { Outcome (IsRun tables.now swapper.old.state swapper.new.state (V.faults swapper.old.device) (V.faults swapper.new.device))
+    // What ran by the end is a run of the machine, in which no more steps failed than the device's count rose by, and
+    // one write was tried by each step while a swap was pending.
+    ensures outcome { Outcome (IsTriedRun tables.now swapper.old.state swapper.new.state (V.faults swapper.old.device) (V.faults swapper.new.device) (V.tries swapper.old.device) (V.tries swapper.new.device))
         (Appends (K.written out.old) (K.written out.new)) script.now result }
     ensures counts { V.faults swapper.old.device ≤ V.faults swapper.new.device }
 

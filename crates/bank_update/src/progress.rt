@@ -36,7 +36,8 @@ impl Model for Progress {
 impl Progress {
     ghost use Rattle.bank_update.specs.Sound.{IsSound};
     ghost use Rattle.std.specs.Prelude.{◌≡◌, ◌+◌, ◌^◌, ◌<◌, ◌≤◌, length, Ok, None, option_map, slice_get, MatchOption};
-    ghost use Rattle.field_boxes.specs.Names.{name_at, text_of};
+    ghost use Rattle.field_boxes.specs.Headline.Names.{text_of};
+    ghost use Rattle.field_boxes.specs.Names.{name_at};
     ghost use Rattle.bank_update.specs.Machine.{abort_answer, aborted, begun_to, layout, names_for, place_for, reached, settle, stage, stage_of, step_answer, stepped, total, total_with, unsettled};
     ghost use Rattle.bank_update.specs.Kept.{block_from, block_of, swap_of};
     ghost use Rattle.bank_update.specs.Next.{IsNextWrite, MayReach};

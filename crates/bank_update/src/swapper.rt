@@ -35,7 +35,7 @@ impl<V: Device> Swapper<V> {
     ghost use Rattle.std.specs.Prelude.{◌≡◌, ◌≢◌, ◌≤◌, ◌↔◌, ℕ, List, None, Err, Ok, length, replicate, ok_or, IfOk, IfErr, OnOk, OnErr};
     ghost use Rattle.razor_base.specs.FaultPlan.{counted};
     ghost use Rattle.razor_base.specs.Faults.{Rose};
-    ghost use Rattle.field_boxes.specs.Names.{text_of};
+    ghost use Rattle.field_boxes.specs.Headline.Names.{text_of};
     ghost use Rattle.bank_update.specs.Machine.{abort_answer, aborted, begin_answer, begun, held, looked, old_or_new, stage, step_answer, stepped, unsettled};
     ghost use Rattle.bank_update.specs.Sound.{IsSound};
     ghost use Rattle.bank_update.specs.Swapping.{KeepsNew};

@@ -1,7 +1,7 @@
 -- Tables that are tight, by places.
 use Rattle.std.proofs.Common.{◌≡◌, ◌∷◌, ◌++◌, ◌<◌, ℕ, List, [], length, ap, sym, ◌∙◌, arith, suc, ◌≢◌, None, remove, take, drop, slice_index_or, length-append}
 use Rattle.std.proofs.lemmas.List.{length-take-le}
-use Rattle.ternary_words.specs.Table.{Entry, answer}
+use Rattle.ternary_words.specs.Headline.Table.{Entry, answer}
 use Rattle.bit_merge.proofs.Tight.{IsTight}
 use Rattle.bit_merge.proofs.PairPlaces.{cut, removed}
 

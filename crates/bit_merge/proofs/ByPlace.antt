@@ -1,6 +1,6 @@
 -- Pairs by their places.
 use Rattle.std.specs.Prelude.{◌≡◌, ℕ, ◌<◌, ◌≤◌, List, length, slice_index_or, set, ◌⊎◌, Option, remove}
-use Rattle.ternary_words.specs.Table.{Entry}
+use Rattle.ternary_words.specs.Headline.Table.{Entry}
 use Rattle.bit_merge.specs.Merge.{CanJoin, Pair, joint}
 
 -- what an entry decides

@@ -5,7 +5,7 @@ use Rattle.std.proofs.lemmas.Bool.Decides.{Decides-like}
 use Rattle.std.proofs.lemmas.Slice.Eq.{bytes_eq-Decides}
 use Rattle.std.specs.Bool.{Decides}
 use Rattle.std.specs.Str.{bytes_eq}
-use Rattle.ternary_words.specs.Table.{Entry}
+use Rattle.ternary_words.specs.Headline.Table.{Entry}
 use Rattle.bit_merge.specs.Merge.{CanJoin, AllDecide, Pair, IsPair, IsClosed, IsFirstPair, ComesFirst}
 use Rattle.bit_merge.proofs.ByPlace.{pair}
 use Rattle.bit_merge.proofs.Splits.{no_split}

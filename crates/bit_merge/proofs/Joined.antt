@@ -1,7 +1,7 @@
 -- Joining two entries keeps the answers.
 use Rattle.std.proofs.Common.{◌≡◌, ◌∷◌, ◌++◌, ℕ, List, [], ap, refl, sym, ◌∙◌, Bool, true, false, Some, Option, cond, ◌||◌, find, option_and_then}
-use Rattle.ternary_words.specs.Word.{header_bits}
-use Rattle.ternary_words.specs.Table.{Entry, entry_matches, answer}
+use Rattle.ternary_words.specs.Headline.Word.{header_bits}
+use Rattle.ternary_words.specs.Headline.Table.{Entry, entry_matches, answer}
 use Rattle.bit_merge.specs.Merge.{CanJoin, AllDecide, Pair, IsPair, joint, joined}
 use Rattle.bit_merge.proofs.Words.{join-agrees}
 

@@ -1,7 +1,8 @@
 -- Words as a mask and a value: which can be joined, and their join.
 use Rattle.std.proofs.Common.{◌≡◌, ◌∷◌, ℕ, List, [], ◌≤◌, length, arith, ap, refl, sym, ◌∙◌, subst, Bool, true, false, suc, not, ◌&&◌, cond, true≢false}
 use Rattle.std.specs.Bool.{beq}
-use Rattle.ternary_words.specs.Word.{Trit, trit, trits}
+use Rattle.ternary_words.specs.Headline.Word.{Trit}
+use Rattle.ternary_words.specs.Word.{trit, trits}
 use Rattle.bit_merge.specs.Merge.{HaveSameStars, differing, CanJoin, join, same_trit, is_star}
 
 -- the mask and the bits in which two values differ: mask & (a ^ b)

@@ -1,8 +1,8 @@
 -- What a merged table is like.
 use Rattle.std.proofs.Common.{◌≡◌, ◌≤◌, ℕ, List, length, arith}
 use Rattle.field_boxes.specs.Alike.{IsTight}
-use Rattle.field_boxes.specs.Fields.{IsHeader}
-use Rattle.ternary_words.specs.Table.{Entry, answer}
+use Rattle.field_boxes.specs.Headline.Fields.{IsHeader}
+use Rattle.ternary_words.specs.Headline.Table.{Entry, answer}
 use Rattle.bit_merge.specs.Merge.{IsClosed, IsMerged}
 use Rattle.bit_merge.proofs.Alone.{tight-places, places-tight}
 use Rattle.bit_merge.proofs.Outcome.{some-merged, one-merged, merged-closed, merged-shorter, merged-alike, merged-tight}

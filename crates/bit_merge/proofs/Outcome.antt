@@ -1,6 +1,6 @@
 -- Each table has one merged table.
 use Rattle.std.proofs.Common.{◌≡◌, ◌⊎◌, ◌≤◌, ◌<◌, ◌+◌, ℕ, List, length, ap, refl, sym, ◌∙◌, subst, arith, inl, inr, suc, zero, length-append}
-use Rattle.ternary_words.specs.Table.{Entry, answer}
+use Rattle.ternary_words.specs.Headline.Table.{Entry, answer}
 use Rattle.bit_merge.specs.Merge.{Pair, IsPair, IsClosed, IsFirstPair, joined, MergedIn}
 use Rattle.bit_merge.proofs.Joined.{joined-alike}
 use Rattle.bit_merge.proofs.Tight.{IsTight, joined-tight}

@@ -2,7 +2,7 @@
 use Rattle.std.proofs.Common.{◌≡◌, ◌∷◌, ◌++◌, ◌≤◌, ◌<◌, ◌+◌, ℕ, List, [], length, ap, refl, sym, ◌∙◌, subst, arith, set, suc, zero, slice_index_or, remove, take, drop, length-append, append_assoc}
 use Rattle.std.proofs.lemmas.List.{get_or_at, length-take-le, take-append-drop}
 use Rattle.std.proofs.Math.Seq.{drop-cons, get_or-append_seam}
-use Rattle.ternary_words.specs.Table.{Entry}
+use Rattle.ternary_words.specs.Headline.Table.{Entry}
 use Rattle.bit_merge.specs.Merge.{CanJoin, AllDecide, Pair, IsPair, first_place, second_place, joint, joined}
 use Rattle.bit_merge.proofs.ByPlace.{Decision, pair, ArePlaces}
 

@@ -5,7 +5,7 @@ use Rattle.std.proofs.lemmas.Bool.{cases_lt}
 use Rattle.std.proofs.lemmas.List.{length-append, length-map, length-take-le, length-drop, map-append, take-map, drop-map, get_or-take, get_or-drop}
 use Rattle.field_boxes.specs.Names.{AreDistinct, name_at}
 use Rattle.ternary_words.specs.Limits.{AreNumbered}
-use Rattle.ternary_words.specs.Table as seen
+use Rattle.ternary_words.specs.Headline.Table as seen
 use Rattle.ternary_words.specs.Views.{entry_of}
 use Rattle.ternary_words.specs.declared.entry.Entry.{Entry}
 use Rattle.bit_merge.specs.Merge.{IsMerged}

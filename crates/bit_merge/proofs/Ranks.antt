@@ -1,6 +1,6 @@
 -- The entries of words at places, of which some are empty: how many stand before a place.
 use Rattle.std.proofs.Common.{◌≡◌, ◌∷◌, ℕ, ◌<◌, ◌≤◌, List, [], length, get_or, set, ap, refl, arith, Option, Some, None, suc, zero, remove}
-use Rattle.ternary_words.specs.Table.{Entry}
+use Rattle.ternary_words.specs.Headline.Table.{Entry}
 use Rattle.ternary_words.specs.Views.{word_of}
 use Rattle.ternary_words.specs.declared.word.Word.{Word}
 use Rattle.bit_merge.specs.Slots.{Slots, at, entries_of}

@@ -1,6 +1,6 @@
 -- Lists that share no run are merged each by itself.
 use Rattle.std.proofs.Common.{◌≡◌, ◌∷◌, ◌++◌, ◌⊎◌, ◌+◌, ℕ, List, [], length, ap, refl, sym, ◌∙◌, subst, arith, inl, inr, suc, zero, ◌≢◌, length-append, append_assoc}
-use Rattle.ternary_words.specs.Table.{Entry}
+use Rattle.ternary_words.specs.Headline.Table.{Entry}
 use Rattle.bit_merge.specs.Merge.{AllDecide, Pair, IsPair, IsClosed, IsFirstPair, joint, joined, MergedIn}
 use Rattle.bit_merge.proofs.ByPlace.{Decision, pair}
 use Rattle.bit_merge.proofs.Splits.{no_split, InFirst, InSecond, in_parts}

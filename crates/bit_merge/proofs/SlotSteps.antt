@@ -1,7 +1,7 @@
 -- A joining of words at places, and words that are merged.
 use Rattle.std.proofs.Common.{◌≡◌, ◌⊎◌, ◌∷◌, ℕ, ◌<◌, ◌≤◌, List, [], length, get_or, set, ap, sym, subst, ◌∙◌, arith, Option, Some, None, inl, inr, suc, zero, remove}
 use Rattle.std.proofs.lemmas.Bool.{cases_lt}
-use Rattle.ternary_words.specs.Table.{Entry}
+use Rattle.ternary_words.specs.Headline.Table.{Entry}
 use Rattle.ternary_words.specs.Views.{word_of}
 use Rattle.ternary_words.specs.declared.word.Word.{Word}
 use Rattle.bit_merge.specs.Merge.{CanJoin, join, joint, MergedIn, IsMerged}

@@ -1,6 +1,6 @@
 -- Merging by places.
 use Rattle.std.proofs.Common.{◌≡◌, ◌⊎◌, ◌≤◌, ◌<◌, ℕ, List, refl, ap, sym, ◌∙◌, subst, suc}
-use Rattle.ternary_words.specs.Table.{Entry}
+use Rattle.ternary_words.specs.Headline.Table.{Entry}
 use Rattle.bit_merge.specs.Merge.{Pair, IsFirstPair, MergedIn, first_place, second_place, joined}
 use Rattle.bit_merge.proofs.ByPlace.{ArePlaces, AreFirstPlaces, joined_at}
 use Rattle.bit_merge.proofs.PairPlaces.{pair-places, places-pair, joined-places}

@@ -1,6 +1,6 @@
 -- Which of two words comes first doesn't matter to their join.
 use Rattle.std.proofs.Common.{◌≡◌, ◌∷◌, List, [], arith, ap, refl, sym, ◌∙◌, true, false, Some, None, suc, cond}
-use Rattle.ternary_words.specs.Word.{Trit}
+use Rattle.ternary_words.specs.Headline.Word.{Trit}
 use Rattle.bit_merge.specs.Merge.{same_trit, HaveSameStars, differing, CanJoin, join}
 
 same_trit_comm : (s t : Trit) → same_trit s t ≡ same_trit t s

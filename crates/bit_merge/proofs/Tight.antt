@@ -1,6 +1,6 @@
 -- Joining two entries of a tight table leaves a tight table.
 use Rattle.std.proofs.Common.{◌≡◌, ◌∷◌, ◌++◌, ℕ, List, [], ap, refl, sym, ◌∙◌, subst, Bool, true, false, Some, Option, inl, inr, ◌≢◌, cond, find, append_assoc}
-use Rattle.ternary_words.specs.Table.{Entry, entry_matches, answer}
+use Rattle.ternary_words.specs.Headline.Table.{Entry, entry_matches, answer}
 use Rattle.bit_merge.specs.Merge.{CanJoin, AllDecide, Pair, IsPair, joint, joined}
 use Rattle.bit_merge.proofs.Splits.{InFirst, InSecond, in_parts}
 use Rattle.bit_merge.proofs.Joined.{decided, behind, run_answer, matching, passing, joint-alike}

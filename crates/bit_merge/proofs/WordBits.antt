@@ -9,9 +9,10 @@ use Rattle.std.proofs.Math.Nat.{mod-eq_of_lt}
 use Rattle.std.proofs.Math.Numerals.{one-add}
 use Rattle.std.proofs.lemmas.Bool.{cases_eq}
 use Rattle.std.proofs.lemmas.Bool.Decides.{eqb_tells, nat_tests}
-use Rattle.field_boxes.specs.Bits.{bits}
+use Rattle.field_boxes.specs.Headline.Bits.{bits}
 use Rattle.field_boxes.proofs.Bits.{length-bits}
-use Rattle.ternary_words.specs.Word.{Trit, trits}
+use Rattle.ternary_words.specs.Headline.Word.{Trit}
+use Rattle.ternary_words.specs.Word.{trits}
 use Rattle.bit_merge.specs.Merge.{CanJoin, join}
 use Rattle.bit_merge.specs.Near.{IsNear}
 use Rattle.bit_merge.proofs.Masks.{unlike_bits, without_bits, both_bits, ones, can-join-masks, masks-can-join, join-masks, clear-masks}

@@ -1,7 +1,8 @@
 -- The join of two words.
 use Rattle.std.proofs.Common.{◌≡◌, ◌∷◌, ℕ, List, [], ◌≤◌, arith, ap, refl, sym, ◌∙◌, Bool, true, false, inl, inr, Some, None, ◌⊎◌, suc, ◌&&◌, ◌||◌, not, true≢false}
 use Rattle.std.proofs.Math.Bool.{or-false}
-use Rattle.ternary_words.specs.Word.{Trit, trit_agrees, agrees}
+use Rattle.ternary_words.specs.Headline.Word.{Trit, agrees}
+use Rattle.ternary_words.specs.Word.{trit_agrees}
 use Rattle.bit_merge.specs.Merge.{is_star, HaveSameStars, differing, CanJoin, join}
 
 -- words that don't differ are one

@@ -1,8 +1,8 @@
 -- Bit merging: entries of one run whose words differ in at most one bit become one entry.
 use Rattle.std.specs.Prelude.{◌≡◌, ◌⊎◌, ℕ, zero, suc, ◌+◌, ◌<◌, ◌≤◌, Bool, true, false, cond, List, [], ◌∷◌, ◌++◌, length, Option, Some, None}
 use Rattle.std.specs.Bool.{beq}
-use Rattle.ternary_words.specs.Word.{Trit}
-use Rattle.ternary_words.specs.Table.{Entry}
+use Rattle.ternary_words.specs.Headline.Word.{Trit}
+use Rattle.ternary_words.specs.Headline.Table.{Entry}
 
 abbrev pub is_star : Trit → Bool
 is_star None = true

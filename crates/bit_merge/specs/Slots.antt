@@ -1,6 +1,6 @@
 -- The words of a run at their places, of which some are empty.
 use Rattle.std.specs.Prelude.{◌≡◌, ℕ, ◌<◌, ◌≤◌, List, [], ◌∷◌, Option, Some, None, slice_index_or, min, set}
-use Rattle.ternary_words.specs.Table.{Entry}
+use Rattle.ternary_words.specs.Headline.Table.{Entry}
 use Rattle.ternary_words.specs.Views.{word_of}
 use Rattle.ternary_words.specs.declared.word.Word.{Word}
 use Rattle.ternary_words.specs.declared.entry.Entry as code_entry

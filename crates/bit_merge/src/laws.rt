@@ -1,7 +1,7 @@
 //! Laws of the definitions, for whoever relies on them. The functions do nothing.
 ghost use Rattle.std.specs.Prelude.{◌≡◌, ◌≤◌, ℕ, List, length};
 ghost use Rattle.field_boxes.specs.Alike.{IsTight};
-ghost use Rattle.ternary_words.specs.Table.{Entry, answer};
+ghost use Rattle.ternary_words.specs.Headline.Table.{Entry, answer};
 ghost use Rattle.bit_merge.specs.Merge.{IsClosed, IsMerged};
 
 /// Each table has one merged table, which is closed, no longer, answers alike, and is tight where the table is.

@@ -3,7 +3,7 @@
 ghost use Rattle.std.specs.Prelude.{◌≡◌, ◌≤◌, ℕ, List, IfOk, map, vec_len};
 ghost use Rattle.field_boxes.specs.Alike.{IsTight};
 ghost use Rattle.ternary_words.specs.Limits.{AreNumbered};
-ghost use Rattle.ternary_words.specs.Table.{answer};
+ghost use Rattle.ternary_words.specs.Headline.Table.{answer};
 ghost use Rattle.bit_merge.specs.Merge.{IsClosed, IsMerged};
 ghost use Rattle.bit_merge.specs.Table.{UnderNames};
 

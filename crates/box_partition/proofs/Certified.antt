@@ -2,8 +2,8 @@
 use Rattle.std.proofs.Common.{◌≡◌, ◌∷◌, ◌++◌, ℕ, suc, ◌+◌, ◌-◌, ◌≤◌, List, [], Bool, Some, None, length, map, refl, ap, sym, subst, ◌∙◌, arith, Option, All, position, vec_len}
 use Rattle.std.proofs.lemmas.List.Quantifiers.{position-Some}
 use Rattle.std.proofs.lemmas.List.Elements.{All-cons, All-tail}
-use Rattle.field_boxes.specs.Classifier.{Interval}
-use Rattle.field_boxes.specs.Fields.{IsHeader}
+use Rattle.field_boxes.specs.Headline.Classifier.{Interval}
+use Rattle.field_boxes.specs.Headline.Fields.{IsHeader}
 use Rattle.field_boxes.specs.Names.{name_at}
 use Rattle.field_boxes.specs.Rules as rules
 use Rattle.filter_reader.specs.declared.list.RuleList.{RuleList}

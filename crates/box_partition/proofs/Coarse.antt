@@ -1,6 +1,6 @@
 -- There is one coarsest partition with given claims.
 use Rattle.std.proofs.Common.{◌≡◌, ◌∷◌, ℕ, List, [], ◌++◌, ◌≤◌, ◌<◌, arith, ap, refl, sym, ◌∙◌, subst, suc, zero, map}
-use Rattle.field_boxes.specs.Classifier.{Interval}
+use Rattle.field_boxes.specs.Headline.Classifier.{Interval}
 use Rattle.field_boxes.specs.Boxes.{LiesIn}
 use Rattle.partition_check.specs.Partition.{Group, rows_of, AreGroups}
 use Rattle.partition_check.specs.Checking.{Statement}

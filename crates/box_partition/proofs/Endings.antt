@@ -1,7 +1,7 @@
 -- How the writing of the certificate ends.
 use Rattle.std.proofs.Common.{◌≡◌, ℕ, List, [], Bool, Option, Result, Ok, Err, ap, ◌∙◌, IsErrAnd, IfOk, position, length}
 use Rattle.field_boxes.specs.declared.rule.Rule.{Rule}
-use Rattle.field_boxes.specs.Fields.{stated, IsHeader}
+use Rattle.field_boxes.specs.Headline.Fields.{stated, IsHeader}
 use Rattle.field_boxes.specs.Rules as rules
 use Rattle.filter_reader.specs.declared.list.RuleList.{RuleList}
 use Rattle.ternary_words.specs.declared.table.Table.{Table}

@@ -1,6 +1,6 @@
 -- There is a coarsest partition for any claims.
 use Rattle.std.proofs.Common.{◌≡◌, ◌∷◌, ℕ, List, [], ◌+◌, ◌++◌, ◌≤◌, ◌<◌, arith, ap, refl, ◌∙◌, subst, inl, inr, ◌⊎◌, ◌≢◌, suc, zero, length, map, Option, Some, None}
-use Rattle.field_boxes.specs.Classifier.{Interval}
+use Rattle.field_boxes.specs.Headline.Classifier.{Interval}
 use Rattle.field_boxes.specs.Boxes.{LiesIn}
 use Rattle.partition_check.specs.Partition.{Group, rows_of, AreGroups}
 use Rattle.partition_check.specs.Checking.{Statement}

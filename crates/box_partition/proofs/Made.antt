@@ -1,6 +1,6 @@
 -- What the rows of groups claim, and that rows which make two claims make one.
 use Rattle.std.proofs.Common.{◌≡◌, ◌∷◌, ℕ, List, [], ◌++◌, ◌≤◌, ◌<◌, sym, subst, ◌∙◌, inl, inr, arith, ◌⊎◌, map, suc}
-use Rattle.field_boxes.specs.Classifier.{Interval}
+use Rattle.field_boxes.specs.Headline.Classifier.{Interval}
 use Rattle.partition_check.specs.Boxes.{AreUpTo}
 use Rattle.field_boxes.specs.Boxes.{LiesIn}
 use Rattle.partition_check.specs.Partition.{Group, rows_of, AreGroups}

@@ -3,7 +3,8 @@ use Rattle.std.proofs.Common.{◌≡◌, ◌≢◌, ◌∷◌, ℕ, zero, suc, �
 use Rattle.std.specs.List.{AllAdjacentBelow}
 use Rattle.std.proofs.lemmas.List.Elements.{All-tail}
 use Rattle.field_boxes.specs.Alike.{AreAlikeOver}
-use Rattle.field_boxes.specs.Fields.{greatest_of, stated, AreValues}
+use Rattle.field_boxes.specs.Headline.Fields.{stated, AreValues}
+use Rattle.field_boxes.specs.Fields.{greatest_of}
 use Rattle.node_store.specs.declared.edge.Edge.{Edge}
 use Rattle.node_store.specs.declared.edge.NodeId.{NodeId}
 use Rattle.node_store.specs.declared.split.Part.{Part}

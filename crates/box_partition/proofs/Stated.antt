@@ -1,7 +1,7 @@
 -- What a node answers in an order which is the stated one.
 use Rattle.std.proofs.Common.{◌≡◌, ℕ, List, ap, sym, subst, ◌∙◌}
 use Rattle.field_boxes.specs.declared.rule.Rule.{Rule}
-use Rattle.field_boxes.specs.Fields.{stated, AreValues, IsHeader}
+use Rattle.field_boxes.specs.Headline.Fields.{stated, AreValues, IsHeader}
 use Rattle.node_store.specs.Diagram.{Node, answer}
 use Rattle.fdd_build.specs.Rules.{decided}
 

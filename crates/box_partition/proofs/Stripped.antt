@@ -1,6 +1,6 @@
 -- The boxes of a coarsest partition are a partition.
 use Rattle.std.proofs.Common.{◌≡◌, ◌∷◌, ℕ, List, [], ◌++◌, ◌<◌, arith, ap, refl, ◌∙◌, suc, length, map}
-use Rattle.field_boxes.specs.Classifier.{Interval}
+use Rattle.field_boxes.specs.Headline.Classifier.{Interval}
 use Rattle.partition_check.specs.Partition.{Group, rows_of, put_first, AreGroups, IsPartition}
 use Rattle.partition_check.specs.Checking.{Statement}
 use Rattle.partition_check.specs.Good.{box_of}

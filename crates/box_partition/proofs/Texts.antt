@@ -2,7 +2,7 @@
 use Rattle.std.proofs.Common.{◌≡◌, ◌∷◌, ◌++◌, ℕ, ◌+◌, ◌<◌, ◌≤◌, List, [], length, get_or, take, map, refl, ap, sym, ◌∙◌, arith, append_assoc, append-nil, length-append, flat_map}
 use Rattle.std.proofs.lemmas.List.{take_more, length-map}
 use Rattle.std.proofs.lemmas.List.Concat.{flat_map-append}
-use Rattle.field_boxes.specs.Classifier.{Interval}
+use Rattle.field_boxes.specs.Headline.Classifier.{Interval}
 use Rattle.partition_check.specs.Checking.{Statement}
 use Rattle.partition_check.specs.Partition.{Group, rows_of}
 use Rattle.partition_check.specs.RowText.{row_line, row_text}

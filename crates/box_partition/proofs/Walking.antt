@@ -3,8 +3,9 @@ use Rattle.std.proofs.Common.{◌≡◌, ◌∷◌, ◌++◌, ℕ, zero, suc, �
 use Rattle.std.proofs.lemmas.List.{take_all, length-map, get_or-map, get_or_default}
 use Rattle.field_boxes.specs.Alike.{AreAlikeOver}
 use Rattle.field_boxes.specs.declared.span.Span.{Span}
-use Rattle.field_boxes.specs.Classifier.{Interval}
-use Rattle.field_boxes.specs.Fields.{stated, greatest_of}
+use Rattle.field_boxes.specs.Headline.Classifier.{Interval}
+use Rattle.field_boxes.specs.Headline.Fields.{stated}
+use Rattle.field_boxes.specs.Fields.{greatest_of}
 use Rattle.node_store.specs.Levels.{IsLevel, next, top_of}
 use Rattle.node_store.proofs.Stated.{next_is, top_is, is_level}
 use Rattle.field_boxes.specs.Spans.{interval_of, intervals_of}

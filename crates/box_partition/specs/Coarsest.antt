@@ -1,6 +1,6 @@
 -- Coarsest partitions, whose rows make claims.
 use Rattle.std.specs.Prelude.{◌≡◌, ◌≢◌, ℕ, List, [], ◌∷◌, All, Option}
-use Rattle.field_boxes.specs.Classifier.{Interval}
+use Rattle.field_boxes.specs.Headline.Classifier.{Interval}
 use Rattle.partition_check.specs.Boxes.{EachIn}
 use Rattle.partition_check.specs.Partition.{Group, rows_of, AreGroups}
 use Rattle.partition_check.specs.Checking.{Statement}

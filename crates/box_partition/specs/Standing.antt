@@ -1,8 +1,8 @@
 -- Rules that stand for what is tested on headers: for the rules of a list, or for the entries of a table.
 use Rattle.std.specs.Prelude.{◌≡◌, ℕ, ◌+◌, Bool, List, length, Some, slice_get, slice_index_or}
 use Rattle.field_boxes.specs.declared.rule.Rule.{Rule}
-use Rattle.field_boxes.specs.Fields.{stated, IsHeader}
-use Rattle.field_boxes.specs.Classifier.{matches}
+use Rattle.field_boxes.specs.Headline.Fields.{stated, IsHeader}
+use Rattle.field_boxes.specs.Headline.Classifier.{matches}
 use Rattle.field_boxes.specs.Rules.{rule_of}
 use Rattle.ternary_words.specs.declared.entry.Entry.{Entry}
 

@@ -2,7 +2,7 @@
 ghost use Rattle.std.specs.Prelude.{◌≡◌, ◌≤◌, List, [], ◌∷◌, ◌++◌, length, IfOk, IfErr, OnOk, IsErrOf};
 ghost use Rattle.razor_base.specs.Faults.{Rose};
 ghost use Rattle.razor_base.specs.Output.{Puts};
-ghost use Rattle.field_boxes.specs.Fields.{stated};
+ghost use Rattle.field_boxes.specs.Headline.Fields.{stated};
 ghost use Rattle.node_store.specs.Diagram.{level_of};
 ghost use Rattle.partition_check.specs.Agreement.{Agree};
 ghost use Rattle.partition_check.specs.Checking.{Statement};
@@ -90,6 +90,7 @@ fn write_rows<K: Sink>(
 }
 
 /// Writes the rows of two diagrams, and the last line.
+#[inline(never)]
 fn write_nodes<K: Sink>(
     alloc: Global,
     store: &Store,

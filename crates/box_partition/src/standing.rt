@@ -1,12 +1,12 @@
 //! Rules that stand for the rules of a list and for the entries of a table.
 ghost use Rattle.std.specs.Prelude.{◌≡◌, ◌≤◌, ℕ, [], ◌∷◌, ◌++◌, length, IfOk};
 ghost use Rattle.razor_base.specs.declared.limits.TheConstants.{GREATEST_PORT, MOST_ENTRIES, MOST_RULES};
-ghost use Rattle.field_boxes.specs.Classifier.{union_holds};
+ghost use Rattle.field_boxes.specs.Headline.Classifier.{union_holds};
 ghost use Rattle.field_boxes.specs.Rules.{sets_of};
 ghost use Rattle.field_boxes.specs.Spans.{interval_of};
 ghost use Rattle.ternary_words.specs.Prefixes.{IsPrefixInEach};
 ghost use Rattle.ternary_words.specs.Views.{word_of};
-ghost use Rattle.ternary_words.specs.Word.{agrees, header_bits};
+ghost use Rattle.ternary_words.specs.Headline.Word.{agrees, header_bits};
 ghost use Rattle.partition_check.specs.Claims.{rule_matches, entry_matches};
 ghost use Rattle.partition_check.specs.PrefixWords.{ArePrefixes};
 ghost use Rattle.box_partition.specs.Standing.{Matches, StandFor, counted, own_number};

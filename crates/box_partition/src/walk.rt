@@ -30,7 +30,8 @@ pub(crate) struct Walk<'a> {
 impl<'a> Walk<'a> {
     ghost use Rattle.std.specs.Prelude.{◌≡◌, ◌≤◌, ◌<◌, ◌+◌, ◌*◌, ℕ, suc, List, [], length, map, drop, take, IfOk};
     ghost use Rattle.std.specs.List.{flat_map};
-    ghost use Rattle.field_boxes.specs.Fields.{stated, greatest_of};
+    ghost use Rattle.field_boxes.specs.Headline.Fields.{stated};
+    ghost use Rattle.field_boxes.specs.Fields.{greatest_of};
     ghost use Rattle.field_boxes.specs.Spans.{intervals_of};
     ghost use Rattle.node_store.specs.Diagram.{level_of};
     ghost use Rattle.node_store.specs.Edges.{AreFull};

@@ -1,7 +1,8 @@
 -- Boxes that are grouped and hold the headers with a property: there is one list of them at most.
 use Rattle.std.proofs.Common.{◌≡◌, ◌∷◌, ℕ, List, [], ◌≤◌, ap, sym, ◌∙◌, subst, inl, inr, ◌↔◌, Option, Any}
-use Rattle.field_boxes.specs.Classifier.{Interval, Rule, source}
-use Rattle.field_boxes.specs.Fields.{stated, greatest_of, AreValues}
+use Rattle.field_boxes.specs.Headline.Classifier.{Interval, Rule, source}
+use Rattle.field_boxes.specs.Headline.Fields.{stated, AreValues}
+use Rattle.field_boxes.specs.Fields.{greatest_of}
 use Rattle.box_query.specs.Boxes.{Group, boxes_of, AreRising, AreGrouped, AreBoxesOf}
 use Rattle.field_boxes.specs.Boxes.{LiesIn}
 use Rattle.field_boxes.proofs.Held.{LiesInOne, held-any, any-held}

@@ -1,6 +1,6 @@
 -- No header lies in two grouped boxes.
 use Rattle.std.proofs.Common.{◌∷◌, ℕ, List, [], ◌++◌, ◌≤◌, arith, sym, subst, inl, inr, suc, map, AllPairs}
-use Rattle.field_boxes.specs.Classifier.{Interval}
+use Rattle.field_boxes.specs.Headline.Classifier.{Interval}
 use Rattle.field_boxes.specs.Fields.{greatest_of}
 use Rattle.box_query.specs.Boxes.{Group, boxes_of, put_first, AreRising, AreGrouped}
 use Rattle.field_boxes.specs.Boxes.{LiesIn}

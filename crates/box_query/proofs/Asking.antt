@@ -3,8 +3,8 @@ use Rattle.std.proofs.Common.{◌≡◌, ◌≢◌, ◌∷◌, ◌++◌, ℕ, ze
 use Rattle.std.proofs.lemmas.List.{take_more, take_all}
 use Rattle.std.proofs.lemmas.Option.{none-some}
 use Rattle.field_boxes.specs.declared.rule.Rule as code
-use Rattle.field_boxes.specs.Classifier.{Rule, matches}
-use Rattle.field_boxes.specs.Fields.{stated}
+use Rattle.field_boxes.specs.Headline.Classifier.{Rule, matches}
+use Rattle.field_boxes.specs.Headline.Fields.{stated}
 use Rattle.field_boxes.specs.Rules.{rule_of}
 use Rattle.fdd_build.specs.Rules.{decided}
 use Rattle.box_query.specs.Asked.{label, number_decided, then_decided}

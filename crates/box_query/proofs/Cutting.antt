@@ -4,8 +4,8 @@ use Rattle.std.proofs.lemmas.List.{get_or_default}
 use Rattle.field_boxes.specs.declared.rule.Rule as code
 use Rattle.field_boxes.specs.declared.span.Span.{Span}
 use Rattle.field_boxes.specs.Boxes.{box_of, box_holds}
-use Rattle.field_boxes.specs.Classifier.{Interval, Rule, union_holds, set_holds, matches}
-use Rattle.field_boxes.specs.Fields.{stated}
+use Rattle.field_boxes.specs.Headline.Classifier.{Interval, Rule, union_holds, set_holds, matches}
+use Rattle.field_boxes.specs.Headline.Fields.{stated}
 use Rattle.field_boxes.specs.Rules.{rule_of}
 use Rattle.field_boxes.specs.Spans.{interval_of}
 use Rattle.fdd_build.specs.Sets.{box_rule}

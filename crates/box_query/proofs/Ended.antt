@@ -2,7 +2,7 @@
 use Rattle.std.proofs.Common.{◌≡◌, ℕ, List, Option, Result, Ok, Err, sym, subst, IsErrAnd, IfErr, length}
 use Rattle.std.proofs.KnownBytes.{Keeps-refl}
 use Rattle.razor_base.specs.Output.{Writes}
-use Rattle.field_boxes.specs.Classifier.{Interval, Rule}
+use Rattle.field_boxes.specs.Headline.Classifier.{Interval, Rule}
 use Rattle.box_query.specs.Boxes.{AreBoxesOf}
 use Rattle.box_query.specs.BoxText.{boxes_text}
 use Rattle.box_query.specs.Outcome.{Ends, IsWritten}

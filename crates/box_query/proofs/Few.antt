@@ -2,8 +2,9 @@
 use Rattle.std.proofs.Common.{◌≡◌, ◌∷◌, ℕ, suc, ◌+◌, ◌*◌, ◌^◌, ◌-◌, ◌≤◌, List, [], length, ap, sym, ◌∙◌, subst, arith, mul-le-mul_right, suc-mul, length-append, nat_eq, cond, Bool, true, false, flat_map, pow_pos, pow-add}
 use Rattle.std.proofs.Math.Pow.{pow_mono}
 use Rattle.std.proofs.lemmas.List.{length-map}
-use Rattle.field_boxes.specs.Classifier.{Interval}
-use Rattle.field_boxes.specs.Fields.{width, greatest_of}
+use Rattle.field_boxes.specs.Headline.Classifier.{Interval}
+use Rattle.field_boxes.specs.Headline.Fields.{width}
+use Rattle.field_boxes.specs.Fields.{greatest_of}
 use Rattle.node_store.specs.declared.edge.Edge.{Edge}
 use Rattle.node_store.specs.Edges.{child_of}
 use Rattle.node_store.specs.Levels.{HasField, IsLevel, bits_of, next as next_level, top_of}

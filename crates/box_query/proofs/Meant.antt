@@ -5,8 +5,8 @@ use Rattle.std.proofs.lemmas.Bool.Decides.{Decides-eqb}
 use Rattle.std.proofs.lemmas.List.Elements.{recursion_from_All}
 use Rattle.field_boxes.specs.declared.span.Span.{Span}
 use Rattle.field_boxes.specs.Boxes.{box_of, box_holds, LiesIn}
-use Rattle.field_boxes.specs.Classifier.{Interval, union_holds, source}
-use Rattle.field_boxes.specs.Fields.{stated, IsHeader}
+use Rattle.field_boxes.specs.Headline.Classifier.{Interval, union_holds, source}
+use Rattle.field_boxes.specs.Headline.Fields.{stated, IsHeader}
 use Rattle.field_boxes.specs.NamedRules.{IsNumberedBy}
 use Rattle.field_boxes.specs.Names.{name_at, AreNames}
 use Rattle.field_boxes.specs.Spans.{interval_of, intervals_of}

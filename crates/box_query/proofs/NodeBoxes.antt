@@ -1,7 +1,7 @@
 -- The boxes of a node that answers 1 and 2: they are grouped, hold the values at which it answers 1, and no other node has them.
 use Rattle.std.proofs.Common.{◌≡◌, ◌≢◌, ◌∷◌, ◌++◌, ℕ, List, [], Bool, true, false, ◌≤◌, ◌<◌, arith, ap, refl, sym, ◌∙◌, subst, inl, inr, true≢false, ◌⊎◌, ◌↔◌, suc, cond, map, nat_eq, Option, Some, None, slice_get, flat_map}
 use Rattle.std.proofs.lemmas.Bool.Decides.{Decides-eqb}
-use Rattle.field_boxes.specs.Classifier.{Interval}
+use Rattle.field_boxes.specs.Headline.Classifier.{Interval}
 use Rattle.field_boxes.specs.Fields.{greatest_of}
 use Rattle.node_store.specs.declared.edge.Edge.{Edge}
 use Rattle.node_store.specs.Edges.{child_of}

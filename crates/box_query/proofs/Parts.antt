@@ -1,6 +1,6 @@
 -- Headers in the boxes of groups.
 use Rattle.std.proofs.Common.{◌≡◌, ◌∷◌, ℕ, List, [], ◌++◌, false, ◌≤◌, ◌<◌, arith, ap, refl, sym, subst, inl, inr, ◌⊎◌, suc, cond, map}
-use Rattle.field_boxes.specs.Classifier.{Interval, interval_holds}
+use Rattle.field_boxes.specs.Headline.Classifier.{Interval, interval_holds}
 use Rattle.box_query.specs.Boxes.{Group, boxes_of, put_first, AreRising, AreGrouped}
 use Rattle.field_boxes.proofs.Held.{LiesInOne}
 use Rattle.box_query.proofs.Runs.{rest_at, at-first, at-past}

@@ -1,6 +1,6 @@
 -- Groups over the values of one field are the runs of values with one list of rows.
 use Rattle.std.proofs.Common.{◌≡◌, ◌∷◌, ℕ, List, [], ◌≤◌, ◌<◌, arith, ap, refl, sym, ◌∙◌, subst, inl, inr, ◌⊎◌, suc, cond, length}
-use Rattle.field_boxes.specs.Classifier.{Interval, interval_holds}
+use Rattle.field_boxes.specs.Headline.Classifier.{Interval, interval_holds}
 use Rattle.box_query.specs.Boxes.{Group, AreRising, Differ}
 use Rattle.field_boxes.proofs.Unions.{not_past, not_below, holds_between}
 use Rattle.field_boxes.proofs.SameValues.{same_interval}

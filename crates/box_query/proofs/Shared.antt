@@ -4,7 +4,7 @@ use Rattle.std.proofs.lemmas.Bool.{and_parts, and_from, le-leb, leb-true}
 use Rattle.std.proofs.Math.Bool.{or-false}
 use Rattle.std.proofs.lemmas.List.{take_more}
 use Rattle.field_boxes.specs.declared.span.Span.{Span}
-use Rattle.field_boxes.specs.Classifier.{Interval, interval_holds, union_holds}
+use Rattle.field_boxes.specs.Headline.Classifier.{Interval, interval_holds, union_holds}
 use Rattle.field_boxes.specs.Spans.{interval_of, intervals_of}
 use Rattle.field_boxes.specs.Unions.{RiseApart}
 use Rattle.box_query.specs.Cut.{both_hold}

@@ -5,8 +5,8 @@ use Rattle.std.proofs.lemmas.Bool.{OnTrue_from, not-true}
 use Rattle.std.proofs.lemmas.Bool.Decides.{Decides-eqb}
 use Rattle.razor_base.specs.Output.{Puts}
 use Rattle.razor_base.proofs.Output.{leaves_out-none}
-use Rattle.field_boxes.specs.Classifier.{Interval}
-use Rattle.field_boxes.specs.Fields.{stated}
+use Rattle.field_boxes.specs.Headline.Classifier.{Interval}
+use Rattle.field_boxes.specs.Headline.Fields.{stated}
 use Rattle.node_store.specs.declared.edge.Edge.{Edge}
 use Rattle.node_store.specs.Levels.{HasField, next, top_of}
 use Rattle.node_store.specs.Diagram.{Node, edges_of, answer}

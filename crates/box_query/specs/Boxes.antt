@@ -2,8 +2,9 @@
 use Rattle.std.specs.Prelude.{◌≡◌, ◌≢◌, ◌↔◌, ◌⊎◌, ℕ, suc, ◌≤◌, ◌<◌, List, [], ◌∷◌, length, map, Option}
 use Rattle.std.specs.List.{Any, flat_map}
 use Rattle.field_boxes.specs.Boxes.{LiesIn}
-use Rattle.field_boxes.specs.Classifier.{Interval, Rule, source}
-use Rattle.field_boxes.specs.Fields.{stated, greatest_of, IsHeader}
+use Rattle.field_boxes.specs.Headline.Classifier.{Interval, Rule, source}
+use Rattle.field_boxes.specs.Headline.Fields.{stated, IsHeader}
+use Rattle.field_boxes.specs.Fields.{greatest_of}
 
 -- boxes with one interval in the first field: that interval, and the boxes without it
 pub record Group : Type 0 where

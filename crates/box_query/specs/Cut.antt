@@ -4,8 +4,8 @@ use Rattle.std.specs.List.{list_all}
 use Rattle.razor_base.specs.declared.limits.TheConstants.{GREATEST_PORT}
 use Rattle.field_boxes.specs.declared.span.Span.{Span}
 use Rattle.field_boxes.specs.declared.rule.Rule as code
-use Rattle.field_boxes.specs.Classifier.{Interval, union_holds, matches}
-use Rattle.field_boxes.specs.Fields.{stated}
+use Rattle.field_boxes.specs.Headline.Classifier.{Interval, union_holds, matches}
+use Rattle.field_boxes.specs.Headline.Fields.{stated}
 use Rattle.field_boxes.specs.Rules.{rule_of}
 use Rattle.field_boxes.specs.Spans.{interval_of}
 

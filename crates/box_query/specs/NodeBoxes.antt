@@ -1,8 +1,8 @@
 -- The boxes of a node: those of the values at which it answers 1.
 use Rattle.std.specs.Prelude.{◌≡◌, ◌⊎◌, ℕ, suc, nat_eq, List, [], ◌∷◌, ◌++◌, map, if◌then◌else◌}
 use Rattle.std.specs.List.{flat_map}
-use Rattle.field_boxes.specs.Classifier.{Interval}
-use Rattle.field_boxes.specs.Fields.{AreValues}
+use Rattle.field_boxes.specs.Headline.Classifier.{Interval}
+use Rattle.field_boxes.specs.Headline.Fields.{AreValues}
 use Rattle.node_store.specs.declared.edge.Edge.{Edge}
 use Rattle.node_store.specs.Diagram.{Node, edges_of, answer}
 use Rattle.box_query.specs.Boxes.{put_first}

@@ -2,7 +2,7 @@
 use Rattle.std.specs.Prelude.{◌≡◌, ℕ, List, Option, length}
 use Rattle.std.specs.Io.KnownBytes.{Appends, Keeps}
 use Rattle.razor_base.specs.Output.{AppendsFront}
-use Rattle.field_boxes.specs.Classifier.{Interval, Rule}
+use Rattle.field_boxes.specs.Headline.Classifier.{Interval, Rule}
 use Rattle.box_query.specs.Boxes.{AreBoxesOf}
 use Rattle.box_query.specs.BoxText.{boxes_text}
 use Rattle.box_query.specs.declared.error.QueryError.{QueryError}

@@ -2,7 +2,7 @@
 ghost use Rattle.std.specs.Prelude.{◌≡◌, ◌≢◌, ◌≤◌, ◌<◌, ℕ, List, length, slice_index_or, if◌then◌else◌, None, option_map, IfOk};
 ghost use Rattle.field_boxes.specs.declared.rule.Rule.{Rule as SeenRule};
 ghost use Rattle.field_boxes.specs.Boxes.{box_of, box_holds};
-ghost use Rattle.field_boxes.specs.Fields.{stated, IsHeader};
+ghost use Rattle.field_boxes.specs.Headline.Fields.{stated, IsHeader};
 ghost use Rattle.fdd_build.specs.Rules.{decided};
 ghost use Rattle.box_query.specs.Asked.{label, number_decided};
 

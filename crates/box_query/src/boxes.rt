@@ -2,7 +2,7 @@
 ghost use Rattle.std.specs.Prelude.{◌≡◌, ◌≤◌, length, IfOk, IfErr, OnOk, IsErrOf};
 ghost use Rattle.razor_base.specs.Faults.{Rose};
 ghost use Rattle.razor_base.specs.Output.{Writes};
-ghost use Rattle.field_boxes.specs.Fields.{stated};
+ghost use Rattle.field_boxes.specs.Headline.Fields.{stated};
 ghost use Rattle.field_boxes.specs.Names.{name_at};
 ghost use Rattle.field_boxes.specs.Spans.{AreInside, intervals_of};
 ghost use Rattle.filter_reader.specs.Lists.{filter_list};
@@ -56,6 +56,7 @@ pub fn query<K: Sink>(
 }
 
 /// Writes the boxes of a diagram, and says how many they are.
+#[inline(never)]
 fn write_boxes<K: Sink>(store: &Store, id: NodeId, out: &mut K) -> Result<u128, Failed>
     requires { level_of store.now id.0 ≡ stated }
     ensures text { Writes K.written K.faults out.old out.new (boxes_text (node_boxes store.now stated id.0)) result }

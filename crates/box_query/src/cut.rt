@@ -2,8 +2,8 @@
 ghost use Rattle.std.specs.Prelude.{◌≡◌, ◌≤◌, ◌+◌, ◌&&◌, ◌||◌, ℕ, List, ◌++◌, ◌∷◌, [], length, IfOk, IfSome};
 ghost use Rattle.razor_base.specs.declared.limits.TheConstants.{GREATEST_PORT, GREATEST_PROTOCOL};
 ghost use Rattle.field_boxes.specs.Boxes.{box_of, box_holds};
-ghost use Rattle.field_boxes.specs.Classifier.{union_holds, matches};
-ghost use Rattle.field_boxes.specs.Fields.{stated, IsHeader};
+ghost use Rattle.field_boxes.specs.Headline.Classifier.{union_holds, matches};
+ghost use Rattle.field_boxes.specs.Headline.Fields.{stated, IsHeader};
 ghost use Rattle.field_boxes.specs.Rules.{rule_of};
 ghost use Rattle.field_boxes.specs.Spans.{interval_of, intervals_of};
 ghost use Rattle.fdd_build.specs.Sets.{box_rule};

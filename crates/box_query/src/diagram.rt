@@ -1,7 +1,7 @@
 //! The diagram in which a query finds its boxes.
 ghost use Rattle.std.specs.Prelude.{◌≡◌, ℕ, List, if◌then◌else◌, IfOk};
 ghost use Rattle.field_boxes.specs.Boxes.{box_of, box_holds};
-ghost use Rattle.field_boxes.specs.Fields.{stated, IsHeader};
+ghost use Rattle.field_boxes.specs.Headline.Fields.{stated, IsHeader};
 ghost use Rattle.node_store.specs.Diagram.{level_of, answer};
 ghost use Rattle.fdd_build.specs.Rules.{decided};
 ghost use Rattle.box_query.specs.Asked.{label};

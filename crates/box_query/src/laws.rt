@@ -1,7 +1,7 @@
 //! Laws of the boxes, for whoever relies on them. The functions do nothing.
 ghost use Rattle.std.specs.Prelude.{◌≡◌, ℕ, List, Option};
 ghost use Rattle.std.specs.List.{AllPairs};
-ghost use Rattle.field_boxes.specs.Classifier.{Interval, Rule};
+ghost use Rattle.field_boxes.specs.Headline.Classifier.{Interval, Rule};
 ghost use Rattle.box_query.specs.Boxes.{AreBoxesOf};
 ghost use Rattle.field_boxes.specs.Boxes.{LiesIn};
 

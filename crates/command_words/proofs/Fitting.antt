@@ -8,7 +8,7 @@ use Rattle.command_words.specs.Forms.{Form, forms}
 use Rattle.command_words.specs.Items.{items_of}
 use Rattle.command_words.specs.Naming.{Settings, all_differ, command_named}
 use Rattle.command_words.specs.Spelling.{Found, command_of, found_among, settings_of}
-use Rattle.text_lines.specs.Steps.{◌>>=◌}
+use Rattle.text_lines.specs.Headline.Steps.{◌>>=◌}
 use Rattle.command_words.specs.Views.{form_seen}
 use Rattle.command_words.proofs.Taking.{behind, first}
 

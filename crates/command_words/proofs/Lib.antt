@@ -1,3 +1,4 @@
 pub mod Taking
 pub mod Fitting
 pub mod Apart
+pub mod OneFile

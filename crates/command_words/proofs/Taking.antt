@@ -10,7 +10,7 @@ use Rattle.command_words.specs.Parts.{first_value, nothing_found, one_in_all, wi
 use Rattle.command_words.specs.Spelling.{Found, few_words, found_among}
 use Rattle.command_words.specs.declared.plain.PlainWords.{PlainWords}
 use Rattle.command_words.specs.PlainWords.{plain_seen}
-use Rattle.text_lines.specs.Steps.{◌>>=◌}
+use Rattle.text_lines.specs.Headline.Steps.{◌>>=◌}
 
 in_front-then : {A B : Type 0} (x : A) (xs : Option (List A)) (f : List A → Option B) → (in_front x xs >>= f) ≡ (xs >>= (λ ys. f (x ∷ ys)))
 in_front-then x None f = refl

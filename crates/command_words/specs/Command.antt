@@ -1,6 +1,6 @@
 -- The commands, with their numbers and file words.
 use Rattle.std.specs.Prelude.{ℕ, List, Option}
-use Rattle.field_boxes.specs.Classifier.{Interval}
+use Rattle.field_boxes.specs.Headline.Classifier.{Interval}
 use Rattle.command_words.specs.Orders.{Wanted}
 
 -- the greatest number of entries, and the width of a slot

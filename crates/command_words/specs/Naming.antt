@@ -3,14 +3,14 @@ use Rattle.std.specs.Prelude.{ℕ, Bool, true, not, ◌&&◌, List, [], ◌∷�
 use Rattle.std.specs.List.{list_any}
 use Rattle.std.specs.Str.{bytes_eq}
 use Rattle.razor_base.specs.declared.limits.TheConstants.{MOST_RULES}
-use Rattle.field_boxes.specs.Classifier.{Interval}
+use Rattle.field_boxes.specs.Headline.Classifier.{Interval}
 use Rattle.command_words.specs.declared.form.CommandName.{CommandName}
 use Rattle.command_words.specs.declared.form.CommandName.TheVariants as names
 use Rattle.command_words.specs.Command.{Command, Sizes, Expand, Compile, Arrange, Shorten, Make, Equiv, Cert, Check, Trace, Drive, Gen, Selfrun, Migrate, Merge, Audit, Query, Session, Trim}
 use Rattle.command_words.specs.Questions.{decision_asked, spans_asked}
 use Rattle.command_words.specs.Orders.{Best, Wanted}
 use Rattle.command_words.specs.Numbers.{number_between}
-use Rattle.text_lines.specs.Steps.{◌>>=◌}
+use Rattle.text_lines.specs.Headline.Steps.{◌>>=◌}
 
 -- what the options come to
 pub record Settings : Type 0 where

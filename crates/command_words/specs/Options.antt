@@ -6,7 +6,7 @@ use Rattle.command_words.specs.declared.option.OptionName.TheVariants.{Limit, Sl
 use Rattle.command_words.specs.declared.form.Need.{Need}
 use Rattle.command_words.specs.declared.form.Need.TheVariants.{Never, Always}
 use Rattle.command_words.specs.Numbers.{number_between}
-use Rattle.text_lines.specs.Steps.{◌>>=◌}
+use Rattle.text_lines.specs.Headline.Steps.{◌>>=◌}
 
 -- how the option is written
 abbrev pub option_text : OptionName → List ℕ

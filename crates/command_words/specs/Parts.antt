@@ -6,7 +6,7 @@ use Rattle.command_words.specs.declared.parts.Parts as code
 use Rattle.command_words.specs.Items.{Item, items_of, plain_of, values_of}
 use Rattle.command_words.specs.PlainWords.{plain_seen}
 use Rattle.command_words.specs.Spelling.{Found, few_words, one_value}
-use Rattle.text_lines.specs.Steps.{◌>>=◌}
+use Rattle.text_lines.specs.Headline.Steps.{◌>>=◌}
 
 abbrev pub found_seen : code.Parts → Found
 found_seen parts = record {

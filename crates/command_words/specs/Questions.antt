@@ -3,12 +3,13 @@ use Rattle.std.specs.Prelude.{ℕ, ◌+◌, ◌==◌, Bool, false, not, ◌&&◌
 use Rattle.std.specs.Option.{is_some}
 use Rattle.std.specs.Str.{bytes_eq}
 use Rattle.razor_base.specs.declared.limits.TheConstants.{MOST_RULES}
-use Rattle.field_boxes.specs.Classifier.{Interval}
+use Rattle.field_boxes.specs.Headline.Classifier.{Interval}
 use Rattle.field_boxes.specs.Fields.{greatest_of}
-use Rattle.field_boxes.specs.Names.{is_decision_word, miss}
+use Rattle.field_boxes.specs.Headline.Names.{miss}
+use Rattle.field_boxes.specs.Names.{is_decision_word}
 use Rattle.command_words.specs.Numbers.{number_between}
-use Rattle.text_lines.specs.Cuts.{split_once}
-use Rattle.text_lines.specs.Steps.{◌>>=◌}
+use Rattle.text_lines.specs.Headline.Cuts.{split_once}
+use Rattle.text_lines.specs.Headline.Steps.{◌>>=◌}
 
 abbrev pub span : ℕ → ℕ → Interval
 span lo hi = record { lo = lo; hi = hi }

@@ -9,7 +9,7 @@ use Rattle.command_words.specs.Items.{Item, items_of, plain_of, values_of}
 use Rattle.command_words.specs.Naming.{Settings, command_named}
 use Rattle.command_words.specs.Options.{given, optional, or_usual, size_in, width_in}
 use Rattle.command_words.specs.Orders.{order_wanted}
-use Rattle.text_lines.specs.Steps.{◌>>=◌}
+use Rattle.text_lines.specs.Headline.Steps.{◌>>=◌}
 
 -- the value of each option, where one is given, and the other words
 pub record Found : Type 0 where

@@ -1,7 +1,7 @@
 //! What is asked of a list.
 ghost use Rattle.std.specs.Prelude.{◌≡◌, ◌≤◌, ◌∷◌, [], List, ℕ, Option, IfSome, map};
 ghost use Rattle.std.specs.Option.{option_map};
-ghost use Rattle.field_boxes.specs.Classifier.{Interval};
+ghost use Rattle.field_boxes.specs.Headline.Classifier.{Interval};
 ghost use Rattle.field_boxes.specs.Spans.{AreInside, interval_of, intervals_of};
 ghost use Rattle.command_words.specs.Command.{Command};
 ghost use Rattle.command_words.specs.Naming.{asking};

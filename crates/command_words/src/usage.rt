@@ -62,6 +62,7 @@ fn put_lines<K: Sink>(
 }
 
 /// Writes the usage text: which commands there are, and what their words are called.
+#[inline(never)]
 pub fn write_usage<K: Sink>(out: &mut K) -> Result<(), Failed>
     ensures { Writes K.written K.faults out.old out.new usage_text result }
 {

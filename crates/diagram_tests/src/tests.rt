@@ -3,6 +3,7 @@
 mod building;
 mod joints;
 mod nodes;
+mod orders;
 mod prefix_lists;
 mod recompiling;
 mod removing;

@@ -5,8 +5,8 @@ use Rattle.std.specs.Result.{result_ok}
 use Rattle.std.specs.Str.{bytes_eq}
 use Rattle.std.proofs.lemmas.Option.{option_and_then_some}
 use Rattle.std.proofs.lemmas.Slice.Eq.{bytes_eq-Decides}
-use Rattle.field_boxes.specs.Classifier.{Rule}
-use Rattle.filter_reader.specs.RuleLine.{rule_line}
+use Rattle.field_boxes.specs.Headline.Classifier.{Rule}
+use Rattle.filter_reader.specs.Headline.RuleLine.{rule_line}
 use Rattle.filter_reader.specs.declared.reason.Reason.{Reason}
 use Rattle.text_lines.specs.Columns.{columns, first_column, behind_column}
 use Rattle.bank_update.specs.Script.{values_of}

@@ -3,7 +3,7 @@ use Rattle.std.proofs.Common.{◌≡◌, ◌∷◌, ℕ, ◌+◌, ◌≤◌, Lis
 use Rattle.std.specs.Prelude.{if◌then◌else◌}
 use Rattle.std.specs.List.{onto_first}
 use Rattle.text_lines.specs.Columns.{columns, behind_column, from_first}
-use Rattle.text_lines.specs.Lines.{is_blank}
+use Rattle.text_lines.specs.Headline.Lines.{is_blank}
 
 -- the bytes up to the first blank
 abbrev to_blank : List ℕ → List ℕ

@@ -1,7 +1,7 @@
 -- What a look-up decides, by the lists of the tables.
 use Rattle.std.proofs.Common.{◌≡◌, ◌∷◌, ℕ, ◌<◌, ◌^◌, List, [], Option, Some, None, cond, ap, ◌∙◌, arith, length, slice_index}
-use Rattle.field_boxes.specs.Classifier.{Rule, source}
-use Rattle.field_boxes.specs.Fields.{IsHeader, stated, width}
+use Rattle.field_boxes.specs.Headline.Classifier.{Rule, source}
+use Rattle.field_boxes.specs.Headline.Fields.{IsHeader, stated, width}
 use Rattle.bank_update.specs.Machine.{State, Swap, answer, has_turned, old_or_new}
 use Rattle.edit_session.specs.Machine.{Copies, decided, decided_with}
 use Rattle.edit_session.specs.Sound.{AreTablesOf, IsPendingOf, IsTableOf}

@@ -6,9 +6,10 @@ use Rattle.std.specs.List.{insert, remove}
 use Rattle.std.proofs.lemmas.List.{map-append, length-append, take-map, drop-map}
 use Rattle.std.proofs.lemmas.List.Elements.{recursion_from_All, All-append, All-cons, All-take, All-drop, All-weaker}
 use Rattle.field_boxes.specs.declared.rule.Rule as code
-use Rattle.field_boxes.specs.Classifier.{Interval, Rule}
+use Rattle.field_boxes.specs.Headline.Classifier.{Interval, Rule}
 use Rattle.field_boxes.specs.NamedRules.{IsNumberedBy, named_rule, named_rules}
-use Rattle.field_boxes.specs.Names.{is_known, name_at, text_of, with_name}
+use Rattle.field_boxes.specs.Headline.Names.{text_of}
+use Rattle.field_boxes.specs.Names.{is_known, name_at, with_name}
 use Rattle.field_boxes.specs.Rules.{sets_of}
 use Rattle.edit_session.specs.Lists.{Listed, rule_named, with_name_alone, with_rule, without_rule}
 use Rattle.filter_reader.proofs.SoFar.{same_rules as same_by}

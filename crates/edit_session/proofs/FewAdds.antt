@@ -4,7 +4,7 @@ use Rattle.std.specs.Prelude.{Result, count_by, nat_eq, ◌==◌}
 use Rattle.std.specs.List.{ends_with, onto_first}
 use Rattle.std.proofs.lemmas.List.{length-take}
 use Rattle.std.proofs.lemmas.List.Sums.{sum_by-cons}
-use Rattle.text_lines.specs.Lines.{text_lines, is_skipped, lines_of, without_return}
+use Rattle.text_lines.specs.Headline.Lines.{text_lines, is_skipped, lines_of, without_return}
 use Rattle.edit_session.specs.declared.reason.SessionReason.{SessionReason}
 use Rattle.edit_session.specs.SessionText.{BadLine, SessionEvent, event_of_line, in_front, is_add, session_from, session_of}
 use Rattle.edit_session.proofs.AddBytes.{adds, line_bytes}

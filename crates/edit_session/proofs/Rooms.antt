@@ -4,9 +4,9 @@ use Rattle.std.specs.Prelude.{not, nat_eq, nat_lt, if◌then◌else◌}
 use Rattle.std.specs.List.{onto_first, list_all}
 use Rattle.std.specs.Char.{digit_value}
 use Rattle.std.proofs.lemmas.Bool.{and_parts, eqb-true, false≢true, not-true}
-use Rattle.text_lines.specs.Lines.{is_blank}
-use Rattle.text_lines.specs.Numbers.{is_number}
-use Rattle.filter_reader.specs.Tokens.{tokens, is_mark, goes_on}
+use Rattle.text_lines.specs.Headline.Lines.{is_blank}
+use Rattle.text_lines.specs.Headline.Numbers.{is_number}
+use Rattle.filter_reader.specs.Headline.Tokens.{tokens, is_mark, goes_on}
 
 -- the bytes of a token and what parts it from the next; a mark takes none, since it parts others
 abbrev pub weight : List ℕ → ℕ

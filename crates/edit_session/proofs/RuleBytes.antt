@@ -6,19 +6,20 @@ use Rattle.std.specs.Char.{digit_value, is_ascii}
 use Rattle.std.specs.Str.{bytes_eq}
 use Rattle.std.proofs.lemmas.Bool.{and_parts, ltb-true}
 use Rattle.std.proofs.lemmas.Option.{option_and_then_some}
-use Rattle.field_boxes.specs.Classifier.{Interval}
+use Rattle.field_boxes.specs.Headline.Classifier.{Interval}
 use Rattle.filter_reader.specs.declared.reason.Reason.{Reason}
 use Rattle.filter_reader.specs.declared.reason.Reason.TheVariants.{NoAt, Address, Length, PortForm, ProtocolForm, NotAscii, TooManyRules}
-use Rattle.filter_reader.specs.Addresses.{address_of, length_of}
-use Rattle.filter_reader.specs.Columns.{behind_at, prefix_set, source_column, destination_column, port_column, protocol_column, under_mask}
-use Rattle.text_lines.specs.Fallible.{◌>>=◌}
-use Rattle.filter_reader.specs.Masks.{hex_number, value_and_mask}
-use Rattle.text_lines.specs.Cuts.{cut_parts, parts_at, split_once}
-use Rattle.text_lines.specs.Numbers.{is_number, number_of, number_within, short_number}
-use Rattle.text_lines.proofs.Joins.{cut_length}
-use Rattle.filter_reader.specs.Ports.{range_before, range_of, ranges_of, ports_of}
-use Rattle.filter_reader.specs.RuleLine.{SpelledRule, rule_line, rule_of_tokens}
-use Rattle.filter_reader.specs.Tokens.{tokens}
+use Rattle.filter_reader.specs.Headline.Addresses.{address_of, length_of}
+use Rattle.filter_reader.specs.Headline.Columns.{behind_at, prefix_set, source_column, destination_column, port_column, protocol_column, under_mask}
+use Rattle.text_lines.specs.Headline.Fallible.{◌>>=◌}
+use Rattle.filter_reader.specs.Headline.Masks.{hex_number, value_and_mask}
+use Rattle.text_lines.specs.Headline.Cuts.{parts_at, split_once}
+use Rattle.text_lines.specs.Headline.Numbers.{is_number, number_of, number_within, short_number}
+use Rattle.text_lines.proofs.Joins.{cut_length, cut_parts}
+use Rattle.filter_reader.specs.Headline.Ports.{range_of, ranges_of, ports_of}
+use Rattle.filter_reader.specs.Ranges.{range_before}
+use Rattle.filter_reader.specs.Headline.RuleLine.{SpelledRule, rule_line, rule_of_tokens}
+use Rattle.filter_reader.specs.Headline.Tokens.{tokens}
 use Rattle.edit_session.proofs.Rooms.{weight, room, tokens_fit, number_weight, long_weight}
 
 -- a step that was taken

@@ -1,9 +1,11 @@
 -- A command of a session takes its turn, or is left where memory is refused.
 use Rattle.std.proofs.Common.{◌≡◌, ℕ, ◌≤◌, true, false, List, Option, Some, None, Result, Ok, Err, inl, inr, refl, sym, ap, subst, ◌∙◌, arith}
 use Rattle.std.specs.Prelude.{◌↔◌, ◌⊎◌, IfOk, IfErr, OnOk, OnErr, option_map, if◌then◌else◌}
+use Rattle.razor_base.specs.FaultPlan.{counted}
 use Rattle.razor_base.specs.Faults.{Rose}
 use Rattle.razor_base.specs.Output.{Writes}
-use Rattle.field_boxes.specs.Classifier.{Rule}
+use Rattle.tcam_sim.specs.Tries.{counted_times}
+use Rattle.field_boxes.specs.Headline.Classifier.{Rule}
 use Rattle.bank_update.specs.declared.stage.Stage.{Stage}
 use Rattle.bank_update.specs.declared.refusal.StepRefusal.{StepRefusal}
 use Rattle.bank_update.specs.declared.refusal.StepRefusal.TheVariants as refusals
@@ -17,23 +19,24 @@ use Rattle.edit_session.specs.Machine.{IsCommit, SessionState, copies_by, steppe
 use Rattle.edit_session.specs.Refusals.{IsKnownAdd, IsKnownCommit}
 use Rattle.edit_session.specs.SessionEnds.{IsLeft, TakesTurn}
 use Rattle.edit_session.specs.SessionLines.{add_line, commit_line}
-use Rattle.edit_session.specs.SessionRuns.{IsTurn, faults_of}
+use Rattle.edit_session.specs.SessionRuns.{IsTurn, faults_of, tries_of}
 use Rattle.edit_session.specs.SessionText as texts
 use Rattle.edit_session.specs.declared.refusal.CommitRefusal.{CommitRefusal}
 use Rattle.edit_session.specs.declared.refusal.CommitRefusal.TheVariants as commits
 use Rattle.edit_session.specs.declared.refusal.PlaceRefusal.{PlaceRefusal}
 use Rattle.edit_session.specs.declared.refusal.PlaceRefusal.TheVariants as places
-use Rattle.bank_update.proofs.Taking.{some_of, rose_one}
+use Rattle.bank_update.proofs.Taking.{some_of, rose_one, tried-by}
 
 -- a command that doesn't write to the device
-pub takes-quietly : {S T E : Type 0} {w : S → Option (List ℕ)} {f : S → ℕ} {a b : S} {old new : SessionState} {m n : ℕ} {event : texts.SessionEvent} {x : Result T E} (line : List ℕ) →
-    IsTurn old event false new line → faults_of old event false ≡ 0 → m ≡ n → Writes w f a b line x → TakesTurn w f a b old new m n event x
-takes-quietly line turn none same writes = record {
+pub takes-quietly : {S T E : Type 0} {w : S → Option (List ℕ)} {f : S → ℕ} {a b : S} {old new : SessionState} {m n p q : ℕ} {event : texts.SessionEvent} {x : Result T E} (line : List ℕ) →
+    IsTurn old event false new line → faults_of old event false ≡ 0 → tries_of old event ≡ 0 → m ≡ n → p ≡ q → Writes w f a b line x → TakesTurn w f a b old new m n p q event x
+takes-quietly {p = p} line turn none quiet same untried writes = record {
   breaks = false;
   printed = line;
   turn = turn;
   counted = inl (omega (arith, none, same));
   counts = omega (arith, same);
+  once = sym untried ∙ ap (λ k. counted_times k p) (sym quiet);
   line = writes;
 }
 
@@ -48,40 +51,42 @@ add_turn old new place rule (Err places.Full) answer list refused is known =
 add_turn old new place rule (Err places.Memory) answer list refused is known = absurd known
 
 -- a rule is added, or there is no place for it
-pub takes-add : {S T E X : Type 0} (w : S → Option (List ℕ)) (f : S → ℕ) (a b : S) (old new : SessionState) (m n : ℕ) (place : ℕ) (rule : Rule (List ℕ)) (r : Result ℕ PlaceRefusal) (x : Result (Result T E) X) →
+pub takes-add : {S T E X : Type 0} (w : S → Option (List ℕ)) (f : S → ℕ) (a b : S) (old new : SessionState) (m n p q : ℕ) (place : ℕ) (rule : Rule (List ℕ)) (r : Result ℕ PlaceRefusal) (x : Result (Result T E) X) →
     IfOk r (λ count. add_answer old.list place ≡ Ok count) → OnOk r (new.list ≡ with_rule old.list place rule) →
-    IfErr r (λ e. IsAddRefused old.list new.list place rule.decision e) → new ≡ with_list old new.list → m ≡ n →
+    IfErr r (λ e. IsAddRefused old.list new.list place rule.decision e) → new ≡ with_list old new.list → m ≡ n → p ≡ q →
     OnOk x (IsKnownAdd r) → IfOk x (λ written. Writes w f a b (add_line r) written) →
-    IfOk x (λ written. TakesTurn w f a b old new m n (texts.Add place rule) written)
-takes-add w f a b old new m n place rule r (Ok written) answer list refused is same known writes =
-    takes-quietly (add_line r) (add_turn old new place rule r answer list refused is known) refl same writes
-takes-add w f a b old new m n place rule r (Err e) answer list refused is same known writes = tt
+    IfOk x (λ written. TakesTurn w f a b old new m n p q (texts.Add place rule) written)
+takes-add w f a b old new m n p q place rule r (Ok written) answer list refused is same untried known writes =
+    takes-quietly (add_line r) (add_turn old new place rule r answer list refused is known) refl refl same untried writes
+takes-add w f a b old new m n p q place rule r (Err e) answer list refused is same untried known writes = tt
 
 -- a commit begins a swap, or is refused for another reason than memory
-pub takes-commit : {S T E X : Type 0} (w : S → Option (List ℕ)) (f : S → ℕ) (a b : S) (old new : SessionState) (m n : ℕ) (r : Result ℕ CommitRefusal) (x : Result (Result T E) X) →
-    IsCommit old new r → m ≡ n → OnOk x (IsKnownCommit r) → IfOk x (λ written. Writes w f a b (commit_line r) written) →
-    IfOk x (λ written. TakesTurn w f a b old new m n texts.Commit written)
-takes-commit w f a b old new m n r (Ok written) commit same known writes =
-    takes-quietly (commit_line r) (record { answer = r; commit = commit; answered = known; line_is = refl }) refl same writes
-takes-commit w f a b old new m n r (Err e) commit same known writes = tt
+pub takes-commit : {S T E X : Type 0} (w : S → Option (List ℕ)) (f : S → ℕ) (a b : S) (old new : SessionState) (m n p q : ℕ) (r : Result ℕ CommitRefusal) (x : Result (Result T E) X) →
+    IsCommit old new r → m ≡ n → p ≡ q → OnOk x (IsKnownCommit r) → IfOk x (λ written. Writes w f a b (commit_line r) written) →
+    IfOk x (λ written. TakesTurn w f a b old new m n p q texts.Commit written)
+takes-commit w f a b old new m n p q r (Ok written) commit same untried known writes =
+    takes-quietly (commit_line r) (record { answer = r; commit = commit; answered = known; line_is = refl }) refl refl same untried writes
+takes-commit w f a b old new m n p q r (Err e) commit same untried known writes = tt
 
 idle-step : (s : SessionState) → s.state.pending ≡ None → s ≡ stepped s
 idle-step s idle =
     ap (λ p. with_state s (swaps.reached_by moved s.state p) (copies_by s.copies (option_map (λ swap. stage_of s.state (moved swap)) p))) (sym idle)
 
 -- a step that succeeds, that finds no swap pending, or that fails
-pub takes-step : {S T E : Type 0} {w : S → Option (List ℕ)} {f : S → ℕ} {a b : S} {old new : SessionState} {m n : ℕ} {x : Result T E} (r : Result Stage StepRefusal) →
+pub takes-step : {S T E : Type 0} {w : S → Option (List ℕ)} {f : S → ℕ} {a b : S} {old new : SessionState} {m n p q : ℕ} {x : Result T E} (r : Result Stage StepRefusal) →
     IfOk r (λ stage. step_answer old.state ≡ Some stage) → OnOk r (new ≡ stepped old) → (r ≡ Err refusals.Idle ↔ old.state.pending ≡ None) → OnErr r (new ≡ old) →
-    (r ≡ Err refusals.DeviceFault → Rose m n) → m ≤ n → Writes w f a b (step_line r) x → TakesTurn w f a b old new m n texts.Step x
-takes-step (Ok stage) answer is idle same fault le writes = record {
+    (r ≡ Err refusals.DeviceFault → Rose m n) → m ≤ n → ((old.state.pending ≡ None → ⊥) → q ≡ counted p) → (old.state.pending ≡ None → q ≡ p) →
+    Writes w f a b (step_line r) x → TakesTurn w f a b old new m n p q texts.Step x
+takes-step {old = old} {p = p} {q = q} (Ok stage) answer is idle same fault le once none writes = record {
   breaks = false;
   printed = step_line (Ok stage);
   turn = (is, ap stage_or_idle (sym answer));
   counted = inl (omega (arith, le));
   counts = le;
+  once = tried-by old.state.pending p q once none;
   line = writes;
 }
-takes-step {old = old} (Err refusals.Idle) answer is idle same fault le writes =
+takes-step {old = old} {p = p} {q = q} (Err refusals.Idle) answer is idle same fault le once quiet writes =
     let none = idle.0 refl in
     record {
       breaks = false;
@@ -89,9 +94,10 @@ takes-step {old = old} (Err refusals.Idle) answer is idle same fault le writes =
       turn = (same ∙ idle-step old none, ap (λ o. stage_or_idle (option_map (λ swap. stage_of old.state (moved swap)) o)) (sym none));
       counted = inl (omega (arith, le));
       counts = le;
+      once = tried-by old.state.pending p q once quiet;
       line = writes;
     }
-takes-step {old = old} {m = m} {n = n} (Err refusals.DeviceFault) answer is idle same fault le writes =
+takes-step {old = old} {m = m} {n = n} {p = p} {q = q} (Err refusals.DeviceFault) answer is idle same fault le once none writes =
     let some = some_of old.state.pending (λ none. absurd (let e = idle.1 none in cc)) in
     record {
       breaks = true;
@@ -99,19 +105,20 @@ takes-step {old = old} {m = m} {n = n} (Err refusals.DeviceFault) answer is idle
       turn = (same ∙ ap (λ t. if t then old else stepped old) (sym some), ap (λ t. if t then fault_line else stage_or_idle (step_answer old.state)) (sym some));
       counted = subst (λ t. RoseBy (if t then 1 else 0) m n) (sym some) (rose_one m n (fault refl));
       counts = le;
+      once = tried-by old.state.pending p q once none;
       line = writes;
     }
 
 -- the same of the command as the code has it
-pub turn-is : {S T E : Type 0} {w : S → Option (List ℕ)} {f : S → ℕ} {a b : S} {old new : SessionState} {m n : ℕ} {x : Result T E} {event other : texts.SessionEvent} → other ≡ event →
-    TakesTurn w f a b old new m n event x → TakesTurn w f a b old new m n other x
-turn-is {w = w} {f = f} {a = a} {b = b} {old = old} {new = new} {m = m} {n = n} {x = x} is turn = subst (λ e. TakesTurn w f a b old new m n e x) (sym is) turn
+pub turn-is : {S T E : Type 0} {w : S → Option (List ℕ)} {f : S → ℕ} {a b : S} {old new : SessionState} {m n p q : ℕ} {x : Result T E} {event other : texts.SessionEvent} → other ≡ event →
+    TakesTurn w f a b old new m n p q event x → TakesTurn w f a b old new m n p q other x
+turn-is {w = w} {f = f} {a = a} {b = b} {old = old} {new = new} {m = m} {n = n} {p = p} {q = q} {x = x} is turn = subst (λ e. TakesTurn w f a b old new m n p q e x) (sym is) turn
 
 -- the same where the answer is handed on
-pub turns-are : {S T E X : Type 0} (w : S → Option (List ℕ)) (f : S → ℕ) (a b : S) (old new : SessionState) (m n : ℕ) (event other : texts.SessionEvent) (r : Result (Result T E) X) → other ≡ event →
-    IfOk r (λ x. TakesTurn w f a b old new m n event x) → IfOk r (λ x. TakesTurn w f a b old new m n other x)
-turns-are w f a b old new m n event other (Ok x) is turn = turn-is is turn
-turns-are w f a b old new m n event other (Err e) is turn = tt
+pub turns-are : {S T E X : Type 0} (w : S → Option (List ℕ)) (f : S → ℕ) (a b : S) (old new : SessionState) (m n p q : ℕ) (event other : texts.SessionEvent) (r : Result (Result T E) X) → other ≡ event →
+    IfOk r (λ x. TakesTurn w f a b old new m n p q event x) → IfOk r (λ x. TakesTurn w f a b old new m n p q other x)
+turns-are w f a b old new m n p q event other (Ok x) is turn = turn-is is turn
+turns-are w f a b old new m n p q event other (Err e) is turn = tt
 
 left_by : (old new : SessionState) (list : Listed) (name : List ℕ) → new ≡ with_list old list → (list ≡ old.list) ⊎ (list ≡ with_name_alone old.list name) →
     (new ≡ old) ⊎ (new ≡ with_list old (with_name_alone old.list name))

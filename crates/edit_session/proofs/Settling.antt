@@ -1,8 +1,8 @@
 -- How a swap that a commit has begun ends.
 use Rattle.std.proofs.Common.{◌≡◌, ℕ, zero, suc, ◌+◌, ◌==◌, List, Bool, true, false, Some, None, Result, Ok, Err, if◌then◌else◌, length, refl, ap, sym, subst, ◌∙◌, arith}
 use Rattle.std.proofs.lemmas.Bool.{eqb-false, eqb-true}
-use Rattle.field_boxes.specs.Classifier.{source}
-use Rattle.field_boxes.specs.Fields.{stated}
+use Rattle.field_boxes.specs.Headline.Classifier.{source}
+use Rattle.field_boxes.specs.Headline.Fields.{stated}
 use Rattle.ternary_words.specs.declared.table.Table as code
 use Rattle.bank_update.specs.Machine.{Block, State, begun_at, place_for, settle, total_at, total_with, with_swap}
 use Rattle.bank_update.specs.declared.refusal.BeginRefusal.{BeginRefusal}

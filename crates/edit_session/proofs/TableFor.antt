@@ -1,11 +1,11 @@
 -- The table that is compiled of a list is one for the list, or the list needs too much.
 use Rattle.std.proofs.Common.{◌≡◌, ℕ, ◌≤◌, List, Result, Ok, Err, subst, ◌∙◌}
 use Rattle.std.specs.Prelude.{IfErr, IfOk, MatchResult}
-use Rattle.field_boxes.specs.Classifier.{Rule}
-use Rattle.field_boxes.specs.Fields.{stated}
+use Rattle.field_boxes.specs.Headline.Classifier.{Rule}
+use Rattle.field_boxes.specs.Headline.Fields.{stated}
 use Rattle.ternary_words.specs.declared.table.Table as code
 use Rattle.ternary_words.specs.Views.{table_of}
-use Rattle.table_compose.specs.LeastCost.{IsLeastCost}
+use Rattle.table_compose.specs.Headline.LeastCost.{IsLeastCost}
 use Rattle.table_compose.specs.declared.composition.ComposeError.{ComposeError}
 use Rattle.rule_compilation.specs.Compiled.{IsCompiled, IsRefused}
 use Rattle.edit_session.specs.Lists.{Listed}

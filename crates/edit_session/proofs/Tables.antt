@@ -1,7 +1,7 @@
 -- The tables stay tables of their lists when the state of the swap changes.
 use Rattle.std.proofs.Common.{◌≡◌, ℕ, List, Bool, true, false, Option, Some, None, Result, Ok, Err, ap, refl, sym, subst, ◌∙◌, length}
 use Rattle.std.specs.Prelude.{◌==◌, if◌then◌else◌, ok_or, option_map}
-use Rattle.field_boxes.specs.Classifier.{Rule}
+use Rattle.field_boxes.specs.Headline.Classifier.{Rule}
 use Rattle.ternary_words.specs.declared.table.Table as code
 use Rattle.bank_update.specs.Machine as swaps
 use Rattle.bank_update.specs.Machine.{Block, State, Swap, abort_answer, begin_answer, begun, begun_at, moved, place_for, reached_by, settle, stage_of, step_answer, total, total_at, total_with, turned_back, unsettled, with_swap}

@@ -2,7 +2,7 @@
 use Rattle.std.specs.Prelude.{ℕ, ◌+◌, ◌-◌, ◌==◌, Bool, ◌&&◌, nat_le, List, length, insert, remove, Result, Ok, Err, if◌then◌else◌}
 use Rattle.razor_base.specs.declared.limits.TheConstants.{MOST_RULES}
 use Rattle.field_boxes.specs.declared.rule.Rule as code
-use Rattle.field_boxes.specs.Classifier.{Rule}
+use Rattle.field_boxes.specs.Headline.Classifier.{Rule}
 use Rattle.field_boxes.specs.Names.{with_name}
 use Rattle.field_boxes.specs.Rules.{sets_of}
 use Rattle.filter_reader.specs.Prefixes.{IsPrefix}

@@ -1,10 +1,10 @@
 -- An editing session: what is kept, and what each event answers and does.
 use Rattle.std.specs.Prelude.{◌≡◌, ◌≢◌, ℕ, zero, suc, ◌<◌, ◌≤◌, ◌==◌, cond, List, [], length, Option, Some, None, unwrap_or, Result, Ok, Err, if◌then◌else◌}
-use Rattle.field_boxes.specs.Classifier.{Rule, source}
-use Rattle.field_boxes.specs.Fields.{stated}
+use Rattle.field_boxes.specs.Headline.Classifier.{Rule, source}
+use Rattle.field_boxes.specs.Headline.Fields.{stated}
 use Rattle.ternary_words.specs.declared.table.Table as code
 use Rattle.ternary_words.specs.Views.{table_of}
-use Rattle.table_compose.specs.LeastCost.{IsLeastCost}
+use Rattle.table_compose.specs.Headline.LeastCost.{IsLeastCost}
 use Rattle.rule_compilation.specs.Compiled.{IsCompiled}
 use Rattle.bank_update.specs.Machine as swaps
 use Rattle.bank_update.specs.Machine.{State, Swap, abort_answer, begin_answer, begun, has_turned, step_answer, total_with, unsettled}

@@ -2,13 +2,14 @@
 use Rattle.std.specs.Prelude.{◌≡◌, ◌⊎◌, ℕ, ◌≤◌, Bool, List, [], ◌∷◌, ◌++◌, length, count_by, Option, Result, Ok, Err}
 use Rattle.std.specs.List.{concat}
 use Rattle.razor_base.specs.Output.{Writes}
+use Rattle.tcam_sim.specs.Tries.{counted_times}
 use Rattle.bank_update.specs.Runs.{RoseBy}
 use Rattle.bank_update.specs.declared.drive.DriveError.{DriveError}
 use Rattle.bank_update.specs.declared.drive.DriveError.TheVariants.{Memory, WriteFault}
 use Rattle.edit_session.specs.Editing.{Editing}
 use Rattle.edit_session.specs.Lists.{with_name_alone}
 use Rattle.edit_session.specs.Machine.{SessionState, with_list}
-use Rattle.edit_session.specs.SessionRuns.{IsTurn, faults_of}
+use Rattle.edit_session.specs.SessionRuns.{IsTurn, faults_of, tries_of}
 use Rattle.edit_session.specs.SessionText.{SessionEvent, Add, TakeOut, Commit, Step, Abort, Look, Stage, is_add}
 
 -- how many commands add a rule
@@ -67,11 +68,13 @@ SessionOutcome Ran Appended last events (Ok count) = (count ≡ length events) �
 SessionOutcome Ran Appended last events (Err Memory) = HasRunBefore Ran Appended last events
 SessionOutcome Ran Appended last events (Err WriteFault) = IsCutOffSession Ran Appended last events
 
--- the command took its turn, and its line is written: the session goes on, and so does the device's count of faults
-pub record TakesTurn {S T E : Type 0} (written : S → Option (List ℕ)) (faults : S → ℕ) (before after : S) (old new : SessionState) (failed fails : ℕ) (event : SessionEvent) (answer : Result T E) : Type 0 where
+-- the command took its turn, and its line is written: the session goes on, and so do the device's counts of faults and of
+-- tries
+pub record TakesTurn {S T E : Type 0} (written : S → Option (List ℕ)) (faults : S → ℕ) (before after : S) (old new : SessionState) (failed fails tried tries : ℕ) (event : SessionEvent) (answer : Result T E) : Type 0 where
   pub breaks : Bool
   pub printed : List ℕ
   pub turn : IsTurn old event breaks new printed
   pub counted : RoseBy (faults_of old event breaks) failed fails
   pub counts : failed ≤ fails
+  pub once : tries ≡ counted_times (tries_of old event) tried
   pub line : Writes written faults before after printed answer

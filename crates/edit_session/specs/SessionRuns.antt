@@ -1,5 +1,6 @@
 -- What the commands of an editing session do and print, each in its turn.
-use Rattle.std.specs.Prelude.{◌≡◌, ℕ, ◌+◌, Bool, List, [], ◌∷◌, map, Result, if◌then◌else◌}
+use Rattle.std.specs.Prelude.{◌≡◌, ℕ, ◌+◌, Bool, List, [], ◌∷◌, map, Result, is_some, if◌then◌else◌}
+use Rattle.tcam_sim.specs.Tries.{counted_times}
 use Rattle.bank_update.specs.Lines.{fault_line, look_line, stage_or_idle}
 use Rattle.bank_update.specs.Machine.{abort_answer, looked, stage, step_answer}
 use Rattle.bank_update.specs.Runs.{RoseBy, step_fails}
@@ -45,6 +46,16 @@ faults_of s Abort fails = 0
 faults_of s (Look values) fails = 0
 faults_of s Stage fails = 0
 
+-- how many writes are tried with a command: one by a step while a swap is pending, and none by any other
+abbrev pub tries_of : SessionState → SessionEvent → ℕ
+tries_of s (Add place rule) = 0
+tries_of s (TakeOut place) = 0
+tries_of s Commit = 0
+tries_of s Step = if is_some s.state.pending then 1 else 0
+tries_of s Abort = 0
+tries_of s (Look values) = 0
+tries_of s Stage = 0
+
 -- turns one after another
 abbrev pub AreTurns : SessionState → List Turn → Type 0
 AreTurns s [] = Unit {0}
@@ -60,6 +71,11 @@ abbrev pub fault_count : SessionState → List Turn → ℕ
 fault_count s [] = 0
 fault_count s (turn ∷ turns) = faults_of s turn.event turn.fails + fault_count turn.after turns
 
+-- how many writes are tried in turns
+abbrev pub try_count : SessionState → List Turn → ℕ
+try_count s [] = 0
+try_count s (turn ∷ turns) = tries_of s turn.event + try_count turn.after turns
+
 -- commands ran from one session to another and printed these lines, each in its turn, and no more steps failed than the
 -- device's count of faults rose by
 pub record IsSessionRun (start last : SessionState) (before after : ℕ) (events : List SessionEvent) (lines : List (List ℕ)) : Type 0 where
@@ -69,3 +85,8 @@ pub record IsSessionRun (start last : SessionState) (before after : ℕ) (events
   pub state : last ≡ last_of start turns
   pub printed : lines ≡ map (λ (t : Turn). t.line) turns
   pub counted : RoseBy (fault_count start turns) before after
+
+-- such a run, in which each step tried one write while a swap was pending, and nothing else tried any
+pub record IsTriedSessionRun (start last : SessionState) (before after tried tries : ℕ) (events : List SessionEvent) (lines : List (List ℕ)) : Type 0 where
+  pub run : IsSessionRun start last before after events lines
+  pub once : tries ≡ counted_times (try_count start run.turns) tried

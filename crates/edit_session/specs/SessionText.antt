@@ -2,12 +2,12 @@
 use Rattle.std.specs.Prelude.{ℕ, ◌+◌, Bool, true, false, List, [], ◌∷◌, codes, Option, Some, None, Result, Ok, Err, ok_or, if◌then◌else◌}
 use Rattle.std.specs.Result.{result_ok}
 use Rattle.std.specs.Str.{bytes_eq}
-use Rattle.field_boxes.specs.Classifier.{Rule}
+use Rattle.field_boxes.specs.Headline.Classifier.{Rule}
 use Rattle.text_lines.specs.Columns.{behind_column, columns, first_column}
-use Rattle.text_lines.specs.Lines.{is_skipped, text_lines}
-use Rattle.text_lines.specs.Numbers.{short_number}
-use Rattle.text_lines.specs.Steps.{◌>>=◌}
-use Rattle.filter_reader.specs.RuleLine.{rule_line}
+use Rattle.text_lines.specs.Headline.Lines.{is_skipped, text_lines}
+use Rattle.text_lines.specs.Headline.Numbers.{short_number}
+use Rattle.text_lines.specs.Headline.Steps.{◌>>=◌}
+use Rattle.filter_reader.specs.Headline.RuleLine.{rule_line}
 use Rattle.bank_update.specs.Script.{values_of}
 use Rattle.edit_session.specs.declared.reason.SessionReason.{SessionReason}
 use Rattle.edit_session.specs.declared.reason.SessionReason.TheVariants as reasons

@@ -5,7 +5,7 @@ use Rattle.field_boxes.specs.declared.rule.Rule.{Rule}
 use Rattle.field_boxes.specs.Names.{is_decision_word}
 use Rattle.field_boxes.specs.Rules.{sets_of}
 use Rattle.filter_reader.specs.FilterRules.{IsFilterRule}
-use Rattle.text_lines.specs.Lines.{is_skipped}
+use Rattle.text_lines.specs.Headline.Lines.{is_skipped}
 use Rattle.edit_session.specs.SessionText.{SessionEvent, BadLine, Add, TakeOut, Commit, Step, Abort, Look, Stage, event_of_line}
 use Rattle.edit_session.specs.declared.session.SessionCommand.{SessionCommand}
 use Rattle.edit_session.specs.declared.session.SessionCommand.TheVariants as commands

@@ -1,7 +1,7 @@
 -- What always holds of the tables of an editing session.
 use Rattle.std.specs.Prelude.{◌≡◌, ℕ, List, Option, Some, None}
-use Rattle.field_boxes.specs.Classifier.{Rule, source}
-use Rattle.field_boxes.specs.Fields.{IsHeader, stated}
+use Rattle.field_boxes.specs.Headline.Classifier.{Rule, source}
+use Rattle.field_boxes.specs.Headline.Fields.{IsHeader, stated}
 use Rattle.bank_update.specs.Machine.{Block, State, Swap, answer}
 use Rattle.edit_session.specs.Machine.{Copies}
 

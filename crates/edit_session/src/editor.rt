@@ -49,7 +49,8 @@ impl<V: Device> Editor<V> {
     ghost use Rattle.razor_base.specs.FaultPlan.{counted};
     ghost use Rattle.razor_base.specs.Faults.{Rose};
     ghost use Rattle.field_boxes.specs.NamedRules.{IsNumberedBy, named_rules};
-    ghost use Rattle.field_boxes.specs.Names.{is_decision_word, text_of};
+    ghost use Rattle.field_boxes.specs.Headline.Names.{text_of};
+    ghost use Rattle.field_boxes.specs.Names.{is_decision_word};
     ghost use Rattle.filter_reader.specs.FilterRules.{IsFilterRule};
     ghost use Rattle.ternary_words.specs.Limits.{IsSlotWidth};
     ghost use Rattle.bank_update.specs.Machine.{abort_answer, held, looked, stage, step_answer};

@@ -1,7 +1,7 @@
 //! Laws of editing sessions. The functions do nothing.
 ghost use Rattle.std.specs.Prelude.{◌≡◌, ◌<◌, ◌∷◌, ℕ, List, None, Ok};
-ghost use Rattle.field_boxes.specs.Classifier.{source};
-ghost use Rattle.field_boxes.specs.Fields.{stated};
+ghost use Rattle.field_boxes.specs.Headline.Classifier.{source};
+ghost use Rattle.field_boxes.specs.Headline.Fields.{stated};
 ghost use Rattle.text_lines.specs.Columns.{columns, behind_column};
 ghost use Rattle.edit_session.specs.Machine.{HasSettled, IsCommit, SessionState, after_steps, decided};
 

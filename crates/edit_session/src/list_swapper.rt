@@ -32,7 +32,7 @@ impl<V: Device> ListSwapper<V> {
     ghost use Rattle.std.specs.Prelude.{◌≡◌, ◌≢◌, ◌≤◌, ◌↔◌, ℕ, List, None, Some, Ok, Err, length, replicate, ok_or, IfOk, IfErr, OnOk, OnErr};
     ghost use Rattle.razor_base.specs.FaultPlan.{counted};
     ghost use Rattle.razor_base.specs.Faults.{Rose};
-    ghost use Rattle.field_boxes.specs.Names.{text_of};
+    ghost use Rattle.field_boxes.specs.Headline.Names.{text_of};
     ghost use Rattle.bank_update.specs.Machine.{abort_answer, aborted, begin_answer, begun, held, looked, stage, step_answer, stepped, total_with, unsettled};
     ghost use Rattle.bank_update.specs.Sound.{IsSound};
     ghost use Rattle.bank_update.specs.Swapping.{KeepsNew};

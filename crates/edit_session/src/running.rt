@@ -10,7 +10,7 @@ ghost use Rattle.bank_update.specs.Driven.{UnlessWriteFault};
 ghost use Rattle.bank_update.specs.declared.drive.DriveError.TheVariants as errors;
 ghost use Rattle.edit_session.specs.Lists.{rule_named};
 ghost use Rattle.edit_session.specs.SessionEnds.{IsLeft, SessionOutcome, TakesTurn, adds_of};
-ghost use Rattle.edit_session.specs.SessionRuns.{IsSessionRun};
+ghost use Rattle.edit_session.specs.SessionRuns.{IsTriedSessionRun};
 ghost use Rattle.edit_session.specs.SessionText.{Add, Commit, is_add};
 ghost use Rattle.edit_session.specs.SessionViews.{IsCommand, event_of};
 
@@ -36,7 +36,7 @@ fn add<K: Sink, V: Device>(
     requires word { IsTrue (is_decision_word name.now) }
     requires room { length editor.old.session.list.names < MOST_ENTRIES }
     requires nothing { pending.old ≡ [] }
-    ensures turn { IfOk result (λ written. TakesTurn K.written K.faults out.old out.new editor.old.session editor.new.session (V.faults editor.old.device) (V.faults editor.new.device) (Add place (rule_named name.now rule.now)) written) }
+    ensures turn { IfOk result (λ written. TakesTurn K.written K.faults out.old out.new editor.old.session editor.new.session (V.faults editor.old.device) (V.faults editor.new.device) (V.tries editor.old.device) (V.tries editor.new.device) (Add place (rule_named name.now rule.now)) written) }
     ensures none { pending.new ≡ [] }
     ensures refused { OnErr result (IsLeft (Add place (rule_named name.now rule.now)) editor.old editor.new × (out.new ≡ out.old)) }
 {
@@ -50,7 +50,7 @@ fn commit<K: Sink, V: Device>(
     out: &mut K,
 ) -> Result<Result<(), Failed>, Memory>
     requires { pending.old ≡ [] }
-    ensures turn { IfOk result (λ written. TakesTurn K.written K.faults out.old out.new editor.old.session editor.new.session (V.faults editor.old.device) (V.faults editor.new.device) Commit written) }
+    ensures turn { IfOk result (λ written. TakesTurn K.written K.faults out.old out.new editor.old.session editor.new.session (V.faults editor.old.device) (V.faults editor.new.device) (V.tries editor.old.device) (V.tries editor.new.device) Commit written) }
     ensures none { pending.new ≡ [] }
     ensures refused { OnErr result (IsLeft Commit editor.old editor.new × (out.new ≡ out.old)) }
 {
@@ -68,7 +68,7 @@ fn take_turn<K: Sink, V: Device>(
     requires good { IsCommand command.now }
     requires room { IsTrue (is_add (event_of command.now)) → length editor.old.session.list.names < MOST_ENTRIES }
     requires nothing { pending.old ≡ [] }
-    ensures turn { IfOk result (λ written. TakesTurn K.written K.faults out.old out.new editor.old.session editor.new.session (V.faults editor.old.device) (V.faults editor.new.device) (event_of command.now) written) }
+    ensures turn { IfOk result (λ written. TakesTurn K.written K.faults out.old out.new editor.old.session editor.new.session (V.faults editor.old.device) (V.faults editor.new.device) (V.tries editor.old.device) (V.tries editor.new.device) (event_of command.now) written) }
     ensures none { pending.new ≡ [] }
     ensures refused { OnErr result (IsLeft (event_of command.now) editor.old editor.new × (out.new ≡ out.old)) }
 {
@@ -92,6 +92,7 @@ fn take_turn<K: Sink, V: Device>(
 ///
 /// A write that fails stops it with the command done whose line is cut off, and memory that is refused stops it
 /// before the command that wanted it; the name of a rule that was to be added may be there then.
+#[inline(never)]
 pub fn session_on<K: Sink, V: Device>(
     _alloc: Global,
     session: &Session,
@@ -100,8 +101,9 @@ pub fn session_on<K: Sink, V: Device>(
 ) -> Result<u64, DriveError>
     requires { length editor.old.session.list.names + adds_of session.now < MOST_ENTRIES }
 
-    // What ran by the end is a run of the machine, in which no more steps failed than the device's count rose by.
-    ensures outcome { SessionOutcome (λ stood. IsSessionRun editor.old.session stood (V.faults editor.old.device) (V.faults editor.new.device))
+    // What ran by the end is a run of the machine, in which no more steps failed than the device's count rose by, and
+    // one write was tried by each step while a swap was pending.
+    ensures outcome { SessionOutcome (λ stood. IsTriedSessionRun editor.old.session stood (V.faults editor.old.device) (V.faults editor.new.device) (V.tries editor.old.device) (V.tries editor.new.device))
         (Appends (K.written out.old) (K.written out.new)) editor.new.session session.now result }
     ensures counts { V.faults editor.old.device ≤ V.faults editor.new.device }
 

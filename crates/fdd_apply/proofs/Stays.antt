@@ -1,6 +1,6 @@
 -- What was found of old numbers stays when a store grows.
 use Rattle.std.proofs.Common.{ℕ, List, ◌∙◌, ap, subst, sym}
-use Rattle.field_boxes.specs.Fields.{AreValues}
+use Rattle.field_boxes.specs.Headline.Fields.{AreValues}
 use Rattle.node_store.specs.Levels.{IsLevel}
 use Rattle.node_store.specs.Diagram.{Node, answer}
 use Rattle.node_store.specs.Store.{Grows}

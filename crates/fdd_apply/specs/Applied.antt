@@ -1,6 +1,6 @@
 -- One node that comes of two of its level.
 use Rattle.std.specs.Prelude.{◌≡◌, ℕ, List}
-use Rattle.field_boxes.specs.Fields.{AreValues}
+use Rattle.field_boxes.specs.Headline.Fields.{AreValues}
 use Rattle.node_store.specs.declared.edge.NodeId.{NodeId}
 use Rattle.node_store.specs.declared.edge.Edge.{Edge}
 use Rattle.node_store.specs.declared.split.Part.{Part}

@@ -1,7 +1,7 @@
 //! One walk over pairs of nodes.
 ghost use Rattle.std.specs.Prelude.{◌≡◌, ℕ, List, [], map, Some, IfOk};
 ghost use Rattle.std.specs.List.{AllZip};
-ghost use Rattle.field_boxes.specs.Fields.{AreValues};
+ghost use Rattle.field_boxes.specs.Headline.Fields.{AreValues};
 ghost use Rattle.node_store.specs.Levels.{IsLevel};
 ghost use Rattle.node_store.specs.Diagram.{level_of, answer};
 ghost use Rattle.node_store.specs.Split.{to_left, to_right};

@@ -5,10 +5,11 @@ use Rattle.std.proofs.lemmas.Option.{unwrap_or-slice_get}
 use Rattle.std.proofs.lemmas.List.{get_or-map}
 use Rattle.std.specs.Borrow.{Bor}
 use Rattle.field_boxes.specs.declared.span.Span.{Span}
-use Rattle.field_boxes.specs.Classifier.{Interval, union_holds, matches}
+use Rattle.field_boxes.specs.Headline.Classifier.{Interval, union_holds, matches}
 use Rattle.field_boxes.specs.Spans.{intervals_of}
 use Rattle.node_store.specs.Diagram.{Node, answer}
-use Rattle.field_boxes.specs.Fields.{greatest_of, AreValues}
+use Rattle.field_boxes.specs.Headline.Fields.{AreValues}
+use Rattle.field_boxes.specs.Fields.{greatest_of}
 use Rattle.node_store.specs.Levels.{HasField, IsLevel, next, top_of}
 use Rattle.node_store.proofs.Values.{each}
 use Rattle.field_boxes.specs.Boxes.{AreSets}

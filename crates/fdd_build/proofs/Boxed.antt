@@ -2,7 +2,7 @@
 use Rattle.std.proofs.Common.{◌≡◌, ◌∷◌, ℕ, List, [], refl, ap, ◌∙◌}
 use Rattle.std.specs.Prelude.{◌&&◌, slice_get, unwrap_or}
 use Rattle.field_boxes.specs.declared.rule.Rule as code
-use Rattle.field_boxes.specs.Classifier.{Rule, union_holds, set_holds, matches}
+use Rattle.field_boxes.specs.Headline.Classifier.{Rule, union_holds, set_holds, matches}
 use Rattle.field_boxes.specs.Rules.{sets_of, rule_of}
 use Rattle.fdd_build.specs.Sets.{box_rule}
 

@@ -4,9 +4,10 @@ use Rattle.std.specs.Prelude.{map, find, unwrap_or, option_map, slice_get}
 use Rattle.std.specs.List.{AllByRecursion}
 use Rattle.std.proofs.lemmas.Option.{slice_get-get_or}
 use Rattle.field_boxes.specs.declared.rule.Rule as code
-use Rattle.field_boxes.specs.Classifier.{Rule, matches, source}
+use Rattle.field_boxes.specs.Headline.Classifier.{Rule, matches, source}
 use Rattle.field_boxes.specs.NamedRules.{IsNumberedBy, named_rule, named_rules}
-use Rattle.field_boxes.specs.Names.{name_at, text_of}
+use Rattle.field_boxes.specs.Headline.Names.{text_of}
+use Rattle.field_boxes.specs.Names.{name_at}
 use Rattle.field_boxes.specs.Rules.{rule_of}
 use Rattle.field_boxes.proofs.SameSets.{matches_by_sets}
 use Rattle.fdd_build.specs.Rules.{decided}

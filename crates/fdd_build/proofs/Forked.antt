@@ -3,7 +3,7 @@ use Rattle.std.proofs.Common.{◌≡◌, ◌≤◌, ◌<◌, ℕ, ◌∙◌, ap,
 use Rattle.std.specs.Prelude.{Bool, false, ◌&&◌, ◌||◌, cond, nat_le, nat_lt}
 use Rattle.std.proofs.Math.Bool.{and-true, or-false}
 use Rattle.std.proofs.lemmas.Bool.{le-leb, lt-ltb, le-ltb, cases_lt}
-use Rattle.field_boxes.specs.Classifier.{Interval, interval_holds}
+use Rattle.field_boxes.specs.Headline.Classifier.{Interval, interval_holds}
 use Rattle.field_boxes.proofs.Unions.{not_below}
 
 holds_to_end : (i : Interval) (v : ℕ) → v ≤ i.hi → interval_holds v i ≡ nat_le i.lo v

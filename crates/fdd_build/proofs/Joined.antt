@@ -4,7 +4,7 @@ use Rattle.std.specs.Prelude.{Bool, true, false, ◌&&◌, ◌||◌, cond, nat_e
 use Rattle.std.specs.List.{list_any}
 use Rattle.std.proofs.lemmas.Bool.Decides.{Decides-eqb}
 use Rattle.field_boxes.specs.declared.rule.Rule as code
-use Rattle.field_boxes.specs.Classifier.{Rule, matches}
+use Rattle.field_boxes.specs.Headline.Classifier.{Rule, matches}
 use Rattle.field_boxes.specs.Rules.{rule_of}
 use Rattle.fdd_build.specs.declared.overlay.Overlay.TheVariants.{Answer}
 use Rattle.fdd_build.specs.Overlay.{shown}

@@ -2,7 +2,7 @@
 use Rattle.std.proofs.Common.{◌≡◌, ℕ, List, [], ◌∷◌, ◌≤◌, ◌<◌, ◌∙◌, length, arith, sym, subst}
 use Rattle.std.specs.Prelude.{drop, slice_index_or}
 use Rattle.node_store.specs.declared.edge.NodeId.{NodeId}
-use Rattle.field_boxes.specs.Fields.{AreValues}
+use Rattle.field_boxes.specs.Headline.Fields.{AreValues}
 use Rattle.node_store.specs.Levels.{HasField, IsLevel, next, top_of}
 use Rattle.node_store.specs.Diagram.{Node, level_of, answer}
 use Rattle.fdd_build.specs.Nothing.{AnswersNothing, AreNothing, IsZero, AreZeros}

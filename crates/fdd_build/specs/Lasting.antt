@@ -1,7 +1,7 @@
 -- Nodes that answer 0 go on to as the store grows.
 use Rattle.std.specs.Prelude.{List, slice_index_or}
 use Rattle.std.proofs.Common.{sym, subst, ◌∙◌}
-use Rattle.field_boxes.specs.Fields.{AreValues}
+use Rattle.field_boxes.specs.Headline.Fields.{AreValues}
 use Rattle.node_store.specs.Levels.{IsLevel}
 use Rattle.node_store.specs.declared.edge.NodeId.{NodeId}
 use Rattle.node_store.specs.Diagram.{Node}

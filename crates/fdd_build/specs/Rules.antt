@@ -1,7 +1,7 @@
 -- What rule lists say of a header.
 use Rattle.std.specs.Prelude.{ℕ, Bool, ◌&&◌, nat_eq, List, map, unwrap_or}
 use Rattle.field_boxes.specs.declared.rule.Rule as code
-use Rattle.field_boxes.specs.Classifier.{matches, source}
+use Rattle.field_boxes.specs.Headline.Classifier.{matches, source}
 use Rattle.field_boxes.specs.Rules.{rule_of}
 
 -- the decision of the first rule that matches the values of these fields, or 0

@@ -1,7 +1,7 @@
 -- Sets of values that are given as slices of spans, and edges that lead elsewhere in a set.
 use Rattle.std.specs.Prelude.{◌≡◌, ℕ, zero, suc, List, [], map}
 use Rattle.field_boxes.specs.declared.span.Span.{Span}
-use Rattle.field_boxes.specs.Classifier.{Interval, Rule}
+use Rattle.field_boxes.specs.Headline.Classifier.{Interval, Rule}
 use Rattle.field_boxes.specs.Spans.{intervals_of}
 use Rattle.node_store.specs.declared.edge.Edge.{Edge}
 use Rattle.node_store.specs.Edges.{AreFull}

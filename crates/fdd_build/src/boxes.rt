@@ -1,7 +1,7 @@
 //! The diagram of one box: a set of values for each field, as a slice of spans.
 ghost use Rattle.std.specs.Prelude.{◌≡◌, ℕ, List, if◌then◌else◌, IfOk};
-ghost use Rattle.field_boxes.specs.Fields.{AreValues};
-ghost use Rattle.field_boxes.specs.Classifier.{matches};
+ghost use Rattle.field_boxes.specs.Headline.Fields.{AreValues};
+ghost use Rattle.field_boxes.specs.Headline.Classifier.{matches};
 ghost use Rattle.field_boxes.specs.Spans.{AreInside};
 ghost use Rattle.field_boxes.specs.Boxes.{AreSets, box_of};
 ghost use Rattle.node_store.specs.Levels.{IsLevel};

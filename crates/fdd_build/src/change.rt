@@ -1,7 +1,7 @@
 //! A diagram changed in one box.
 ghost use Rattle.std.specs.Prelude.{◌≡◌, ℕ, List, ◌&&◌, nat_eq, if◌then◌else◌, IfOk};
-ghost use Rattle.field_boxes.specs.Fields.{stated, IsHeader, AreValues};
-ghost use Rattle.field_boxes.specs.Classifier.{matches};
+ghost use Rattle.field_boxes.specs.Headline.Fields.{stated, IsHeader, AreValues};
+ghost use Rattle.field_boxes.specs.Headline.Classifier.{matches};
 ghost use Rattle.field_boxes.specs.Spans.{AreInside};
 ghost use Rattle.field_boxes.specs.Boxes.{AreSets, box_of, box_holds};
 ghost use Rattle.field_boxes.specs.Rules.{rule_of};

@@ -1,6 +1,6 @@
 //! Diagrams copied from one store into another.
 ghost use Rattle.std.specs.Prelude.{◌≡◌, ◌<◌, ℕ, List, length, IfOk};
-ghost use Rattle.field_boxes.specs.Fields.{AreValues};
+ghost use Rattle.field_boxes.specs.Headline.Fields.{AreValues};
 ghost use Rattle.node_store.specs.Diagram.{level_of, answer};
 ghost use Rattle.node_store.specs.Store.{Grows};
 ghost use Rattle.fdd_build.specs.Copies.{IsCopy, AreCopies};

@@ -1,7 +1,7 @@
 //! A node that leads elsewhere in one set of its field.
 ghost use Rattle.std.specs.Prelude.{◌≡◌, ◌≤◌, ℕ, suc, List, ◌∷◌, nat_lt, if◌then◌else◌, IfOk};
 ghost use Rattle.node_store.specs.Levels.{HasField, next, top_of};
-ghost use Rattle.field_boxes.specs.Classifier.{union_holds};
+ghost use Rattle.field_boxes.specs.Headline.Classifier.{union_holds};
 ghost use Rattle.field_boxes.specs.Spans.{intervals_of};
 ghost use Rattle.field_boxes.specs.Unions.{RiseApart};
 ghost use Rattle.node_store.specs.Diagram.{Node, level_of, answer};

@@ -1,7 +1,7 @@
 //! The diagram of a rule list, from the diagrams of its halves.
 ghost use Rattle.std.specs.Prelude.{◌≡◌, ℕ, List, [], ◌∷◌, if◌then◌else◌, IfOk};
 ghost use Rattle.std.specs.List.{list_any};
-ghost use Rattle.field_boxes.specs.Fields.{AreValues};
+ghost use Rattle.field_boxes.specs.Headline.Fields.{AreValues};
 ghost use Rattle.node_store.specs.Levels.{IsLevel};
 ghost use Rattle.node_store.specs.Diagram.{level_of, answer};
 ghost use Rattle.node_store.specs.Store.{Grows};

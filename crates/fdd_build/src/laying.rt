@@ -16,7 +16,7 @@ pub(crate) struct Laying {
 
 impl Laying {
     ghost use Rattle.std.specs.Prelude.{◌≡◌, ℕ, List, IfOk, IfSome};
-    ghost use Rattle.field_boxes.specs.Fields.{AreValues};
+    ghost use Rattle.field_boxes.specs.Headline.Fields.{AreValues};
     ghost use Rattle.node_store.specs.Levels.{IsLevel};
     ghost use Rattle.node_store.specs.Diagram.{Node, level_of, answer};
     ghost use Rattle.node_store.specs.Store.{Grows};

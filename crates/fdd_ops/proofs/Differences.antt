@@ -1,6 +1,7 @@
 -- The least difference of two nodes of a level, from that of their children.
 use Rattle.std.proofs.Common.{◌≡◌, ◌≢◌, ◌∷◌, ℕ, List, [], ◌≤◌, ◌<◌, ap, arith, sym, ◌∙◌, subst, inl, inr, ◌^◌, suc, zero, slice_index}
-use Rattle.field_boxes.specs.Fields.{width, stated, AreValues, IsHeader, ComesBefore}
+use Rattle.field_boxes.specs.Headline.Fields.{width, stated, AreValues, IsHeader}
+use Rattle.field_boxes.specs.Fields.{ComesBefore}
 use Rattle.node_store.specs.Levels.{HasField, next, top_of}
 use Rattle.node_store.specs.Edges.{child_of}
 use Rattle.node_store.specs.Diagram.{Node, level_of, edges_of, answer}

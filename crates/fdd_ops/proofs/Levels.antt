@@ -1,7 +1,7 @@
 -- The fields of two nodes, and that different nodes of one field have different edges.
 use Rattle.std.proofs.Common.{◌≡◌, ◌≢◌, ◌∷◌, ℕ, List, [], ◌≤◌, ◌<◌, ◌^◌, refl, ap, rules, sym, ◌∙◌, subst}
 use Rattle.field_boxes.specs.Alike.{AreAlikeOver}
-use Rattle.field_boxes.specs.Fields.{stated}
+use Rattle.field_boxes.specs.Headline.Fields.{stated}
 use Rattle.node_store.specs.Levels.{HasField, next, top_of}
 use Rattle.node_store.specs.declared.edge.Edge.{Edge}
 use Rattle.node_store.specs.Edges.{child_of}

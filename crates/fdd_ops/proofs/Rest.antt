@@ -2,9 +2,9 @@
 use Rattle.std.proofs.Common.{◌≡◌, ◌∷◌, ℕ, List, [], ◌≤◌, length, ap, arith, sym, ◌∙◌, subst, get_or, true, ◌&&◌, map, slice_index_or}
 use Rattle.std.proofs.lemmas.Bool.{and_parts, and_from}
 use Rattle.field_boxes.specs.declared.span.Span.{Span}
-use Rattle.field_boxes.specs.Fields.{AreValues}
+use Rattle.field_boxes.specs.Headline.Fields.{AreValues}
 use Rattle.node_store.specs.Levels.{HasField, next, top_of}
-use Rattle.field_boxes.specs.Classifier.{interval_holds}
+use Rattle.field_boxes.specs.Headline.Classifier.{interval_holds}
 use Rattle.field_boxes.specs.Spans.{interval_of}
 use Rattle.field_boxes.specs.Boxes.{EachValue, SomeValue}
 use Rattle.field_boxes.proofs.FieldByField.{box_set}

@@ -1,8 +1,8 @@
 -- What two nodes of one level are asked over the rest of a box.
 use Rattle.std.specs.Prelude.{◌≡◌, ◌≢◌, ℕ, Bool, IsTrue, List}
 use Rattle.field_boxes.specs.declared.span.Span.{Span}
-use Rattle.field_boxes.specs.Fields.{AreValues}
-use Rattle.field_boxes.specs.Classifier.{Rule, matches}
+use Rattle.field_boxes.specs.Headline.Fields.{AreValues}
+use Rattle.field_boxes.specs.Headline.Classifier.{Rule, matches}
 use Rattle.field_boxes.specs.Boxes.{box_of}
 use Rattle.node_store.specs.Diagram.{Node, level_of, answer}
 use Rattle.fdd_ops.specs.declared.pair.Pair.{Pair}

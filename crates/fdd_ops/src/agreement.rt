@@ -1,7 +1,7 @@
 //! Whether one diagram decides as asked wherever another one answers an index.
 ghost use Rattle.std.specs.Prelude.{◌≡◌, ◌≢◌, IfOk};
 ghost use Rattle.std.specs.Bool.{OnTrue, OnFalse};
-ghost use Rattle.field_boxes.specs.Fields.{stated};
+ghost use Rattle.field_boxes.specs.Headline.Fields.{stated};
 ghost use Rattle.field_boxes.specs.Boxes.{box_of, EachHeader, SomeHeader};
 ghost use Rattle.node_store.specs.Diagram.{level_of, answer};
 

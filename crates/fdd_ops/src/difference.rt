@@ -1,6 +1,6 @@
 //! The least header on which two diagrams differ.
 ghost use Rattle.std.specs.Prelude.{◌≡◌, ◌≢◌, MatchOption};
-ghost use Rattle.field_boxes.specs.Fields.{stated};
+ghost use Rattle.field_boxes.specs.Headline.Fields.{stated};
 ghost use Rattle.node_store.specs.Diagram.{level_of, answer};
 ghost use Rattle.field_boxes.specs.Alike.{AreAlike, IsFirstDifference};
 

@@ -12,7 +12,7 @@ pub(crate) struct Question {
 
 impl Question {
     ghost use Rattle.std.specs.Prelude.{◌≡◌, ◌&&◌, ℕ, List, ◌∷◌};
-    ghost use Rattle.field_boxes.specs.Classifier.{interval_holds};
+    ghost use Rattle.field_boxes.specs.Headline.Classifier.{interval_holds};
     ghost use Rattle.field_boxes.specs.Spans.{interval_of};
     ghost use Rattle.node_store.specs.Levels.{HasField, next};
     ghost use Rattle.fdd_ops.specs.Agreement.{rest_holds};

@@ -7,7 +7,8 @@ use Rattle.std.proofs.Math.Numerals.{one-add}
 use Rattle.std.proofs.lemmas.Bool.{eqb-true, ne_eqb, false≢true}
 use Rattle.std.proofs.lemmas.Bool.Decides.{eqb_tells}
 use Rattle.std.proofs.lemmas.List.{take_at}
-use Rattle.field_boxes.specs.Bits.{bits, begins}
+use Rattle.field_boxes.specs.Headline.Bits.{bits}
+use Rattle.field_boxes.specs.Bits.{begins}
 use Rattle.field_boxes.proofs.Powers.{mod_mod}
 
 pub length-bits : (n v : ℕ) → length (bits n v) ≡ n

@@ -4,8 +4,9 @@ use Rattle.std.specs.Prelude.{Bool, true, false, cond, map, nat_eq, slice_index,
 use Rattle.std.proofs.lemmas.Bool.{eqb-true, eq-eqb}
 use Rattle.std.proofs.lemmas.List.{get_or-map, length-map}
 use Rattle.field_boxes.specs.declared.span.Span.{Span}
-use Rattle.field_boxes.specs.Fields.{stated, greatest_of}
-use Rattle.field_boxes.specs.Classifier.{Interval, Rule, interval_holds, union_holds, matches}
+use Rattle.field_boxes.specs.Headline.Fields.{stated}
+use Rattle.field_boxes.specs.Fields.{greatest_of}
+use Rattle.field_boxes.specs.Headline.Classifier.{Interval, Rule, interval_holds, union_holds, matches}
 use Rattle.field_boxes.specs.Spans.{interval_of}
 use Rattle.field_boxes.specs.SpanLists.{filling}
 use Rattle.field_boxes.specs.Boxes.{box_of, EachHeader, SomeHeader, EachValue, SomeValue}

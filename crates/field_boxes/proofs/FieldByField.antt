@@ -5,8 +5,9 @@ use Rattle.std.proofs.lemmas.Bool.{and_parts, and_from, and_left, and_right}
 use Rattle.std.proofs.lemmas.Option.{slice_get-get_or, slice_get-map, unwrap_or-slice_get}
 use Rattle.std.proofs.Math.Bool.{or-false}
 use Rattle.field_boxes.specs.declared.span.Span.{Span}
-use Rattle.field_boxes.specs.Fields.{stated, width, greatest_of, AreValues, IsHeader}
-use Rattle.field_boxes.specs.Classifier.{Rule, interval_holds, union_holds, set_holds, matches}
+use Rattle.field_boxes.specs.Headline.Fields.{stated, width, AreValues, IsHeader}
+use Rattle.field_boxes.specs.Fields.{greatest_of}
+use Rattle.field_boxes.specs.Headline.Classifier.{Rule, interval_holds, union_holds, set_holds, matches}
 use Rattle.field_boxes.specs.Spans.{interval_of}
 use Rattle.field_boxes.specs.Boxes.{box_of}
 

@@ -4,7 +4,7 @@ use Rattle.std.specs.Prelude.{Bool, ◌&&◌, map, nat_eq}
 use lib.Pointwise.{pointwise}
 use Rattle.std.proofs.lemmas.List.{length-set, drop-set-lt, drop-drop, drop-replicate}
 use Rattle.field_boxes.specs.SpanLists.{filling, span_of, listed, fields_of, fields_kept, IsFilled, with_hi}
-use Rattle.field_boxes.specs.Classifier.{Interval}
+use Rattle.field_boxes.specs.Headline.Classifier.{Interval}
 use Rattle.field_boxes.specs.declared.span.Span.{Span}
 use Rattle.field_boxes.specs.declared.span_list.SpanList.TheInside.{Inside}
 

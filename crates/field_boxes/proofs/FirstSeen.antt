@@ -9,7 +9,8 @@ use Rattle.std.proofs.lemmas.List.{length-map, map-append, length-append}
 use Rattle.std.proofs.lemmas.Grind.{common_steps}
 use Rattle.std.proofs.lemmas.Slice.Eq.{bytes_eq-Decides}
 use Rattle.field_boxes.proofs.Distinct.{AreDistinct-with_name, old_number}
-use Rattle.field_boxes.specs.Names.{miss, is_known, name_at, with_name, number_of, text_of, AreDistinct, AreNames}
+use Rattle.field_boxes.specs.Headline.Names.{miss, text_of}
+use Rattle.field_boxes.specs.Names.{is_known, name_at, with_name, number_of, AreDistinct, AreNames}
 
 pub list_any-map : {X Y : Type 0} (p : Y → Bool) (f : X → Y) (xs : List X) → list_any p (map f xs) ≡ list_any (λ x. p (f x)) xs
 list_any-map p f [] = refl

@@ -2,7 +2,7 @@
 use Rattle.std.proofs.Common.{◌∷◌, ℕ, List, [], ◌<◌, arith, inl, inr, refl, sym, subst}
 use Rattle.std.specs.Prelude.{◌⊎◌, suc, zero, length, slice_index_or}
 use Rattle.std.specs.List.{Any, AllPairs}
-use Rattle.field_boxes.specs.Classifier.{Interval}
+use Rattle.field_boxes.specs.Headline.Classifier.{Interval}
 use Rattle.field_boxes.specs.Boxes.{LiesIn}
 
 -- the header lies in some of the boxes

@@ -2,8 +2,8 @@
 use Rattle.std.proofs.Common.{◌≡◌, ◌∷◌, ℕ, ◌≤◌, List, [], true, false, refl, ap, arith, le-leb}
 use Rattle.std.specs.Prelude.{◌||◌, nat_le}
 use Rattle.std.proofs.lemmas.Bool.{and_from}
-use Rattle.field_boxes.specs.Classifier.{Interval, matches, union_holds}
-use Rattle.field_boxes.specs.Fields.{stated, IsHeader}
+use Rattle.field_boxes.specs.Headline.Classifier.{Interval, matches, union_holds}
+use Rattle.field_boxes.specs.Headline.Fields.{stated, IsHeader}
 
 abbrev pub whole : ℕ → List Interval
 whole g = record { lo = 0; hi = g } ∷ []

@@ -5,7 +5,8 @@ use Rattle.std.specs.List.{All, list_any}
 use Rattle.std.proofs.lemmas.Bool.{and_parts, and_from, or_parts, or_from, not-true, not_from_false, ltb-true, lt-ltb, eqb-false, ne_eqb}
 use Rattle.std.proofs.lemmas.Bool.Decides.{eqb_tells}
 use Rattle.std.proofs.lemmas.List.Elements.{All-nil, All-cons, All-head, All-tail}
-use Rattle.field_boxes.specs.Fields.{width, greatest_of, stated, AreValues, IsHeader}
+use Rattle.field_boxes.specs.Headline.Fields.{width, stated, AreValues, IsHeader}
+use Rattle.field_boxes.specs.Fields.{greatest_of}
 use Rattle.field_boxes.specs.Orders.{picked, Has, IsMissing, AreDistinct, IsOrder, are_fields, are_distinct, is_order}
 
 fields_true : (xs : List ℕ) → are_fields xs ≡ true → All (λ f. f < 5) xs

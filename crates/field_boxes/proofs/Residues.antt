@@ -1,7 +1,7 @@
 -- The first match and the residues.
 use Rattle.std.proofs.Common.{◌≡◌, ◌∷◌, ℕ, List, Bool, true, false, [], ap, refl}
 use Rattle.std.specs.Prelude.{cond, ◌&&◌, find, option_map, Option, Some}
-use Rattle.field_boxes.specs.Classifier.{Rule, source, residue, matches, set_holds}
+use Rattle.field_boxes.specs.Headline.Classifier.{Rule, source, residue, matches, set_holds}
 
 -- one rule, by whether its set of the field holds the value
 step : {A : Type 0} (b : Bool) (fields values : List ℕ) (r : Rule A) (rest : Option (Rule A)) (kept : List (Rule A)) →

@@ -3,7 +3,7 @@ use Rattle.std.proofs.Common.{◌≡◌, ℕ, ◌+◌, ◌≤◌, List, [], ◌�
 use Rattle.std.specs.Prelude.{true, false, ◌||◌}
 use Rattle.std.proofs.Math.Nat.{le_refl}
 use Rattle.std.proofs.lemmas.Bool.{cases_lt, false≢true, or_left}
-use Rattle.field_boxes.specs.Classifier.{Interval, interval_holds, union_holds}
+use Rattle.field_boxes.specs.Headline.Classifier.{Interval, interval_holds, union_holds}
 use Rattle.field_boxes.specs.Unions.{RiseApart}
 use Rattle.field_boxes.proofs.Unions.{weaken, holds_between, not_past, below}
 

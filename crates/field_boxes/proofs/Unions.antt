@@ -4,7 +4,7 @@ use Rattle.std.specs.Prelude.{◌&&◌, nat_le, max}
 use Rattle.std.specs.List.{list_any}
 use Rattle.std.proofs.Math.Nat.{le_refl}
 use Rattle.std.proofs.lemmas.Bool.{true≢false, leb-true, leb-false, le-leb, lt-leb, and_parts, and_from, and_cases, or_cases, or_parts, or_from, or_left, or_right, and_right, cases_lt, false≢true}
-use Rattle.field_boxes.specs.Classifier.{Interval, interval_holds, union_holds}
+use Rattle.field_boxes.specs.Headline.Classifier.{Interval, interval_holds, union_holds}
 use Rattle.field_boxes.specs.Unions.{RiseApart}
 
 pub holds_between : (v : ℕ) (i : Interval) → i.lo ≤ v → v ≤ i.hi → interval_holds v i ≡ true

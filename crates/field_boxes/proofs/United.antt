@@ -4,7 +4,7 @@ use Rattle.std.specs.Prelude.{Bool, true, false, ◌||◌, min, max}
 use Rattle.std.specs.List.{list_any}
 use Rattle.std.proofs.lemmas.List.{append_assoc, drop_more}
 use Rattle.std.proofs.lemmas.List.Folds.{list_any_more}
-use Rattle.field_boxes.specs.Classifier.{Interval, interval_holds, union_holds}
+use Rattle.field_boxes.specs.Headline.Classifier.{Interval, interval_holds, union_holds}
 use Rattle.field_boxes.specs.Unions.{RiseApart}
 use Rattle.field_boxes.specs.Spans.{interval_of, intervals_of}
 use Rattle.field_boxes.specs.declared.span.Span.{Span}

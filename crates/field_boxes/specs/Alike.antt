@@ -2,8 +2,9 @@
 -- The order of headers is by the stated order of the fields.
 use Rattle.std.specs.Prelude.{◌≡◌, ◌≢◌, ℕ, ◌<◌, List, length, Option}
 use Rattle.std.specs.List.{remove}
-use Rattle.field_boxes.specs.Fields.{stated, AreValues, IsHeader, ComesBefore}
-use Rattle.field_boxes.specs.Classifier.{Rule, source}
+use Rattle.field_boxes.specs.Headline.Fields.{stated, AreValues, IsHeader}
+use Rattle.field_boxes.specs.Fields.{ComesBefore}
+use Rattle.field_boxes.specs.Headline.Classifier.{Rule, source}
 
 -- both give the same for all values of these fields
 abbrev pub AreAlikeOver : {A : Type 0} → List ℕ → (List ℕ → A) → (List ℕ → A) → Type 0

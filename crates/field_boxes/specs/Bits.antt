@@ -1,10 +1,5 @@
--- Numbers as their bits, the highest first.
-use Rattle.std.specs.Prelude.{ℕ, zero, suc, ◌/◌, ◌%◌, ◌^◌, Bool, true, false, List, [], ◌∷◌, nat_eq}
-
--- the lowest n bits of a number
-abbrev pub bits : ℕ → ℕ → List Bool
-bits zero v = []
-bits (suc n) v = nat_eq (v / 2 ^ n % 2) 1 ∷ bits n v
+-- Values that begin with given bits.
+use Rattle.std.specs.Prelude.{Bool, true, false, List, [], ◌∷◌}
 
 -- whether the value begins with these bits
 abbrev pub begins : List Bool → List Bool → Bool

@@ -1,8 +1,9 @@
 -- Boxes: a set of values for each field.
 use Rattle.std.specs.Prelude.{ℕ, ◌≤◌, ◌<◌, Bool, IsTrue, List, [], ◌∷◌, map, slice_index_or}
 use Rattle.field_boxes.specs.declared.span.Span.{Span}
-use Rattle.field_boxes.specs.Fields.{stated, greatest_of, IsHeader}
-use Rattle.field_boxes.specs.Classifier.{Interval, Rule, interval_holds, matches}
+use Rattle.field_boxes.specs.Headline.Fields.{stated, IsHeader}
+use Rattle.field_boxes.specs.Fields.{greatest_of}
+use Rattle.field_boxes.specs.Headline.Classifier.{Interval, Rule, interval_holds, matches}
 use Rattle.field_boxes.specs.Spans.{interval_of}
 use Rattle.field_boxes.specs.Unions.{RiseApart}
 

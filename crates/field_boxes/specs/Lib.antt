@@ -1,6 +1,6 @@
+pub mod Headline
 pub mod Fields
 pub mod Orders
-pub mod Classifier
 pub mod Alike
 pub mod Names
 pub mod Prefix

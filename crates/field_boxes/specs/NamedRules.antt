@@ -1,8 +1,9 @@
 -- Rules whose decisions are numbers of names.
 use Rattle.std.specs.Prelude.{ℕ, ◌<◌, ◌≤◌, List, length, map}
 use Rattle.field_boxes.specs.declared.rule.Rule as code
-use Rattle.field_boxes.specs.Classifier.{Rule}
-use Rattle.field_boxes.specs.Names.{name_at, text_of}
+use Rattle.field_boxes.specs.Headline.Classifier.{Rule}
+use Rattle.field_boxes.specs.Headline.Names.{text_of}
+use Rattle.field_boxes.specs.Names.{name_at}
 use Rattle.field_boxes.specs.Rules.{sets_of}
 
 -- the decision is the number of one of the names

@@ -1,21 +1,9 @@
--- The names of decisions.
-use Rattle.std.specs.Prelude.{◌≡◌, ◌≢◌, ℕ, zero, suc, ◌≤◌, Bool, not, ◌&&◌, ◌||◌, ◌==◌, nat_le, List, [], ◌∷◌, ◌++◌, length, All, Option, Some, None, option_map, position, ◌+◌, slice_get, unwrap_or, if◌then◌else◌}
-use Rattle.std.specs.List.{list_any, list_all}
-use Rattle.std.specs.Char.{is_ascii_alphanumeric}
+-- Names of decisions by their numbers.
+use Rattle.std.specs.Prelude.{◌≡◌, ◌≢◌, ℕ, zero, suc, ◌≤◌, Bool, not, ◌&&◌, List, [], ◌∷◌, ◌++◌, length, All, Option, Some, None, option_map, position, ◌+◌, slice_get, if◌then◌else◌}
+use Rattle.std.specs.List.{list_any}
 use Rattle.std.specs.Str.{bytes_eq}
+use Rattle.field_boxes.specs.Headline.Names.{miss, has_word_form}
 use Rattle.razor_base.specs.declared.limits.TheConstants.{MOST_ENTRIES}
-
--- the word for no decision
-abbrev pub miss : List ℕ
-miss = 109 ∷ 105 ∷ 115 ∷ 115 ∷ []
-
--- a letter of ASCII, a digit, '_', '-' or '.'
-abbrev pub is_word_byte : ℕ → Bool
-is_word_byte b = is_ascii_alphanumeric b || b == 95 || b == 45 || b == 46
-
--- 1 to 32 such bytes
-abbrev pub has_word_form : List ℕ → Bool
-has_word_form text = nat_le 1 (length text) && nat_le (length text) 32 && list_all is_word_byte text
 
 -- a decision word: of that form, and not the word for no decision
 abbrev pub is_decision_word : List ℕ → Bool
@@ -25,10 +13,6 @@ is_decision_word text = has_word_form text && not (bytes_eq text miss)
 abbrev pub name_at : List (List ℕ) → ℕ → Option (List ℕ)
 name_at names zero = None
 name_at names (suc k) = slice_get names k
-
--- the text of a decision
-abbrev pub text_of : Option (List ℕ) → List ℕ
-text_of name = unwrap_or name miss
 
 -- the first number whose text this is: 0 for miss
 abbrev pub number_of : List (List ℕ) → List ℕ → Option ℕ

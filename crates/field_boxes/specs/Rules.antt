@@ -1,8 +1,8 @@
 -- The rules of the code as rules of the classifier model.
 use Rattle.std.specs.Prelude.{List, position, Option, ℕ, [], ◌∷◌, slice_index_or}
 use Rattle.field_boxes.specs.declared.rule.Rule as code
-use Rattle.field_boxes.specs.Classifier.{Interval, Rule, matches}
-use Rattle.field_boxes.specs.Fields.{stated}
+use Rattle.field_boxes.specs.Headline.Classifier.{Interval, Rule, matches}
+use Rattle.field_boxes.specs.Headline.Fields.{stated}
 use Rattle.field_boxes.specs.Spans.{interval_of}
 
 -- the sets of a rule of the code: one interval for each address and the protocol, a union for each port

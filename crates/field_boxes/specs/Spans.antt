@@ -2,7 +2,7 @@
 use Rattle.std.specs.Prelude.{ℕ, ◌<◌, ◌≤◌, List, map, slice_index_or}
 use Rattle.field_boxes.specs.declared.span.Span.{Span}
 use Rattle.field_boxes.specs.Fields.{greatest_of}
-use Rattle.field_boxes.specs.Classifier.{Interval}
+use Rattle.field_boxes.specs.Headline.Classifier.{Interval}
 
 abbrev pub interval_of : Span → Interval
 interval_of s = record { lo = s.lo; hi = s.hi }

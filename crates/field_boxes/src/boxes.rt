@@ -3,7 +3,7 @@ ghost use Rattle.std.specs.Prelude.{◌≡◌, ◌≤◌, ◌<◌, ◌&&◌, ℕ
 ghost use Rattle.std.specs.Bool.{OnTrue, OnFalse};
 ghost use Rattle.std.specs.List.{list_any};
 ghost use Rattle.field_boxes.specs.Fields.{greatest_of};
-ghost use Rattle.field_boxes.specs.Classifier.{union_holds};
+ghost use Rattle.field_boxes.specs.Headline.Classifier.{union_holds};
 ghost use Rattle.field_boxes.specs.Spans.{intervals_of};
 ghost use Rattle.field_boxes.specs.declared.span.Span.{Span};
 ghost use Rattle.field_boxes.specs.Unions.{RiseApart};

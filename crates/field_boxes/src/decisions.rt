@@ -1,7 +1,8 @@
 //! The names of decisions and their numbers.
 ghost use Rattle.std.specs.Prelude.{◌≡◌, ◌≢◌, ◌≤◌, ◌<◌, ◌↔◌, ℕ, false, List, [], length, Some, IfOk, IfSome, IsNone, OnOk, OnErr};
 ghost use Rattle.razor_base.specs.declared.limits.TheConstants.{MOST_ENTRIES};
-ghost use Rattle.field_boxes.specs.Names.{AreNames, miss, is_known, name_at, number_of, text_of, with_name};
+ghost use Rattle.field_boxes.specs.Headline.Names.{miss, text_of};
+ghost use Rattle.field_boxes.specs.Names.{AreNames, is_known, name_at, number_of, with_name};
 
 use indexmap::IndexSet;
 use razor_base::Memory;

@@ -26,7 +26,7 @@ impl Model for Order {
 
 impl Order {
     ghost use Rattle.std.specs.Prelude.{◌≡◌, ◌↔◌, Some, None, IsSome, IfSome, if◌then◌else◌};
-    ghost use Rattle.field_boxes.specs.Fields.{stated};
+    ghost use Rattle.field_boxes.specs.Headline.Fields.{stated};
     ghost use Rattle.field_boxes.specs.Orders.{AreDistinct, IsOrder, is_order};
 
     /// The order of these fields; none where they aren't the numbers 0 to 4, each once.

@@ -1,6 +1,7 @@
 //! The five fields: their widths and their greatest values.
 ghost use Rattle.std.specs.Prelude.{◌≡◌, ◌<◌};
-ghost use Rattle.field_boxes.specs.Fields.{greatest_of, width};
+ghost use Rattle.field_boxes.specs.Headline.Fields.{width};
+ghost use Rattle.field_boxes.specs.Fields.{greatest_of};
 
 use razor_base::limits::{GREATEST_PORT, GREATEST_PROTOCOL};
 

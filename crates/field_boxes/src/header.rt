@@ -1,6 +1,6 @@
 //! Headers.
 ghost use Rattle.std.specs.Prelude.{ℕ, ◌<◌, ◌^◌, slice_index};
-ghost use Rattle.field_boxes.specs.Fields.{width};
+ghost use Rattle.field_boxes.specs.Headline.Fields.{width};
 
 /// One value for each of the five fields, in the stated order.
 #[derive(Clone, Copy, Debug, PartialEq, Eq)]
@@ -11,7 +11,7 @@ pub struct Header {
 
 impl Header {
     ghost use Rattle.std.specs.Prelude.{◌≡◌, ◌↔◌, IsSome, IfSome};
-    ghost use Rattle.field_boxes.specs.Fields.{IsHeader};
+    ghost use Rattle.field_boxes.specs.Headline.Fields.{IsHeader};
 
     /// The header with these values; none where one is above its field's greatest.
     pub fn new(values: [u32; 5]) -> Option<Header>

@@ -1,10 +1,12 @@
 //! Laws of the definitions, for whoever relies on them. The functions do nothing.
 ghost use Rattle.std.specs.Prelude.{◌≡◌, ◌<◌, ◌^◌, ◌∷◌, ◌⊎◌, ℕ, List, length};
 ghost use Rattle.field_boxes.specs.Fields.{ComesBefore};
-ghost use Rattle.field_boxes.specs.Classifier.{Interval, Rule, source, residue, interval_holds, union_holds};
+ghost use Rattle.field_boxes.specs.Headline.Classifier.{Interval, Rule, source, residue, interval_holds, union_holds};
 ghost use Rattle.field_boxes.specs.Unions.{RiseApart};
-ghost use Rattle.field_boxes.specs.Prefix.{FitsWidth, prefix_bits, prefix_holds, prefix_interval};
-ghost use Rattle.field_boxes.specs.Bits.{bits, begins};
+ghost use Rattle.field_boxes.specs.Headline.Prefix.{FitsWidth, prefix_holds};
+ghost use Rattle.field_boxes.specs.Prefix.{prefix_bits, prefix_interval};
+ghost use Rattle.field_boxes.specs.Headline.Bits.{bits};
+ghost use Rattle.field_boxes.specs.Bits.{begins};
 ghost use Rattle.field_boxes.specs.declared.prefix.Prefix.{Prefix};
 
 /// What a list decides over a field and more fields is what its residue at the field's value decides

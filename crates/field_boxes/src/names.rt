@@ -3,7 +3,8 @@ ghost use Rattle.std.specs.Prelude.{◌≡◌, ◌≢◌};
 ghost use Rattle.std.specs.Bool.{OnTrue};
 ghost use Rattle.std.specs.Str.{IsAscii};
 ghost use Rattle.std.specs.List.{list_all};
-ghost use Rattle.field_boxes.specs.Names.{miss, has_word_form, is_decision_word, is_word_byte};
+ghost use Rattle.field_boxes.specs.Headline.Names.{miss, has_word_form, is_word_byte};
+ghost use Rattle.field_boxes.specs.Names.{is_decision_word};
 
 /// Whether the byte may stand in a decision word: a letter of ASCII, a digit, `_`, `-` or `.`.
 fn word_byte(byte: u8) -> bool

@@ -17,7 +17,7 @@ pub struct Ports {
 
 impl Model for Ports {
     ghost use Rattle.std.specs.Prelude.{List};
-    ghost use Rattle.field_boxes.specs.Classifier.{Interval};
+    ghost use Rattle.field_boxes.specs.Headline.Classifier.{Interval};
     ghost use Rattle.field_boxes.specs.Ports.{ArePorts};
 
     ghost Value = { List Interval };
@@ -31,7 +31,7 @@ impl Model for Ports {
 
 impl Ports {
     ghost use Rattle.std.specs.Prelude.{◌≡◌, ℕ, is_some, IfSome};
-    ghost use Rattle.field_boxes.specs.Classifier.{union_holds};
+    ghost use Rattle.field_boxes.specs.Headline.Classifier.{union_holds};
     ghost use Rattle.field_boxes.specs.Ports.{ArePorts, are_port_spans};
     ghost use Rattle.field_boxes.specs.Spans.{intervals_of};
 
@@ -77,7 +77,7 @@ impl Ports {
 ghost use Rattle.std.specs.Prelude.{◌≡◌, nat_le};
 ghost use Rattle.std.specs.List.{list_any, list_all};
 ghost use Rattle.razor_base.specs.declared.limits.TheConstants.{GREATEST_PORT};
-ghost use Rattle.field_boxes.specs.Classifier.{interval_holds};
+ghost use Rattle.field_boxes.specs.Headline.Classifier.{interval_holds};
 ghost use Rattle.field_boxes.specs.Spans.{interval_of};
 ghost use Rattle.field_boxes.specs.Ports.{are_port_spans};
 

@@ -1,6 +1,7 @@
 //! Prefixes of a field's values.
 ghost use Rattle.std.specs.Prelude.{◌≡◌};
-ghost use Rattle.field_boxes.specs.Prefix.{FitsWidth, prefix_holds, prefix_interval};
+ghost use Rattle.field_boxes.specs.Headline.Prefix.{FitsWidth, prefix_holds};
+ghost use Rattle.field_boxes.specs.Prefix.{prefix_interval};
 ghost use Rattle.field_boxes.specs.Spans.{interval_of};
 
 use crate::span::Span;

@@ -1,7 +1,7 @@
 //! Rules: a set of values for each field, and a decision.
 ghost use Rattle.std.specs.Prelude.{◌≡◌, ◌≤◌, true, ℕ, [], ◌∷◌};
 ghost use Rattle.razor_base.specs.declared.limits.TheConstants.{GREATEST_ADDRESS, GREATEST_PORT, GREATEST_PROTOCOL, MOST_RANGES};
-ghost use Rattle.field_boxes.specs.Classifier.{union_holds};
+ghost use Rattle.field_boxes.specs.Headline.Classifier.{union_holds};
 ghost use Rattle.field_boxes.specs.Spans.{interval_of, intervals_of};
 ghost use Rattle.field_boxes.specs.Unions.{RiseApart};
 
@@ -28,8 +28,8 @@ pub struct Rule {
 impl Rule {
     ghost use Rattle.std.specs.Prelude.{◌≡◌, true, IsTrue, IsFalse, map, ℕ, List, ◌<◌, ◌≤◌, length, slice_index_or, []};
     ghost use Rattle.std.specs.Bool.{OnTrue, OnFalse};
-    ghost use Rattle.field_boxes.specs.Fields.{stated, IsHeader};
-    ghost use Rattle.field_boxes.specs.Classifier.{matches};
+    ghost use Rattle.field_boxes.specs.Headline.Fields.{stated, IsHeader};
+    ghost use Rattle.field_boxes.specs.Headline.Classifier.{matches};
     ghost use Rattle.field_boxes.specs.Spans.{intervals_of};
     ghost use Rattle.field_boxes.specs.Boxes.{AreSets, EachHeader, SomeHeader, box_of};
     ghost use Rattle.field_boxes.specs.Rules.{sets_of, rule_of};

@@ -11,7 +11,7 @@ pub struct Span {
 
 impl Span {
     ghost use Rattle.std.specs.Prelude.{◌≡◌, ◌<◌, ◌↔◌, IsNone, IfSome};
-    ghost use Rattle.field_boxes.specs.Classifier.{interval_holds};
+    ghost use Rattle.field_boxes.specs.Headline.Classifier.{interval_holds};
     ghost use Rattle.field_boxes.specs.Spans.{interval_of};
 
     /// The span with these ends; none where they are the wrong way round.

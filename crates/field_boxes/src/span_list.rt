@@ -14,7 +14,7 @@ pub(crate) struct SpanList {
 
 impl Model for SpanList {
     ghost use Rattle.std.specs.Prelude.{List};
-    ghost use Rattle.field_boxes.specs.Classifier.{Interval};
+    ghost use Rattle.field_boxes.specs.Headline.Classifier.{Interval};
 
     ghost Value = { List Interval };
 

@@ -1,7 +1,8 @@
 -- A node with another field in front, from the fronts of its children and the rows of nodes between them.
 use Rattle.std.proofs.Common.{◌≡◌, ◌≢◌, ◌∷◌, ℕ, List, [], ◌+◌, ◌≤◌, ◌<◌, ◌^◌, ◌∙◌, length, get_or, map, ap, arith, sym, subst, inl, inr}
 use Rattle.std.specs.List.{All, AllZip}
-use Rattle.field_boxes.specs.Fields.{width, greatest_of}
+use Rattle.field_boxes.specs.Headline.Fields.{width}
+use Rattle.field_boxes.specs.Fields.{greatest_of}
 use Rattle.node_store.specs.declared.edge.Edge.{Edge}
 use Rattle.node_store.specs.Levels.{HasField, IsLevel, next as next_level, top_of}
 use Rattle.node_store.specs.Edges.{AreFull, child_of}

@@ -7,8 +7,9 @@ use Rattle.std.proofs.lemmas.Nat.{pow_pos}
 use Rattle.std.proofs.lemmas.Option.{none-some, same_Some}
 use Rattle.std.proofs.lemmas.List.Elements.{All-map, All-weaker}
 use Rattle.std.proofs.Math.Pow.{pow_mono}
-use Rattle.field_boxes.specs.Fields.{width, greatest_of}
-use Rattle.field_boxes.specs.Prefix.{FitsWidth}
+use Rattle.field_boxes.specs.Headline.Fields.{width}
+use Rattle.field_boxes.specs.Fields.{greatest_of}
+use Rattle.field_boxes.specs.Headline.Prefix.{FitsWidth}
 use Rattle.node_store.specs.declared.edge.NodeId.{NodeId}
 use Rattle.node_store.specs.Levels.{HasField, bits_of}
 use Rattle.node_store.specs.Edges.{child_of}
@@ -20,7 +21,7 @@ use Rattle.prefix_min.specs.declared.row.PrefixRow.{PrefixRow}
 use Rattle.prefix_min.specs.Pieces.{Follow, reach, label_at, weight_from}
 use Rattle.prefix_min.specs.PrefixList.{IsRight}
 use Rattle.field_boxes.specs.Orders.{AreDistinct, Has}
-use Rattle.table_compose.specs.LeastCost.{Choice}
+use Rattle.table_compose.specs.Headline.LeastCost.{Choice}
 use Rattle.table_compose.specs.Labels.{children_of, ArePieces}
 use Rattle.table_compose.proofs.Choices.{IsTaken, row_of, rows_of, front-rows, weight-rows}
 use Rattle.table_compose.proofs.Children.{once}

@@ -7,13 +7,14 @@ use Rattle.std.proofs.lemmas.Bool.Decides.{eqb_tells}
 use Rattle.std.proofs.lemmas.Nat.{pow_pos}
 use Rattle.std.proofs.lemmas.Option.{none-some, same_Some}
 use Rattle.std.proofs.lemmas.List.Sums.{sum_by-cons}
-use Rattle.field_boxes.specs.Fields.{width}
-use Rattle.field_boxes.specs.Prefix.{prefix_holds}
-use Rattle.field_boxes.specs.Classifier.{Rule, source, residue}
+use Rattle.field_boxes.specs.Headline.Fields.{width}
+use Rattle.field_boxes.specs.Headline.Prefix.{prefix_holds}
+use Rattle.field_boxes.specs.Headline.Classifier.{Rule, source, residue}
 use Rattle.field_boxes.proofs.Residues.{source-residue}
 use Rattle.prefix_min.specs.declared.row.PrefixRow.{PrefixRow}
 use Rattle.field_boxes.specs.Orders.{IsMissing, AreDistinct}
-use Rattle.table_compose.specs.LeastCost.{AreAlike, Choice, IsPlan, IsLeastCost, plan_cost}
+use Rattle.table_compose.specs.Headline.LeastCost.{Choice, IsPlan, IsLeastCost}
+use Rattle.table_compose.specs.Choices.{AreAlike, plan_cost}
 use Rattle.table_compose.proofs.OneCost.{cost-unique, alike-cost, alike-sym}
 use Rattle.table_compose.proofs.Choices.{LabelsResidues, IsTaken, All-found}
 use Rattle.table_compose.proofs.Cheapest.{IsCheapestList, cheapest-list}

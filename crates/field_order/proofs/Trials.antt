@@ -3,8 +3,8 @@ use Rattle.std.proofs.Common.{◌≡◌, ℕ, ◌<◌, ◌≤◌, ◌+◌, List,
 use Rattle.std.specs.Prelude.{◌⊎◌, Option, Some, None}
 use Rattle.std.proofs.lemmas.Bool.{cases_lt}
 use Rattle.std.proofs.lemmas.Option.{none-some, same_Some}
-use Rattle.field_boxes.specs.Classifier.{Rule}
-use Rattle.table_compose.specs.LeastCost.{IsLeastCost}
+use Rattle.field_boxes.specs.Headline.Classifier.{Rule}
+use Rattle.table_compose.specs.Headline.LeastCost.{IsLeastCost}
 use Rattle.table_compose.proofs.OneCost.{cost-unique}
 use Rattle.field_order.specs.declared.best.Costed.{Costed}
 use Rattle.field_order.specs.declared.worth.Worth.{Worth}

@@ -3,8 +3,8 @@ use Rattle.std.proofs.Common.{◌≡◌, ◌≢◌, ◌∷◌, ℕ, List, [], �
 use Rattle.std.specs.Prelude.{◌&&◌, cond, nat_eq, find, option_map, Some}
 use Rattle.std.proofs.lemmas.Bool.Decides.{eqb_tells}
 use Rattle.std.proofs.lemmas.Nat.{pow_pos}
-use Rattle.field_boxes.specs.Fields.{width, AreValues}
-use Rattle.field_boxes.specs.Classifier.{Rule, matches, set_holds, source}
+use Rattle.field_boxes.specs.Headline.Fields.{width, AreValues}
+use Rattle.field_boxes.specs.Headline.Classifier.{Rule, matches, set_holds, source}
 use Rattle.field_boxes.specs.Orders.{IsMissing, AreDistinct, Has}
 use Rattle.field_order.specs.Fronts.{Fits, without}
 use Rattle.field_order.specs.Worth.{IsRearranged}

@@ -3,7 +3,7 @@ use Rattle.std.proofs.Common.{◌≡◌, ◌≢◌, ◌∷◌, ◌++◌, ℕ, su
 use Rattle.std.specs.Prelude.{◌⊎◌, cond, nat_eq}
 use Rattle.std.proofs.lemmas.Bool.Decides.{eqb_tells}
 use Rattle.std.proofs.Math.Seq.{take-suc}
-use Rattle.field_boxes.specs.Fields.{width}
+use Rattle.field_boxes.specs.Headline.Fields.{width}
 use Rattle.node_store.specs.Levels.{HasField, IsLevel, bits_of}
 use Rattle.field_boxes.specs.Orders.{IsMissing, AreDistinct, Has}
 use Rattle.field_order.specs.Fronts.{without}

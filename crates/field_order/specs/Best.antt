@@ -1,11 +1,11 @@
 -- The best order of the fields for a rule list.
 use Rattle.std.specs.Prelude.{ℕ, ◌<◌, ◌≤◌, List, All}
 use Rattle.field_boxes.specs.declared.rule.Rule as code
-use Rattle.field_boxes.specs.Classifier.{Rule}
+use Rattle.field_boxes.specs.Headline.Classifier.{Rule}
 use Rattle.field_boxes.specs.Fields.{ComesBefore}
 use Rattle.field_boxes.specs.NamedRules.{IsNumberedBy}
 use Rattle.field_boxes.specs.Names.{AreDistinct}
-use Rattle.table_compose.specs.LeastCost.{IsLeastCost}
+use Rattle.table_compose.specs.Headline.LeastCost.{IsLeastCost}
 use Rattle.field_boxes.specs.Orders.{IsOrder}
 
 -- each rule decides the number of one of these names, and no two names are the same

@@ -1,8 +1,8 @@
 -- The best order of those that were tried.
 use Rattle.std.specs.Prelude.{◌≡◌, ℕ, ◌<◌, ◌≤◌, ◌⊎◌, List, [], ◌∷◌, Option}
-use Rattle.field_boxes.specs.Classifier.{Rule}
+use Rattle.field_boxes.specs.Headline.Classifier.{Rule}
 use Rattle.node_store.specs.Diagram.{Node}
-use Rattle.table_compose.specs.LeastCost.{IsLeastCost}
+use Rattle.table_compose.specs.Headline.LeastCost.{IsLeastCost}
 use Rattle.field_order.specs.Order.{place_of}
 use Rattle.field_boxes.specs.Orders.{IsOrder}
 use Rattle.field_order.specs.Worth.{AreApart, DecideBy, answer_by}

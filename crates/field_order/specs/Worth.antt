@@ -3,11 +3,11 @@ use Rattle.std.specs.Prelude.{◌≡◌, ℕ, zero, suc, ◌+◌, ◌<◌, ◌�
 use Rattle.std.specs.List.{AllZip}
 use Rattle.std.specs.Global.{Vec}
 use Rattle.std.specs.HashMap.{get}
-use Rattle.field_boxes.specs.Classifier.{Rule, source}
+use Rattle.field_boxes.specs.Headline.Classifier.{Rule, source}
 use Rattle.node_store.specs.declared.edge.NodeId.{NodeId}
 use Rattle.node_store.specs.Levels.{bits_of}
 use Rattle.node_store.specs.Diagram.{Node, level_of, answer}
-use Rattle.table_compose.specs.LeastCost.{IsLeastCost}
+use Rattle.table_compose.specs.Headline.LeastCost.{IsLeastCost}
 use Rattle.field_boxes.specs.Orders.{AreDistinct, Has}
 use Rattle.field_order.specs.Fronts.{Fits, without}
 use Rattle.field_order.specs.declared.worth.Worth.{Worth}

@@ -1,6 +1,6 @@
 //! The best order of the fields for a rule list.
 ghost use Rattle.std.specs.Prelude.{◌≡◌, ◌<◌, ◌≤◌, ◌+◌, ℕ, List, IfOk};
-ghost use Rattle.field_boxes.specs.Classifier.{Rule as Named};
+ghost use Rattle.field_boxes.specs.Headline.Classifier.{Rule as Named};
 ghost use Rattle.field_boxes.specs.NamedRules.{named_rules};
 ghost use Rattle.node_store.specs.Diagram.{level_of};
 ghost use Rattle.node_store.specs.Store.{Grows};

@@ -1,7 +1,7 @@
 //! What the table of a rule list costs in an order of the fields.
 ghost use Rattle.std.specs.Prelude.{ℕ, List, IfOk};
 ghost use Rattle.field_boxes.specs.NamedRules.{named_rules};
-ghost use Rattle.table_compose.specs.LeastCost.{IsLeastCost};
+ghost use Rattle.table_compose.specs.Headline.LeastCost.{IsLeastCost};
 ghost use Rattle.table_compose.specs.Costs.{AreCostsOf};
 ghost use Rattle.field_order.specs.Best.{AreNamesOf};
 

@@ -1,7 +1,7 @@
 -- Nodes that answer one number: a leaf, a node over one of them, and a node whose one edge leads to one.
 use Rattle.std.proofs.Common.{◌≡◌, ℕ, List, [], ◌∷◌, ◌≤◌, ◌<◌, ◌∙◌, arith, ap, refl, length, subst, sym}
 use Rattle.std.specs.Prelude.{IfSome, Option, Some, None, slice_get, slice_index_or}
-use Rattle.field_boxes.specs.Fields.{AreValues}
+use Rattle.field_boxes.specs.Headline.Fields.{AreValues}
 use Rattle.node_store.specs.declared.edge.Edge.{Edge}
 use Rattle.node_store.specs.Edges.{AreFull, child_of}
 use Rattle.node_store.specs.Levels.{HasField, next, top_of}

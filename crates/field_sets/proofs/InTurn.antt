@@ -2,7 +2,7 @@
 use Rattle.std.proofs.Common.{◌≡◌, ◌∷◌, ◌++◌, ℕ, List, [], ◌≤◌, ◌<◌, refl, ap, arith, sym, ◌∙◌}
 use Rattle.std.specs.Prelude.{cond, suc, map, true, false, Bool, Option, None, Some, All}
 use Rattle.std.proofs.lemmas.List.Elements.{All-tail}
-use Rattle.field_boxes.specs.Classifier.{interval_holds}
+use Rattle.field_boxes.specs.Headline.Classifier.{interval_holds}
 use Rattle.field_boxes.specs.Spans.{interval_of}
 use Rattle.field_boxes.proofs.Unions.{not_past}
 use Rattle.node_store.specs.declared.edge.Edge.{Edge}

@@ -1,6 +1,6 @@
 -- Nodes that answer one number for all values.
 use Rattle.std.specs.Prelude.{◌≡◌, ℕ, List}
-use Rattle.field_boxes.specs.Fields.{AreValues}
+use Rattle.field_boxes.specs.Headline.Fields.{AreValues}
 use Rattle.node_store.specs.Diagram.{Node, level_of, answer}
 
 -- the node stands at the level and answers the number for all values

@@ -1,12 +1,8 @@
 //! Sets and answers over fields: diagrams changed at some spans of one field, and unions of sets.
 //!
-//! The diagrams are those of node_store, over the values of a level's fields. [`laid`] gives a node that
-//! leads elsewhere at some spans of its field, in one pass over its edges. [`put_parts`] gives the parts of a span
-//! on which two nodes lead to one child each, and looks at no edge outside of the span but for two binary searches.
-//!
-//! A set of values is a diagram that answers them by other numbers than 0. [`Sets`] is a store that gives the empty and
-//! the full set of a level, and works out each union once. Whether a set is empty or full is seen along single edges, at
-//! most one a field.
+//! The diagrams are those of node_store, over the values of a level's fields. A set of values is a diagram that answers
+//! them by other numbers than 0. [`Sets`] is a store that gives the empty and the full set of a level, and works out
+//! each union once. Whether a set is empty or full is seen along single edges, at most one a field.
 //!
 //! ```text
 //! let mut sets = Sets::new(alloc);
@@ -16,8 +12,25 @@
 //! put_parts(sets.store(), answers, either, span, &mut parts)?;
 //! ```
 //!
-//! The store only gains nodes: a number that was handed out before keeps what it answers, also where memory was
-//! refused on the way. [`laws`] has what callers need of parts and spans taken one at a time.
+//! What is promised:
+//!
+//! - [`laid`] gives a node that leads elsewhere inside some spans of its field and as before outside.
+//! - [`put_parts`] gives the parts of a span on which two nodes lead to one child each, each where either of them
+//!   leads.
+//! - [`Sets::union`] holds exactly the values that are in one of two sets; [`Sets::none`] and [`Sets::full`] answer 0
+//!   and 1 everywhere.
+//! - The store only gains nodes: a number that was handed out before keeps what it answers, also where a call runs out
+//!   of memory.
+//!
+//! [`laws`] has what callers need of parts and spans taken one at a time. No clause says what a call costs: `laid` is
+//! one pass over the edges of a node, and `put_parts` looks at no edge outside of the span but for two binary searches.
+//!
+//! | Room | Holds |
+//! |---|---|
+//! | `laying`, `placed` | a node changed inside spans |
+//! | `parting`, `reaching` | the parts of a span |
+//! | `sets`, `uniting`, `constant` | sets, their unions, and the diagrams that answer one number everywhere |
+//! | `laws` | laws of the definitions |
 #![tactic(auto)]
 
 mod constant;

@@ -33,7 +33,7 @@ impl Model for Sets {
 
 impl Sets {
     ghost use Rattle.std.specs.Prelude.{◌≡◌, ◌≤◌, ◌||◌, ℕ, List, [], ◌∷◌, Some, IfOk};
-    ghost use Rattle.field_boxes.specs.Fields.{AreValues};
+    ghost use Rattle.field_boxes.specs.Headline.Fields.{AreValues};
     ghost use Rattle.node_store.specs.Levels.{HasField, IsLevel, next, top_of};
     ghost use Rattle.node_store.specs.Diagram.{level_of, edges_of, decision_of, answer};
     ghost use Rattle.node_store.specs.Store.{Grows};

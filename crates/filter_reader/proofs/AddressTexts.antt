@@ -8,15 +8,16 @@ use Rattle.std.proofs.Math.Nat.{ℕ_set}
 use Rattle.std.proofs.lemmas.Bool.{and_from}
 use Rattle.field_boxes.specs.declared.prefix.Prefix.{Prefix}
 use Rattle.field_boxes.specs.declared.span.Span.{Span}
-use Rattle.field_boxes.specs.Classifier.{Interval}
+use Rattle.field_boxes.specs.Headline.Classifier.{Interval}
 use Rattle.field_boxes.specs.Spans.{interval_of}
 use Rattle.filter_reader.specs.Prefixes.{IsPrefix}
 use Rattle.std.proofs.Math.Logic.{∥∥₁_elim}
-use Rattle.field_boxes.specs.Prefix.{FitsWidth, prefix_interval}
-use Rattle.filter_reader.specs.Addresses.{address_of, length_of, agreeing}
-use Rattle.filter_reader.specs.Columns.{prefix_set}
+use Rattle.field_boxes.specs.Headline.Prefix.{FitsWidth}
+use Rattle.field_boxes.specs.Prefix.{prefix_interval}
+use Rattle.filter_reader.specs.Headline.Addresses.{address_of, length_of, agreeing}
+use Rattle.filter_reader.specs.Headline.Columns.{prefix_set}
 use Rattle.filter_reader.specs.ListText.{address_text, prefix_text}
-use Rattle.text_lines.specs.Cuts.{parts_at}
+use Rattle.text_lines.specs.Headline.Cuts.{parts_at}
 use Rattle.text_lines.proofs.Decimals.{decimal-all, decimal-other, digit_other, is_digit, short_number-decimal}
 use Rattle.text_lines.proofs.Joins.{all_joined, split_once-joined, is_other}
 use Rattle.filter_reader.proofs.Bytes.{digit_number, is_number_byte}

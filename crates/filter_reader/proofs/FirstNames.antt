@@ -8,9 +8,10 @@ use Rattle.std.proofs.lemmas.List.Elements.{recursion_from_All}
 use Rattle.std.proofs.lemmas.Option.{unwrap_or-slice_get}
 use Rattle.std.proofs.lemmas.Slice.Eq.{bytes_eq-Decides}
 use Rattle.field_boxes.specs.declared.rule.Rule as code
-use Rattle.field_boxes.specs.Classifier.{Rule}
+use Rattle.field_boxes.specs.Headline.Classifier.{Rule}
 use Rattle.field_boxes.specs.NamedRules.{IsNumberedBy, named_rule, named_rules}
-use Rattle.field_boxes.specs.Names.{is_known, miss, name_at, text_of, with_name}
+use Rattle.field_boxes.specs.Headline.Names.{miss, text_of}
+use Rattle.field_boxes.specs.Names.{is_known, name_at, with_name}
 use Rattle.filter_reader.specs.FirstSeen.{first_seen}
 
 -- no name stands at two places

@@ -7,14 +7,14 @@ use Rattle.std.proofs.lemmas.List.{length-map}
 use Rattle.std.proofs.lemmas.List.Folds.{list_all-map}
 use Rattle.std.specs.List.{list_any, list_all}
 use Rattle.field_boxes.specs.declared.span.Span.{Span}
-use Rattle.field_boxes.specs.Classifier.{Interval, union_holds}
+use Rattle.field_boxes.specs.Headline.Classifier.{Interval, union_holds}
 use Rattle.field_boxes.specs.Ports.{are_port_spans}
 use Rattle.field_boxes.specs.Spans.{interval_of}
 use Rattle.field_boxes.specs.Unions.{RiseApart}
 use Rattle.filter_reader.specs.declared.ranges.Ranges.{Ranges}
 use Rattle.filter_reader.specs.declared.reason.Reason.TheVariants.{PortOrder, PortRange, TooManyRanges}
-use Rattle.filter_reader.specs.Ports.{is_reversed, is_above, ports_of, union_of}
-use Rattle.filter_reader.specs.Ranges.{SumsUp, capped_range, ordered_range}
+use Rattle.filter_reader.specs.Headline.Ports.{ports_of, union_of}
+use Rattle.filter_reader.specs.Ranges.{SumsUp, capped_range, ordered_range, is_reversed, is_above}
 use Rattle.filter_reader.proofs.UnionLists.{AreRanges, union_of-rises, union_of-values}
 
 -- a range as it is kept

@@ -9,9 +9,10 @@ use Rattle.std.specs.List.{AllByRecursion, list_all}
 use Rattle.std.proofs.Math.Logic.{∥∥₁_elim}
 use Rattle.std.proofs.lemmas.List.Elements.{recursion_from_All}
 use Rattle.field_boxes.specs.declared.rule.Rule as code
-use Rattle.field_boxes.specs.Classifier.{Interval, Rule}
+use Rattle.field_boxes.specs.Headline.Classifier.{Interval, Rule}
 use Rattle.field_boxes.specs.NamedRules.{named_rules}
-use Rattle.field_boxes.specs.Names.{is_decision_word, name_at, text_of}
+use Rattle.field_boxes.specs.Headline.Names.{text_of}
+use Rattle.field_boxes.specs.Names.{is_decision_word, name_at}
 use Rattle.field_boxes.specs.Ports.{ArePorts}
 use Rattle.field_boxes.specs.Rules.{sets_of}
 use Rattle.field_boxes.specs.Spans.{interval_of}
@@ -19,12 +20,12 @@ use Rattle.field_boxes.specs.Unions.{RiseApart}
 use Rattle.filter_reader.specs.FilterRules.{IsFilterRule}
 use Rattle.filter_reader.proofs.AddressTexts.{prefix_texts}
 use Rattle.filter_reader.specs.declared.reason.Reason.{Reason}
-use Rattle.filter_reader.specs.FilterList.{BadLine, FilterList, in_front, list_from, list_of, own_name}
-use Rattle.text_lines.specs.Lines.{text_lines, without_return}
+use Rattle.filter_reader.specs.Headline.FilterList.{BadLine, FilterList, in_front, list_from, list_of, own_name}
+use Rattle.text_lines.specs.Headline.Lines.{text_lines, without_return}
 use Rattle.text_lines.proofs.Joins.{all_wider, is_other, lines_of-line}
 use Rattle.filter_reader.specs.ListText.{columns_text, decision_text, list_text, rule_text}
 use Rattle.filter_reader.specs.OwnNames.{HaveNames, IsNameOf}
-use Rattle.filter_reader.specs.RuleLine.{SpelledRule, rule_line}
+use Rattle.filter_reader.specs.Headline.RuleLine.{SpelledRule, rule_line}
 use Rattle.filter_reader.proofs.Bytes.{is_line_byte}
 use Rattle.filter_reader.proofs.LineTexts.{ArePortSets, CanSpell, five, line_bytes, rule_of_tokens-text}
 use Rattle.filter_reader.proofs.TailTexts.{IsTail, tail_none, tail_word}

@@ -3,10 +3,10 @@ use Rattle.std.proofs.Common.{◌≡◌, ◌∷◌, ◌++◌, ℕ, ◌+◌, ◌^
 use Rattle.std.specs.List.{list_any}
 use Rattle.std.proofs.lemmas.Bool.{lt-ltb, le-ltb, or_from}
 use Rattle.std.proofs.lemmas.Fmt.{decimal_nonempty}
-use Rattle.field_boxes.specs.Classifier.{Interval}
-use Rattle.filter_reader.specs.Ports.{range_of, ranges_of, ports_of, union_of, with_interval, is_above, is_reversed, range_before}
-use Rattle.filter_reader.specs.Ranges.{first_range, behind_comma}
-use Rattle.filter_reader.specs.Tokens.{tokens, goes_on}
+use Rattle.field_boxes.specs.Headline.Classifier.{Interval}
+use Rattle.filter_reader.specs.Headline.Ports.{range_of, ranges_of, ports_of, union_of, with_interval}
+use Rattle.filter_reader.specs.Ranges.{first_range, behind_comma, is_above, is_reversed, range_before}
+use Rattle.filter_reader.specs.Headline.Tokens.{tokens, goes_on}
 use Rattle.filter_reader.specs.ListText.{range_text, ports_text}
 use Rattle.field_boxes.specs.Unions.{RiseApart}
 use Rattle.filter_reader.proofs.Bytes.{digit_number, number_plain}

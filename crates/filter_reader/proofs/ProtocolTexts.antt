@@ -4,12 +4,12 @@ use Rattle.std.specs.List.{list_all}
 use Rattle.std.specs.Char.{digit_value}
 use Rattle.std.specs.Fmt.{digit_glyph}
 use Rattle.std.proofs.lemmas.Bool.{agree_below_at, eqb-true, leb-true, lt-ltb, le-leb, and_parts, or_cases, eq-eqb}
-use Rattle.field_boxes.specs.Classifier.{Interval}
-use Rattle.filter_reader.specs.Columns.{under_mask}
+use Rattle.field_boxes.specs.Headline.Classifier.{Interval}
+use Rattle.filter_reader.specs.Headline.Columns.{under_mask}
 use Rattle.filter_reader.specs.ListText.{protocol_text}
 use Rattle.filter_reader.specs.Protocols.{is_protocol}
-use Rattle.filter_reader.specs.Masks.{hex_number, value_and_mask}
-use Rattle.text_lines.specs.Numbers.{is_number, number_of, number_within, short_number}
+use Rattle.filter_reader.specs.Headline.Masks.{hex_number, value_and_mask}
+use Rattle.text_lines.specs.Headline.Numbers.{is_number, number_of, number_within, short_number}
 use Rattle.text_lines.proofs.Joins.{split_once-joined, is_other}
 use Rattle.filter_reader.proofs.Bytes.{is_line_byte}
 use Rattle.filter_reader.proofs.Spelling.{is_plain}

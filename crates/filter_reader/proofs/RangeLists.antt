@@ -1,8 +1,8 @@
 -- The ranges of a port column, one after another.
 use Rattle.std.proofs.Common.{◌≡◌, ◌∷◌, ◌++◌, ℕ, List, Bool, true, false, cond, [], ap, refl, sym, subst, ◌∙◌, append_assoc, Some, None, Option, unwrap_or, option_map, option_and_then, bytes_eq}
-use Rattle.field_boxes.specs.Classifier.{Interval}
-use Rattle.filter_reader.specs.Ports.{ranges_of, range_of, range_before}
-use Rattle.filter_reader.specs.Ranges.{first_range, behind_comma, capped_first, capped_range}
+use Rattle.field_boxes.specs.Headline.Classifier.{Interval}
+use Rattle.filter_reader.specs.Headline.Ports.{ranges_of, range_of}
+use Rattle.filter_reader.specs.Ranges.{first_range, behind_comma, capped_first, capped_range, range_before}
 
 -- ranges in front of those that are left
 abbrev pub behind_ranges : List Interval → Option (List Interval × List (List ℕ)) → Option (List Interval × List (List ℕ))

@@ -9,12 +9,13 @@ use Rattle.std.proofs.lemmas.List.Elements.{recursion_from_All, All-push, All-we
 use Rattle.std.proofs.lemmas.List.Sums.{fold-append}
 use Rattle.std.proofs.lemmas.Slice.Eq.{bytes_eq-Decides}
 use Rattle.field_boxes.specs.declared.rule.Rule as code
-use Rattle.field_boxes.specs.Classifier.{Rule}
+use Rattle.field_boxes.specs.Headline.Classifier.{Rule}
 use Rattle.field_boxes.specs.NamedRules.{IsNumberedBy, named_rule, named_rules}
-use Rattle.field_boxes.specs.Names.{is_decision_word, is_known, name_at, text_of, with_name}
+use Rattle.field_boxes.specs.Headline.Names.{text_of}
+use Rattle.field_boxes.specs.Names.{is_decision_word, is_known, name_at, with_name}
 use Rattle.field_boxes.specs.Rules.{sets_of}
 use Rattle.filter_reader.specs.declared.line.LineRule.{LineRule}
-use Rattle.filter_reader.specs.FilterList.{flags_of, named, own_name}
+use Rattle.filter_reader.specs.Headline.FilterList.{named, own_name}
 use Rattle.filter_reader.specs.FilterRules.{IsFilterRule}
 use Rattle.filter_reader.specs.FirstSeen.{first_seen}
 use Rattle.filter_reader.specs.Growing.{IsListSoFar}
@@ -22,7 +23,7 @@ use Rattle.filter_reader.specs.LineRules.{IsLineRule, spelled_rule}
 use Rattle.filter_reader.specs.OwnNames.{IsNameOf, HaveNames}
 use Rattle.filter_reader.specs.Prefixes.{IsPrefix}
 use Rattle.filter_reader.specs.Protocols.{IsProtocol}
-use Rattle.filter_reader.specs.Reading.{read_so_far, with_rule}
+use Rattle.filter_reader.specs.Reading.{flags_of, read_so_far, with_rule}
 
 -- the first names keep their numbers
 abbrev pub KeepsNames : List (List ℕ) → List (List ℕ) → Type 0

@@ -2,8 +2,8 @@
 use Rattle.std.proofs.Common.{◌≡◌, ◌∷◌, ◌++◌, ℕ, ◌<◌, List, Bool, true, false, [], ap, refl, ◌∙◌, arith, length, ◌&&◌, not}
 use Rattle.std.specs.List.{list_all, onto_first}
 use Rattle.std.proofs.lemmas.Bool.{and_parts, not-true}
-use Rattle.text_lines.specs.Lines.{is_blank}
-use Rattle.filter_reader.specs.Tokens.{tokens, is_mark, goes_on}
+use Rattle.text_lines.specs.Headline.Lines.{is_blank}
+use Rattle.filter_reader.specs.Headline.Tokens.{tokens, is_mark, goes_on}
 
 -- a byte of a word
 abbrev pub is_plain : ℕ → Bool

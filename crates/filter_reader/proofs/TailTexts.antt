@@ -3,9 +3,10 @@ use Rattle.std.proofs.Common.{◌≡◌, ◌∷◌, ℕ, ◌<◌, List, Bool, tr
 use Rattle.std.specs.List.{list_all, list_any}
 use Rattle.std.proofs.lemmas.Bool.{agree_below_at, and_parts, or_cases, or_from, not-true, not_from_true, leb-true, false≢true}
 use Rattle.std.proofs.lemmas.Bool.Decides.{nat_tests}
-use Rattle.field_boxes.specs.Names.{is_word_byte, has_word_form, is_decision_word, miss}
-use Rattle.filter_reader.specs.Columns.{flags_column, decision_column, decision_of}
-use Rattle.filter_reader.specs.Tokens.{tokens, goes_on}
+use Rattle.field_boxes.specs.Headline.Names.{is_word_byte, has_word_form, miss}
+use Rattle.field_boxes.specs.Names.{is_decision_word}
+use Rattle.filter_reader.specs.Headline.Columns.{flags_column, decision_column, decision_of}
+use Rattle.filter_reader.specs.Headline.Tokens.{tokens, goes_on}
 use Rattle.filter_reader.proofs.Bytes.{is_line_byte}
 use Rattle.text_lines.proofs.Joins.{all_wider, is_other}
 use Rattle.filter_reader.proofs.Spelling.{is_plain, tokens-text}

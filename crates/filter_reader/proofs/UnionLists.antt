@@ -2,9 +2,9 @@
 use Rattle.std.proofs.Common.{◌≡◌, ◌∷◌, ℕ, ◌+◌, ◌<◌, ◌≤◌, List, Bool, true, false, cond, [], ap, refl, ◌∙◌, arith, min, max, nat_lt, ◌||◌, ltb-true, ltb-false, sym}
 use Rattle.std.proofs.lemmas.Bool.Decides.{nat_tests}
 use Rattle.std.proofs.Math.Bool.{or_assoc, or_comm}
-use Rattle.field_boxes.specs.Classifier.{Interval, interval_holds, union_holds}
+use Rattle.field_boxes.specs.Headline.Classifier.{Interval, interval_holds, union_holds}
 use Rattle.field_boxes.specs.Unions.{RiseApart}
-use Rattle.filter_reader.specs.Ports.{with_interval, union_of}
+use Rattle.filter_reader.specs.Headline.Ports.{with_interval, union_of}
 use Rattle.field_boxes.proofs.Unions.{weaken}
 
 abbrev hull : Interval → Interval → Interval

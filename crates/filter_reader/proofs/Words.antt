@@ -2,9 +2,9 @@
 use Rattle.std.proofs.Common.{◌≡◌, ◌∷◌, ℕ, ◌+◌, List, Bool, true, false, cond, [], ap, refl, take, drop, add-one, Some, None, position, Option, option_map, not, ◌||◌, ◌&&◌, MatchOption}
 use Rattle.std.specs.List.{onto_first}
 use Rattle.std.proofs.lemmas.Bool.{false≢true}
-use Rattle.text_lines.specs.Lines.{is_blank}
+use Rattle.text_lines.specs.Headline.Lines.{is_blank}
 use Rattle.text_lines.proofs.Positions.{position-cons}
-use Rattle.filter_reader.specs.Tokens.{tokens, goes_on, is_mark}
+use Rattle.filter_reader.specs.Headline.Tokens.{tokens, goes_on, is_mark}
 
 -- what the place of the first byte that ends a word says of the tokens
 abbrev pub EndsAt : List ℕ → Option ℕ → Type 0

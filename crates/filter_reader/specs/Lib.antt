@@ -1,14 +1,8 @@
-pub mod Tokens
-pub mod Addresses
-pub mod Ports
-pub mod Masks
-pub mod Columns
+pub mod Headline
 pub mod Views
 pub mod Prefixes
 pub mod Protocols
 pub mod Ranges
-pub mod RuleLine
-pub mod FilterList
 pub mod Rows
 pub mod ListText
 pub mod OwnNames

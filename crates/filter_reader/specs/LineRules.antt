@@ -7,7 +7,7 @@ use Rattle.filter_reader.specs.declared.line.LineRule.{LineRule}
 use Rattle.filter_reader.specs.declared.reason.Reason.{Reason}
 use Rattle.filter_reader.specs.Prefixes.{IsPrefix}
 use Rattle.filter_reader.specs.Protocols.{IsProtocol}
-use Rattle.filter_reader.specs.RuleLine.{SpelledRule}
+use Rattle.filter_reader.specs.Headline.RuleLine.{SpelledRule}
 
 -- the rule, without where its word lies
 abbrev pub spelled_rule : LineRule → SpelledRule

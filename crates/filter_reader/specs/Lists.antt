@@ -1,9 +1,9 @@
 -- The list of the code as a list of rules with names.
 use Rattle.std.specs.Prelude.{ℕ, List, Option}
 use Rattle.filter_reader.specs.declared.list.RuleList.{RuleList}
-use Rattle.filter_reader.specs.FilterList.{FilterList}
-use Rattle.field_boxes.specs.Classifier.{source}
-use Rattle.field_boxes.specs.Fields.{stated}
+use Rattle.filter_reader.specs.Headline.FilterList.{FilterList}
+use Rattle.field_boxes.specs.Headline.Classifier.{source}
+use Rattle.field_boxes.specs.Headline.Fields.{stated}
 use Rattle.field_boxes.specs.NamedRules.{named_rules}
 
 -- the rules with the names of their decisions, and the count of flagged ones

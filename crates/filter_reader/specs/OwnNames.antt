@@ -1,9 +1,9 @@
 -- Lists in which a rule is named by a decision word or by its own number.
 use Rattle.std.specs.Prelude.{ℕ, ◌+◌, ◌||◌, List, [], ◌∷◌, IsTrue}
 use Rattle.std.specs.Str.{bytes_eq}
-use Rattle.field_boxes.specs.Classifier.{Rule}
+use Rattle.field_boxes.specs.Headline.Classifier.{Rule}
 use Rattle.field_boxes.specs.Names.{is_decision_word}
-use Rattle.filter_reader.specs.FilterList.{own_name}
+use Rattle.filter_reader.specs.Headline.FilterList.{own_name}
 
 -- a decision word, or '#' and this number
 abbrev pub IsNameOf : ℕ → List ℕ → Type 0

@@ -1,15 +1,28 @@
 -- The ranges of a port column, one after another.
-use Rattle.std.specs.Prelude.{◌≡◌, ℕ, ◌≤◌, min, max, List, [], ◌∷◌, length, map, take, Option, Some, None, if◌then◌else◌}
+use Rattle.std.specs.Prelude.{◌≡◌, ℕ, ◌≤◌, nat_lt, min, max, Bool, ◌||◌, List, [], ◌∷◌, length, map, take, Option, Some, None, option_map, if◌then◌else◌}
 use Rattle.std.specs.List.{list_any}
 use Rattle.std.specs.Str.{bytes_eq}
 use Rattle.std.specs.Borrow.{Bor}
-use Rattle.field_boxes.specs.Classifier.{Interval}
+use Rattle.razor_base.specs.declared.limits.TheConstants.{GREATEST_PORT}
+use Rattle.field_boxes.specs.Headline.Classifier.{Interval}
 use Rattle.field_boxes.specs.Spans.{interval_of}
 use Rattle.filter_reader.specs.declared.range.Range.{Range}
 use Rattle.filter_reader.specs.declared.ranges.Ranges.{Ranges}
-use Rattle.text_lines.specs.Steps.{◌>>=◌}
-use Rattle.filter_reader.specs.Tokens.{first_token, tokens}
-use Rattle.filter_reader.specs.Ports.{range_of, is_reversed}
+use Rattle.text_lines.specs.Headline.Steps.{◌>>=◌}
+use Rattle.filter_reader.specs.Headline.Tokens.{first_token, tokens}
+use Rattle.filter_reader.specs.Headline.Ports.{range_of}
+
+-- a range in front of more ranges
+abbrev pub range_before : Interval → Option (List Interval × List (List ℕ)) → Option (List Interval × List (List ℕ))
+range_before range o = option_map (λ column. (range ∷ column.0, column.1)) o
+
+-- a number of the range is no port
+abbrev pub is_above : Interval → Bool
+is_above range = nat_lt GREATEST_PORT range.lo || nat_lt GREATEST_PORT range.hi
+
+-- the range begins above its end
+abbrev pub is_reversed : Interval → Bool
+is_reversed range = nat_lt range.hi range.lo
 
 -- the range that the tokens begin with, and the tokens behind it
 unfoldable pub first_range : List (List ℕ) → Option (Interval × List (List ℕ))

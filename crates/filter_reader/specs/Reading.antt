@@ -6,14 +6,18 @@ use Rattle.filter_reader.specs.declared.list.ListError.{ListError}
 use Rattle.filter_reader.specs.declared.list.ListError.TheVariants as errors
 use Rattle.filter_reader.specs.declared.take.LineError.{LineError}
 use Rattle.filter_reader.specs.declared.take.LineError.TheVariants as line_errors
-use Rattle.filter_reader.specs.FilterList.{FilterList, BadLine, flags_of, named}
-use Rattle.text_lines.specs.Lines.{is_skipped}
+use Rattle.filter_reader.specs.Headline.FilterList.{FilterList, BadLine, named}
+use Rattle.text_lines.specs.Headline.Lines.{is_skipped}
 use Rattle.field_boxes.specs.NamedRules.{named_rules}
-use Rattle.filter_reader.specs.RuleLine.{SpelledRule, rule_line}
+use Rattle.filter_reader.specs.Headline.RuleLine.{SpelledRule, rule_line}
 
 -- the list that was read so far
 abbrev pub read_so_far : List (List ℕ) → List code.Rule → ℕ → FilterList
 read_so_far names rules flagged = record { rules = named_rules names rules; flagged = flagged }
+
+-- 1 for a rule that is flagged
+abbrev pub flags_of : SpelledRule → ℕ
+flags_of spelled = if spelled.flagged then 1 else 0
 
 -- a rule behind those of a list
 abbrev pub with_rule : FilterList → SpelledRule → FilterList

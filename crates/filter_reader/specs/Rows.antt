@@ -1,11 +1,11 @@
 -- Lines and what they come to, for the worked rows.
 use Rattle.std.specs.Prelude.{ℕ, List, [], ◌∷◌, ◌++◌, Some, false, Result, Ok, Err, codes}
 use Rattle.std.specs.List.{join_with_byte}
-use Rattle.field_boxes.specs.Classifier.{Interval}
+use Rattle.field_boxes.specs.Headline.Classifier.{Interval}
 use Rattle.filter_reader.specs.declared.reason.Reason.{Reason}
 use Rattle.filter_reader.specs.declared.reason.Reason.TheVariants.{NoAt, Address, Length, PortForm, PortOrder, PortRange, ProtocolForm, ProtocolMask, FlagsForm, DecisionForm, Reserved, Extra, NotAscii, TooManyRanges}
-use Rattle.filter_reader.specs.RuleLine.{SpelledRule, rule_line}
-use Rattle.filter_reader.specs.FilterList.{FilterList, BadLine}
+use Rattle.filter_reader.specs.Headline.RuleLine.{SpelledRule, rule_line}
+use Rattle.filter_reader.specs.Headline.FilterList.{FilterList, BadLine}
 
 abbrev pub one : ℕ → ℕ → List Interval
 one lo hi = record { lo = lo; hi = hi } ∷ []

@@ -1,10 +1,11 @@
 //! The address columns of a rule line.
 ghost use Rattle.std.specs.Prelude.{◌≡◌, ◌≤◌, ◌<◌, ◌^◌, IfSome, IfOk, option_copied};
 ghost use Rattle.std.specs.Result.{result_map_both};
-ghost use Rattle.field_boxes.specs.Prefix.{FitsWidth, prefix_interval};
-ghost use Rattle.filter_reader.specs.Addresses.{address_of, agreeing, length_of};
-ghost use Rattle.filter_reader.specs.Columns.{behind_at, destination_column, prefix_set, source_column};
-ghost use Rattle.filter_reader.specs.Tokens.{tokens};
+ghost use Rattle.field_boxes.specs.Headline.Prefix.{FitsWidth};
+ghost use Rattle.field_boxes.specs.Prefix.{prefix_interval};
+ghost use Rattle.filter_reader.specs.Headline.Addresses.{address_of, agreeing, length_of};
+ghost use Rattle.filter_reader.specs.Headline.Columns.{behind_at, destination_column, prefix_set, source_column};
+ghost use Rattle.filter_reader.specs.Headline.Tokens.{tokens};
 ghost use Rattle.filter_reader.specs.Views.{column_by};
 
 use crate::reason::Reason;
@@ -13,7 +14,7 @@ use field_boxes::Prefix;
 use text_lines::{parts_at, short_number, split_once};
 
 /// The address that `a.b.c.d` writes, each of one to three digits and at most 255.
-#[tactic(auto, unfolding(crate::specs::Addresses::address_of))]
+#[tactic(auto, unfolding(crate::specs::Headline::Addresses::address_of))]
 fn address(text: &[u8]) -> Option<u32>
     ensures { result ≡ address_of text.now }
 {
@@ -28,7 +29,7 @@ fn address(text: &[u8]) -> Option<u32>
 }
 
 /// The length that the text writes in one or two digits, at most 32.
-#[tactic(auto, unfolding(crate::specs::Addresses::length_of))]
+#[tactic(auto, unfolding(crate::specs::Headline::Addresses::length_of))]
 fn prefix_length(text: Option<&[u8]>) -> Option<u32>
     ensures value { result ≡ length_of (option_copied text.entry) }
     ensures within { IfSome result (λ n. n ≤ 32) }
@@ -51,7 +52,7 @@ fn prefix_of(address: u32, len: u8) -> Prefix
 }
 
 /// The prefix that `a.b.c.d/len` writes, whatever the bits past its length are.
-#[tactic(auto, unfolding(crate::specs::Columns::prefix_set))]
+#[tactic(auto, unfolding(crate::specs::Headline::Columns::prefix_set))]
 fn prefix(text: &[u8]) -> Result<Prefix, Reason>
     ensures set { result_map_both (prefix_interval 32) (λ reason. reason) result ≡ prefix_set text.now }
     ensures fits { IfOk result (FitsWidth 32) }
@@ -67,7 +68,7 @@ fn prefix(text: &[u8]) -> Result<Prefix, Reason>
 }
 
 /// What stands behind `@`.
-#[tactic(auto, unfolding(crate::specs::Columns::behind_at))]
+#[tactic(auto, unfolding(crate::specs::Headline::Columns::behind_at))]
 fn behind_at(token: &[u8]) -> Option<&[u8]>
     ensures { option_copied result ≡ behind_at token.now }
 {
@@ -78,7 +79,7 @@ fn behind_at(token: &[u8]) -> Option<&[u8]>
 }
 
 /// The prefix of the source addresses, `@a.b.c.d/len`.
-#[tactic(auto, unfolding(crate::specs::Columns::source_column))]
+#[tactic(auto, unfolding(crate::specs::Headline::Columns::source_column))]
 pub fn source_column(line: &[u8]) -> Result<(Prefix, &[u8]), Reason>
     ensures read { column_by (prefix_interval 32) result ≡ source_column (tokens line.now) }
     ensures fits { IfOk result (λ column. FitsWidth 32 column.0) }
@@ -94,7 +95,7 @@ pub fn source_column(line: &[u8]) -> Result<(Prefix, &[u8]), Reason>
 }
 
 /// The prefix of the destination addresses, `a.b.c.d/len`.
-#[tactic(auto, unfolding(crate::specs::Columns::destination_column))]
+#[tactic(auto, unfolding(crate::specs::Headline::Columns::destination_column))]
 pub fn destination_column(line: &[u8]) -> Result<(Prefix, &[u8]), Reason>
     ensures read { column_by (prefix_interval 32) result ≡ destination_column (tokens line.now) }
     ensures fits { IfOk result (λ column. FitsWidth 32 column.0) }

@@ -1,8 +1,8 @@
 //! The last column of a rule line: its decision word.
 ghost use Rattle.std.specs.Prelude.{◌≡◌, IsTrue, IfOk, IfSome, Ok, Err, MatchResult, option_copied};
 ghost use Rattle.field_boxes.specs.Names.{is_decision_word};
-ghost use Rattle.filter_reader.specs.Columns.{decision_column, decision_of, end_of_line};
-ghost use Rattle.filter_reader.specs.Tokens.{tokens};
+ghost use Rattle.filter_reader.specs.Headline.Columns.{decision_column, decision_of, end_of_line};
+ghost use Rattle.filter_reader.specs.Headline.Tokens.{tokens};
 ghost use Rattle.filter_reader.specs.Views.{column_by};
 
 use crate::reason::Reason;
@@ -10,7 +10,7 @@ use crate::token::next_token;
 use field_boxes::decision_word;
 
 /// The decision word that the token is.
-#[tactic(auto, unfolding(crate::specs::Columns::decision_of))]
+#[tactic(auto, unfolding(crate::specs::Headline::Columns::decision_of))]
 fn decision(token: &[u8]) -> Result<&str, Reason>
     ensures name { MatchResult result (λ name. decision_of token.now ≡ Ok name.now) (λ reason. decision_of token.now ≡ Err reason) }
     ensures word { IfOk result (λ name. IsTrue (is_decision_word name.now)) }
@@ -28,7 +28,7 @@ fn decision(token: &[u8]) -> Result<&str, Reason>
 }
 
 /// The decision word; none where no token is left.
-#[tactic(auto, unfolding(crate::specs::Columns::decision_column))]
+#[tactic(auto, unfolding(crate::specs::Headline::Columns::decision_column))]
 pub fn decision_column(line: &[u8]) -> Result<(Option<&str>, &[u8]), Reason>
     ensures read { column_by option_copied result ≡ decision_column (tokens line.now) }
     ensures word { IfOk result (λ column. IfSome column.0 (λ name. IsTrue (is_decision_word name.now))) }

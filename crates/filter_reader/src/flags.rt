@@ -1,8 +1,8 @@
 //! The column of flags, which a rule line may have.
 ghost use Rattle.std.specs.Prelude.{◌≡◌, ◌==◌};
 ghost use Rattle.std.specs.List.{list_any};
-ghost use Rattle.filter_reader.specs.Columns.{flag_of, flags_column};
-ghost use Rattle.filter_reader.specs.Tokens.{tokens};
+ghost use Rattle.filter_reader.specs.Headline.Columns.{flag_of, flags_column};
+ghost use Rattle.filter_reader.specs.Headline.Tokens.{tokens};
 ghost use Rattle.filter_reader.specs.Views.{column_by};
 
 use crate::hexadecimal::value_and_mask;
@@ -17,7 +17,7 @@ fn has_slash(token: &[u8]) -> bool
 }
 
 /// Whether the mask of the flags `0xF/0xM` isn't 0.
-#[tactic(auto, unfolding(crate::specs::Columns::flag_of))]
+#[tactic(auto, unfolding(crate::specs::Headline::Columns::flag_of))]
 fn flag(token: &[u8]) -> Result<bool, Reason>
     ensures { result ≡ flag_of token.now }
 {
@@ -28,7 +28,7 @@ fn flag(token: &[u8]) -> Result<bool, Reason>
 }
 
 /// Whether the rule is flagged; a token without `/` isn't this column.
-#[tactic(auto, unfolding(crate::specs::Columns::flags_column))]
+#[tactic(auto, unfolding(crate::specs::Headline::Columns::flags_column))]
 pub fn flags_column(line: &[u8]) -> Result<(bool, &[u8]), Reason>
     ensures { column_by (λ flag. flag) result ≡ flags_column (tokens line.now) }
 {

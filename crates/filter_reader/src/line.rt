@@ -2,8 +2,8 @@
 ghost use Rattle.std.specs.Prelude.{◌≡◌, ◌≢◌, IfOk, OnOk};
 ghost use Rattle.razor_base.specs.declared.limits.TheConstants.{MOST_RULES};
 ghost use Rattle.filter_reader.specs.LineRules.{IsLineRule, spelled_line};
-ghost use Rattle.filter_reader.specs.RuleLine.{rule_line, rule_of_tokens};
-ghost use Rattle.filter_reader.specs.Tokens.{tokens};
+ghost use Rattle.filter_reader.specs.Headline.RuleLine.{rule_line, rule_of_tokens};
+ghost use Rattle.filter_reader.specs.Headline.Tokens.{tokens};
 
 use crate::address::{destination_column, source_column};
 use crate::decision::{decision_column, end_of_line};
@@ -33,7 +33,7 @@ pub struct LineRule<'a> {
 }
 
 /// The rule that the columns of the line spell, or the first reason why they are bad.
-#[tactic(auto, unfolding(crate::specs::RuleLine::rule_of_tokens))]
+#[tactic(auto, unfolding(crate::specs::Headline::RuleLine::rule_of_tokens))]
 fn rule_of_columns(line: &[u8]) -> Result<LineRule<'_>, Reason>
     ensures read { spelled_line result ≡ rule_of_tokens (tokens line.now) }
     ensures rule { IfOk result IsLineRule }
@@ -67,7 +67,7 @@ fn rule_of_columns(line: &[u8]) -> Result<LineRule<'_>, Reason>
 ///
 /// The line is without the end of its line, and behind 65,536 rules it is one too many, whatever it spells.
 /// It takes time linear in the bytes, and no memory.
-#[tactic(auto, unfolding(crate::specs::RuleLine::rule_line))]
+#[tactic(auto, unfolding(crate::specs::Headline::RuleLine::rule_line))]
 pub fn rule_of_line(line: &[u8], before: usize) -> Result<LineRule<'_>, Reason>
     ensures read { spelled_line result ≡ rule_line before line.now }
     ensures rule { IfOk result IsLineRule }

@@ -2,9 +2,9 @@
 ghost use Rattle.std.specs.Prelude.{◌≡◌, ◌≤◌, IfOk};
 ghost use Rattle.std.specs.Result.{result_map_both};
 ghost use Rattle.field_boxes.specs.Spans.{interval_of};
-ghost use Rattle.filter_reader.specs.Columns.{protocol_column, under_mask};
+ghost use Rattle.filter_reader.specs.Headline.Columns.{protocol_column, under_mask};
 ghost use Rattle.filter_reader.specs.Protocols.{IsProtocol};
-ghost use Rattle.filter_reader.specs.Tokens.{tokens};
+ghost use Rattle.filter_reader.specs.Headline.Tokens.{tokens};
 ghost use Rattle.filter_reader.specs.Views.{column_by};
 
 use crate::hexadecimal::value_and_mask;
@@ -29,7 +29,7 @@ fn under_mask(value: u32, mask: u32) -> Result<Span, Reason>
 }
 
 /// The protocols, `0xP/0xM`.
-#[tactic(auto, unfolding(crate::specs::Columns::protocol_column))]
+#[tactic(auto, unfolding(crate::specs::Headline::Columns::protocol_column))]
 pub fn protocol_column(line: &[u8]) -> Result<(Span, &[u8]), Reason>
     ensures read { column_by interval_of result ≡ protocol_column (tokens line.now) }
     ensures protocol { IfOk result (λ column. IsProtocol column.0) }

@@ -1,9 +1,9 @@
 //! One range of a port column.
 ghost use Rattle.std.specs.Prelude.{◌≡◌, ◌<◌, length, min, option_map, Option, Some, None, IfSome, if◌then◌else◌};
 ghost use Rattle.std.specs.Option.{option_copied};
-ghost use Rattle.text_lines.specs.Numbers.{is_number, number_of};
+ghost use Rattle.text_lines.specs.Headline.Numbers.{is_number, number_of};
 ghost use Rattle.filter_reader.specs.Ranges.{behind_comma, capped_first, first_range, seen_range};
-ghost use Rattle.filter_reader.specs.Tokens.{tokens};
+ghost use Rattle.filter_reader.specs.Headline.Tokens.{tokens};
 
 use crate::reason::Reason;
 use crate::token::{from_token, next_token};
@@ -19,10 +19,10 @@ pub struct Range {
 
 impl Range {
     ghost use Rattle.std.specs.Prelude.{◌≡◌, [], ◌∷◌, IfOk};
-    ghost use Rattle.field_boxes.specs.Classifier.{Interval};
+    ghost use Rattle.field_boxes.specs.Headline.Classifier.{Interval};
     ghost use Rattle.field_boxes.specs.Ports.{ArePorts};
     ghost use Rattle.field_boxes.specs.Spans.{interval_of};
-    ghost use Rattle.filter_reader.specs.Ports.{ports_of};
+    ghost use Rattle.filter_reader.specs.Headline.Ports.{ports_of};
     ghost use Rattle.filter_reader.specs.Ranges.{capped_range, ordered_range, range_view};
 
     /// The ports of a column that has this range alone.
@@ -61,7 +61,7 @@ fn port(text: &[u8]) -> Option<u32>
 }
 
 /// The range that the line begins with, and what stands behind it.
-#[tactic(auto, unfolding(crate::specs::Ranges::first_range, crate::specs::Ports::range_of))]
+#[tactic(auto, unfolding(crate::specs::Ranges::first_range, crate::specs::Headline::Ports::range_of))]
 pub fn first_range(line: &[u8]) -> Option<(Range, &[u8])>
     ensures range { seen_range result ≡ capped_first (first_range (tokens line.now)) }
     ensures shorter { IfSome result (λ parts. length parts.1.now < length line.now) }

@@ -1,10 +1,10 @@
 //! The ranges of a port column, as far as they are kept.
 ghost use Rattle.std.specs.Prelude.{◌≡◌, ℕ, ◌<◌, ◌++◌, ◌∷◌, List, [], length, Some, None, MatchOption, IfOk, IfSome};
-ghost use Rattle.field_boxes.specs.Classifier.{Interval};
+ghost use Rattle.field_boxes.specs.Headline.Classifier.{Interval};
 ghost use Rattle.field_boxes.specs.Ports.{ArePorts};
-ghost use Rattle.filter_reader.specs.Ports.{ports_of, ranges_of};
+ghost use Rattle.filter_reader.specs.Headline.Ports.{ports_of, ranges_of};
 ghost use Rattle.filter_reader.specs.Ranges.{SumsUp, capped_range, range_view};
-ghost use Rattle.filter_reader.specs.Tokens.{tokens};
+ghost use Rattle.filter_reader.specs.Headline.Tokens.{tokens};
 
 use crate::range::{Range, behind_comma, first_range};
 use crate::reason::Reason;

@@ -1,6 +1,6 @@
 //! Reading a filter list whole.
 ghost use Rattle.std.specs.Prelude.{◌≡◌, IfOk, MatchResult, Ok};
-ghost use Rattle.filter_reader.specs.FilterList.{list_of};
+ghost use Rattle.filter_reader.specs.Headline.FilterList.{list_of};
 ghost use Rattle.filter_reader.specs.FirstSeen.{first_seen};
 ghost use Rattle.filter_reader.specs.Lists.{filter_list};
 ghost use Rattle.filter_reader.specs.OwnNames.{HaveNames};

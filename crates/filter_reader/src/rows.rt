@@ -1,7 +1,7 @@
 //! Worked rows of the definitions: what they come to on small examples. The functions do nothing.
 ghost use Rattle.std.specs.Prelude.{◌≡◌, ◌∷◌, ◌++◌, [], ℕ, List, true, Some, None, Ok, Err, map, codes, Result};
-ghost use Rattle.filter_reader.specs.FilterList.{list_of};
-ghost use Rattle.filter_reader.specs.RuleLine.{SpelledRule, rule_line};
+ghost use Rattle.filter_reader.specs.Headline.FilterList.{list_of};
+ghost use Rattle.filter_reader.specs.Headline.RuleLine.{SpelledRule, rule_line};
 ghost use Rattle.filter_reader.specs.Rows.{bad_lines, flagged_line, one, refused, refused_by, spelled_by, spelled_ports, web_sets, with_ports, with_protocol};
 ghost use Rattle.filter_reader.specs.declared.reason.Reason.{Reason};
 ghost use Rattle.filter_reader.specs.declared.reason.Reason.TheVariants.{NoAt, TooManyRules, PortOrder};

@@ -2,7 +2,7 @@
 ghost use Rattle.std.specs.Prelude.{◌≡◌, ◌≤◌, ◌<◌, ◌+◌, ℕ, length, vec_len, All, IfOk, IfSome, IsTrue, MatchResult, Ok, OnOk, OnErr, Some, option_copied, unwrap_or};
 ghost use Rattle.razor_base.specs.declared.limits.TheConstants.{MOST_RULES, MOST_ENTRIES};
 ghost use Rattle.field_boxes.specs.Names.{is_decision_word, name_at, with_name};
-ghost use Rattle.filter_reader.specs.FilterList.{own_name};
+ghost use Rattle.filter_reader.specs.Headline.FilterList.{own_name};
 ghost use Rattle.filter_reader.specs.Growing.{IsListSoFar};
 ghost use Rattle.filter_reader.specs.LineRules.{IsLineRule, spelled_rule};
 ghost use Rattle.filter_reader.specs.Reading.{IsLineRefused, read_so_far, with_line, with_rule};

@@ -1,8 +1,8 @@
 //! The tokens of a line.
 ghost use Rattle.std.specs.Prelude.{◌≡◌, ◌<◌, ◌≤◌, ◌∷◌, ◌||◌, [], length, take, drop, option_map, position, IfSome, IsTrue, MatchOption};
 ghost use Rattle.text_lines.specs.Columns.{begins_column};
-ghost use Rattle.text_lines.specs.Lines.{is_blank};
-ghost use Rattle.filter_reader.specs.Tokens.{is_mark, first_token, tokens};
+ghost use Rattle.text_lines.specs.Headline.Lines.{is_blank};
+ghost use Rattle.filter_reader.specs.Headline.Tokens.{is_mark, first_token, tokens};
 
 use text_lines::{column_start, is_blank};
 

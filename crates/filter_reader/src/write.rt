@@ -2,7 +2,7 @@
 ghost use Rattle.std.specs.Prelude.{◌≡◌, Ok, All};
 ghost use Rattle.razor_base.specs.Output.{Puts, Writes};
 ghost use Rattle.field_boxes.specs.NamedRules.{IsNumberedBy, named_rules};
-ghost use Rattle.filter_reader.specs.FilterList.{list_of};
+ghost use Rattle.filter_reader.specs.Headline.FilterList.{list_of};
 ghost use Rattle.filter_reader.specs.ListText.{list_text};
 ghost use Rattle.filter_reader.specs.Lists.{filter_list};
 ghost use Rattle.filter_reader.specs.OwnNames.{HaveNames};
@@ -16,6 +16,7 @@ use razor_base::{Failed, Pending, Sink};
 ///
 /// The name of each rule is a decision word, or `#k` for rule k alone, as in every list that was read. The
 /// text has no flags; reading it gives the same sets and the same names.
+#[inline(never)]
 pub fn write_list<K: Sink>(list: &RuleList, out: &mut K) -> Result<(), Failed>
     requires { HaveNames 1 (filter_list list.now).rules }
     ensures written { Writes K.written K.faults out.old out.new (list_text (filter_list list.now).rules) result }

@@ -5,7 +5,8 @@ use Rattle.std.specs.Str.{bytes_eq}
 use Rattle.std.proofs.lemmas.Bool.{true≢false}
 use Rattle.std.proofs.lemmas.Option.{slice_get_within, slice_get-get_or, none-some}
 use Rattle.std.proofs.lemmas.Slice.Eq.{bytes_eq-Decides}
-use Rattle.field_boxes.specs.Names.{miss, name_at, number_of, text_of, AreDistinct, AreNames}
+use Rattle.field_boxes.specs.Headline.Names.{miss, text_of}
+use Rattle.field_boxes.specs.Names.{name_at, number_of, AreDistinct, AreNames}
 use Rattle.field_boxes.proofs.FirstSeen.{found}
 use Rattle.text_lines.proofs.Positions.{position-cons}
 use Rattle.list_equiv.specs.Names.{known_or, common_number}

@@ -3,7 +3,7 @@ use Rattle.std.proofs.Common.{◌≡◌, ℕ, ◌≤◌, List, ap, sym, subst, �
 use Rattle.std.specs.Prelude.{Option, MatchOption, ◌↔◌}
 use Rattle.std.proofs.lemmas.List.Elements.{recursion_from_All, All-weaker}
 use Rattle.field_boxes.specs.declared.rule.Rule as code
-use Rattle.field_boxes.specs.Fields.{stated, AreValues, IsHeader}
+use Rattle.field_boxes.specs.Headline.Fields.{stated, AreValues, IsHeader}
 use Rattle.field_boxes.specs.NamedRules.{IsNumberedBy}
 use Rattle.field_boxes.specs.Names.{name_at, AreNames}
 use Rattle.filter_reader.specs.declared.list.RuleList.{RuleList}

@@ -3,8 +3,8 @@ use Rattle.std.proofs.Common.{◌≡◌, ◌∷◌, ℕ, ◌≤◌, List, [], Bo
 use Rattle.std.specs.Prelude.{find, unwrap_or, option_map, Option}
 use Rattle.std.proofs.lemmas.List.Elements.{All-tail}
 use Rattle.field_boxes.specs.declared.rule.Rule as code
-use Rattle.field_boxes.specs.Fields.{stated}
-use Rattle.field_boxes.specs.Classifier.{matches}
+use Rattle.field_boxes.specs.Headline.Fields.{stated}
+use Rattle.field_boxes.specs.Headline.Classifier.{matches}
 use Rattle.field_boxes.specs.Rules.{rule_of}
 use Rattle.fdd_build.specs.Rules.{decided}
 use Rattle.fdd_build.proofs.Decided.{decided_head}

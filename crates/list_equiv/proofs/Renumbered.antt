@@ -3,8 +3,8 @@ use Rattle.std.proofs.Common.{◌≡◌, ◌∷◌, ◌++◌, ℕ, ◌+◌, ◌<
 use Rattle.std.specs.Prelude.{find, map, option_map, unwrap_or}
 use Rattle.std.proofs.lemmas.List.{map-append, take_more}
 use Rattle.field_boxes.specs.declared.rule.Rule as code
-use Rattle.field_boxes.specs.Classifier.{Rule, matches, source}
-use Rattle.field_boxes.specs.Fields.{stated}
+use Rattle.field_boxes.specs.Headline.Classifier.{Rule, matches, source}
+use Rattle.field_boxes.specs.Headline.Fields.{stated}
 use Rattle.field_boxes.specs.Rules.{rule_of}
 use Rattle.field_boxes.proofs.SameSets.{matches_by_sets}
 use Rattle.fdd_build.specs.Rules.{decided}

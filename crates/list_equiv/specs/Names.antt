@@ -1,9 +1,10 @@
 -- The names that rules decide by their numbers, and numbers that the names of two sides have in common.
 use Rattle.std.specs.Prelude.{ℕ, ◌+◌, ◌≤◌, List, length, All, Option, Some, None}
 use Rattle.field_boxes.specs.declared.rule.Rule as code
-use Rattle.field_boxes.specs.Classifier.{Rule}
-use Rattle.field_boxes.specs.Fields.{stated}
-use Rattle.field_boxes.specs.Names.{name_at, number_of, text_of}
+use Rattle.field_boxes.specs.Headline.Classifier.{Rule}
+use Rattle.field_boxes.specs.Headline.Fields.{stated}
+use Rattle.field_boxes.specs.Headline.Names.{text_of}
+use Rattle.field_boxes.specs.Names.{name_at, number_of}
 use Rattle.field_boxes.specs.Rules.{sets_of}
 use Rattle.fdd_build.specs.Rules.{decided}
 

@@ -1,7 +1,7 @@
 //! What rules decide on one header.
 ghost use Rattle.std.specs.Prelude.{◌≡◌, find, option_copied};
-ghost use Rattle.field_boxes.specs.Fields.{stated};
-ghost use Rattle.field_boxes.specs.Classifier.{matches};
+ghost use Rattle.field_boxes.specs.Headline.Fields.{stated};
+ghost use Rattle.field_boxes.specs.Headline.Classifier.{matches};
 ghost use Rattle.field_boxes.specs.Rules.{rule_of};
 ghost use Rattle.fdd_build.specs.Rules.{decided};
 

@@ -1,6 +1,6 @@
 //! Rules with numbers that the names of two sides have in common.
 ghost use Rattle.std.specs.Prelude.{◌≡◌, ◌≤◌, ℕ, List, length, map, IfOk};
-ghost use Rattle.field_boxes.specs.Fields.{stated, IsHeader};
+ghost use Rattle.field_boxes.specs.Headline.Fields.{stated, IsHeader};
 ghost use Rattle.field_boxes.specs.Rules.{rule_of};
 ghost use Rattle.fdd_build.specs.Rules.{decided};
 ghost use Rattle.list_equiv.specs.Names.{AreWithin, common_number, common_rule};

@@ -6,7 +6,7 @@ use Rattle.std.proofs.lemmas.Bool.{or_left}
 use Rattle.field_boxes.specs.NamedRules.{named_rules}
 use Rattle.field_boxes.specs.declared.rule.Rule.{Rule}
 use Rattle.field_boxes.specs.Names.{is_decision_word}
-use Rattle.filter_reader.specs.FilterList.{FilterList, own_name}
+use Rattle.filter_reader.specs.Headline.FilterList.{FilterList, own_name}
 use Rattle.filter_reader.specs.OwnNames.{HaveNames}
 use Rattle.filter_reader.specs.declared.list.RuleList.{RuleList}
 use Rattle.list_generator.specs.Draws.{drawn, state_after}

@@ -4,9 +4,10 @@ use Rattle.std.specs.Prelude.{All, Option}
 use Rattle.std.proofs.lemmas.List.{length-append, map-append}
 use Rattle.std.proofs.lemmas.List.Elements.{All-push, All-weaker, recursion_from_All}
 use Rattle.field_boxes.specs.declared.rule.Rule as code
-use Rattle.field_boxes.specs.Classifier.{Rule}
+use Rattle.field_boxes.specs.Headline.Classifier.{Rule}
 use Rattle.field_boxes.specs.NamedRules.{IsNumberedBy, named_rule, named_rules}
-use Rattle.field_boxes.specs.Names.{name_at, text_of, with_name}
+use Rattle.field_boxes.specs.Headline.Names.{text_of}
+use Rattle.field_boxes.specs.Names.{name_at, with_name}
 use Rattle.field_boxes.specs.Rules.{sets_of}
 use Rattle.filter_reader.specs.FilterRules.{IsFilterRule}
 use Rattle.filter_reader.specs.FirstSeen.{first_seen}

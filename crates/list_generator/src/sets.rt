@@ -1,8 +1,9 @@
 //! What a number that is drawn stands for in each column of a rule.
 ghost use Rattle.std.specs.Prelude.{◌≡◌, ◌≢◌, ◌≤◌, ◌∷◌, [], IsTrue};
 ghost use Rattle.razor_base.specs.declared.limits.TheConstants.{GREATEST_PORT, GREATEST_PROTOCOL};
-ghost use Rattle.field_boxes.specs.Names.{is_decision_word, miss};
-ghost use Rattle.field_boxes.specs.Prefix.{FitsWidth};
+ghost use Rattle.field_boxes.specs.Headline.Names.{miss};
+ghost use Rattle.field_boxes.specs.Names.{is_decision_word};
+ghost use Rattle.field_boxes.specs.Headline.Prefix.{FitsWidth};
 ghost use Rattle.field_boxes.specs.Spans.{interval_of};
 ghost use Rattle.filter_reader.specs.Prefixes.{IsPrefix};
 ghost use Rattle.filter_reader.specs.Protocols.{IsProtocol};

@@ -4,7 +4,7 @@ use Rattle.std.specs.Prelude.{slice_index}
 use Rattle.std.specs.List.{All}
 use Rattle.std.proofs.lemmas.List.{get_or-set_other, get_or-set_same, length-set}
 use Rattle.std.proofs.lemmas.List.Elements.{All-head, All-tail}
-use Rattle.field_boxes.specs.Fields.{width, stated, AreValues, IsHeader}
+use Rattle.field_boxes.specs.Headline.Fields.{width, stated, AreValues, IsHeader}
 use Rattle.field_boxes.specs.Orders.{picked, IsMissing, AreDistinct, IsOrder}
 use Rattle.field_boxes.proofs.Orders.{place_of_field, value_of, weight_of, weighs}
 use Rattle.node_store.specs.Levels.{IsLevel, HasField, bits_of}

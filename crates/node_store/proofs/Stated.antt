@@ -1,6 +1,7 @@
 -- The levels of the stated order, by how many of its fields are read.
 use Rattle.std.proofs.Common.{◌≡◌, ◌<◌, ℕ, zero, suc, [], drop, refl, arith, rules}
-use Rattle.field_boxes.specs.Fields.{stated, greatest_of}
+use Rattle.field_boxes.specs.Headline.Fields.{stated}
+use Rattle.field_boxes.specs.Fields.{greatest_of}
 use Rattle.node_store.specs.Levels.{HasField, IsLevel, next, top_of}
 
 pub all_fields : HasField stated

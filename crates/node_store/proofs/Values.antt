@@ -2,7 +2,8 @@
 use Rattle.std.proofs.Common.{◌≡◌, ◌∷◌, ℕ, List, [], ◌-◌, ◌≤◌, ◌<◌, ◌^◌, ◌∙◌, length, take, drop, refl, ap, arith}
 use Rattle.std.specs.Prelude.{suc}
 use Rattle.std.proofs.lemmas.Nat.{pow_pos}
-use Rattle.field_boxes.specs.Fields.{width, greatest_of, AreValues}
+use Rattle.field_boxes.specs.Headline.Fields.{width, AreValues}
+use Rattle.field_boxes.specs.Fields.{greatest_of}
 use Rattle.node_store.specs.Levels.{HasField, next, top_of}
 
 take_all : (xs : List ℕ) → take (length xs) xs ≡ xs

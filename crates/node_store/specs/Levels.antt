@@ -1,6 +1,7 @@
 -- Levels: the fields that are read from a node on, the node's own first. A leaf stands at the empty level.
 use Rattle.std.specs.Prelude.{ℕ, ◌+◌, ◌<◌, ◌≤◌, List, [], ◌∷◌, length}
-use Rattle.field_boxes.specs.Fields.{greatest_of, width}
+use Rattle.field_boxes.specs.Headline.Fields.{width}
+use Rattle.field_boxes.specs.Fields.{greatest_of}
 
 -- the bits of these fields together
 abbrev pub bits_of : List ℕ → ℕ

@@ -1,6 +1,6 @@
 //! The walk from a node down to a leaf: one binary search a field.
 ghost use Rattle.std.specs.Prelude.{◌≡◌, ◌<◌, ◌≤◌, ℕ, length};
-ghost use Rattle.field_boxes.specs.Fields.{stated};
+ghost use Rattle.field_boxes.specs.Headline.Fields.{stated};
 ghost use Rattle.node_store.specs.Levels.{HasField, next, top_of};
 ghost use Rattle.node_store.specs.Diagram.{level_of, edges_of, answer};
 ghost use Rattle.node_store.specs.Edges.{AreFull, child_of};

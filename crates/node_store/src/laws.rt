@@ -1,7 +1,7 @@
 //! Laws of the definitions, for whoever relies on them. The functions do nothing.
 ghost use Rattle.std.specs.Prelude.{◌≡◌, ◌≤◌, ◌<◌, ℕ, List, [], ◌∷◌, ◌++◌, length};
 ghost use Rattle.field_boxes.specs.Alike.{AreAlikeOver};
-ghost use Rattle.field_boxes.specs.Fields.{AreValues};
+ghost use Rattle.field_boxes.specs.Headline.Fields.{AreValues};
 ghost use Rattle.node_store.specs.Levels.{HasField, IsLevel, next, top_of};
 ghost use Rattle.node_store.specs.declared.edge.Edge.{Edge};
 ghost use Rattle.node_store.specs.Edges.{AreFull, child_of};

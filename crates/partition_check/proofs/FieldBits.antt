@@ -4,10 +4,11 @@ use Rattle.std.proofs.lemmas.Nat.{pow_pos, shl-shr, and_shr, and_mod, and_le_r, 
 use Rattle.std.proofs.Math.Nat.{div-eq_of_lt, mod-eq_of_lt, mul-le-mul_right}
 use Rattle.std.proofs.Math.Pow.{shr_mono}
 use Rattle.std.proofs.lemmas.Bool.{and_left, and_right, and_parts, and_from, cases_lt, false≢true, false_from_ne_true}
-use Rattle.field_boxes.specs.Bits.{bits}
+use Rattle.field_boxes.specs.Headline.Bits.{bits}
 use Rattle.field_boxes.proofs.Bits.{bits-mod}
 use Rattle.field_boxes.proofs.Powers.{double}
-use Rattle.ternary_words.specs.Word.{trit, trits, trit_agrees, agrees}
+use Rattle.ternary_words.specs.Headline.Word.{agrees}
+use Rattle.ternary_words.specs.Word.{trit, trits, trit_agrees}
 use Rattle.partition_check.specs.WordFields.{bit_agrees, field_agrees, SomeBetween, EachBetween}
 use Rattle.ternary_words.proofs.Matching.{split_top}
 

@@ -2,7 +2,7 @@
 use Rattle.std.proofs.Common.{◌≡◌, ℕ, ◌+◌, ◌-◌, ◌<◌, List, Bool, true, false, Some, None, length, get_or, take, ap, refl, sym, subst, ◌∙◌, arith, inl, inr, ◌≢◌, Option, position, slice_get}
 use Rattle.std.proofs.lemmas.Bool.{cases_lt}
 use Rattle.std.proofs.lemmas.Option.{slice_get-get_or}
-use Rattle.field_boxes.specs.Classifier.{Interval}
+use Rattle.field_boxes.specs.Headline.Classifier.{Interval}
 use Rattle.partition_check.specs.Boxes.{EachIn, SomeIn}
 use Rattle.partition_check.specs.Claims.{place_of}
 use Rattle.partition_check.specs.Checking.{IsNumber}

@@ -1,6 +1,6 @@
 -- The spans that go on at the last place that is open are the next box.
 use Rattle.std.proofs.Common.{◌≡◌, ◌∷◌, ℕ, List, [], ◌<◌, arith, ap, refl, inl, inr, sym, add-one, All, suc, zero, length, take, drop, slice_index, slice_index_or}
-use Rattle.field_boxes.specs.Classifier.{Interval}
+use Rattle.field_boxes.specs.Headline.Classifier.{Interval}
 use Rattle.partition_check.specs.Boxes.{IsBox}
 use Rattle.partition_check.specs.NextBox.{IsNextBox, ReachesEnds}
 use Rattle.partition_check.proofs.Places.{ends-last, less}

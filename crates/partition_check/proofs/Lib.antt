@@ -24,6 +24,7 @@ pub mod Streaming
 pub mod Buffers
 pub mod NamedReasons
 pub mod OneVerdict
+pub mod OneReason
 pub mod SeenAlike
 pub mod Certificates
 pub mod Extracted

@@ -1,6 +1,6 @@
 -- Lines that are cut off at their line feeds.
 use Rattle.std.proofs.Common.{◌≡◌, ◌∷◌, ◌++◌, ℕ, List, [], Bool, true, false, cond, Some, None, ap, sym, subst, refl, Option, MatchOption, IfSome, IfNone, option_map, nat_eq, Bor}
-use Rattle.text_lines.specs.Cuts.{split_once}
+use Rattle.text_lines.specs.Headline.Cuts.{split_once}
 use Rattle.text_lines.proofs.Cuts.{split_once-cons}
 use Rattle.text_lines.proofs.Joins.{split_back}
 use Rattle.partition_check.specs.CertificateText.{Lines, lines_of, put_byte}

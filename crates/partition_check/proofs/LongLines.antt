@@ -2,7 +2,7 @@
 use Rattle.std.proofs.Common.{◌≡◌, ◌∷◌, ℕ, suc, ◌+◌, ◌^◌, ◌<◌, ◌≤◌, List, [], Bool, true, false, Some, None, length, drop, ap, sym, subst, refl, arith, length-drop, Option, nat_le, option_map, option_and_then, MatchBool, bytes_eq, leb-true}
 use Rattle.std.proofs.lemmas.Option.{cond_some, none-some, same_Some}
 use Rattle.std.proofs.lemmas.Slice.Eq.{bytes_eq-Decides}
-use Rattle.field_boxes.specs.Classifier.{Interval}
+use Rattle.field_boxes.specs.Headline.Classifier.{Interval}
 use Rattle.text_lines.specs.Numbers.{plain_number}
 use Rattle.text_lines.proofs.Joins.{cut_length}
 use Rattle.text_lines.proofs.NumberBack.{plain_length, plain_told}

@@ -36,9 +36,9 @@ kind_apart c line true after why h f = last_apart c (stated_rows line) after why
 kind_apart c line false after why h f = row_apart c line after why h f
 
 -- no line is taken that is wrong
-line_apart : (c : Checking) (o : Option ℕ) (line : List ℕ) (after : Reading) (why : Why) → Takes c o line after → Fails c o line why → ⊥
-line_apart c None line after why h f = kind_apart c line (is_last_line line) after why h f
-line_apart c (Some n) line after why h f = h
+pub line-apart : (c : Checking) (o : Option ℕ) (line : List ℕ) (after : Reading) (why : Why) → Takes c o line after → Fails c o line why → ⊥
+line-apart c None line after why h f = kind_apart c line (is_last_line line) after why h f
+line-apart c (Some n) line after why h f = h
 
 row_one : (c : Checking) (line : List ℕ) (a b : Reading) → TakesRow c line a → TakesRow c line b → a ≡ b
 row_one c line a b s t =
@@ -56,21 +56,21 @@ kind_one c line true a b s t = last_one c (stated_rows line) a b s t
 kind_one c line false a b s t = row_one c line a b s t
 
 -- a line is taken in one way
-line_one : (c : Checking) (o : Option ℕ) (line : List ℕ) (a b : Reading) → Takes c o line a → Takes c o line b → a ≡ b
-line_one c None line a b s t = kind_one c line (is_last_line line) a b s t
-line_one c (Some n) line a b s t = absurd s
+pub line-one : (c : Checking) (o : Option ℕ) (line : List ℕ) (a b : Reading) → Takes c o line a → Takes c o line b → a ≡ b
+line-one c None line a b s t = kind_one c line (is_last_line line) a b s t
+line-one c (Some n) line a b s t = absurd s
 
-all_one : (lines : List (List ℕ)) (r a b : Reading) → TakesAll r lines a → TakesAll r lines b → a ≡ b
-all_one [] r a b s t = s ∙ sym t
-all_one (line ∷ lines) r a b s t =
-    let same = line_one r.checking r.ended line s.0 t.0 s.1 t.1 in
-    all_one lines t.0 a b (subst (λ (x : Reading). TakesAll x lines a) same s.2) t.2
+pub all-one : (lines : List (List ℕ)) (r a b : Reading) → TakesAll r lines a → TakesAll r lines b → a ≡ b
+all-one [] r a b s t = s ∙ sym t
+all-one (line ∷ lines) r a b s t =
+    let same = line-one r.checking r.ended line s.0 t.0 s.1 t.1 in
+    all-one lines t.0 a b (subst (λ (x : Reading). TakesAll x lines a) same s.2) t.2
 
 pub all-apart : (lines : List (List ℕ)) (r a : Reading) (w : Wrong) → TakesAll r lines a → FindsWrong r lines w → ⊥
 all-apart [] r a w t f = f
-all-apart (line ∷ lines) r a w t (inl f) = line_apart r.checking r.ended line t.0 w.why t.1 f.why
+all-apart (line ∷ lines) r a w t (inl f) = line-apart r.checking r.ended line t.0 w.why t.1 f.why
 all-apart (line ∷ lines) r a w t (inr f) =
-    let same = line_one r.checking r.ended line t.0 f.0 t.1 f.1 in
+    let same = line-one r.checking r.ended line t.0 f.0 t.1 f.1 in
     all-apart lines f.0 a w (subst (λ (x : Reading). TakesAll x lines a) same t.2) f.2
 
 ended_apart : (ended : Option ℕ) (rest : List ℕ) (n : ℕ) (why : Why) → ended ≡ Some n → rest ≡ [] → LacksEnd ended rest why → ⊥
@@ -79,10 +79,10 @@ ended_apart ended rest n why e none h = subst (λ (o : Option ℕ). LacksEnd o [
 pub valid-apart : (c : Checking) (text : List ℕ) (n : ℕ) (w : Wrong) → IsValid c text n → IsWrong c text w → ⊥
 valid-apart c text n w v (inl f) = all-apart (lines_of text).whole (started c) v.after w v.takes f
 valid-apart c text n w v (inr u) =
-    let same = all_one (lines_of text).whole (started c) u.after v.after u.takes v.takes in
+    let same = all-one (lines_of text).whole (started c) u.after v.after u.takes v.takes in
     ended_apart u.after.ended (lines_of text).rest n w.why (ap (λ (x : Reading). x.ended) same ∙ v.ended) v.whole u.ends.why
 
 pub valid-one : (c : Checking) (text : List ℕ) (m n : ℕ) → IsValid c text m → IsValid c text n → m ≡ n
 valid-one c text m n u v =
-    let same = all_one (lines_of text).whole (started c) u.after v.after u.takes v.takes in
+    let same = all-one (lines_of text).whole (started c) u.after v.after u.takes v.takes in
     same_Some m n (sym u.ended ∙ ap (λ (x : Reading). x.ended) same ∙ v.ended)

@@ -2,7 +2,7 @@
 use Rattle.std.proofs.Common.{◌≡◌, ◌∷◌, ℕ, zero, suc, ◌≤◌, ◌<◌, List, [], Bool, Some, length, take, sym, subst, arith, inl, inr, Contains, slice_get, slice_index_or, IsFalse}
 use Rattle.std.proofs.lemmas.Bool.{cases_lt}
 use Rattle.std.proofs.lemmas.Option.{slice_get_within, none-some}
-use Rattle.field_boxes.specs.Classifier.{Interval}
+use Rattle.field_boxes.specs.Headline.Classifier.{Interval}
 use Rattle.partition_check.specs.Boxes.{EachIn}
 use Rattle.field_boxes.specs.Boxes.{LiesIn}
 use Rattle.partition_check.specs.Sieves.{IsWithin, NoneBefore, OneBefore, IsMissedOrKept, IsSifted}

@@ -4,6 +4,7 @@ use Rattle.std.specs.Io.KnownBytes.{Consumes, IsAtEnd}
 use Rattle.std.specs.Io.KnownBytes as known
 use Rattle.std.proofs.KnownBytes.{Consumes-trans, Consumes-kept}
 use Rattle.std.proofs.lemmas.Bool.{cases_lt}
+use Rattle.razor_base.specs.Input.{TakesAtMost}
 use Rattle.filter_reader.specs.declared.list.RuleList.{RuleList}
 use Rattle.ternary_words.specs.declared.table.Table.{Table}
 use Rattle.partition_check.specs.Agreement.{Agree}
@@ -268,6 +269,14 @@ module _ (c : Checking) (limit : ℕ) (start now : Option (List ℕ)) (room : �
       from_start (λ left. Unit {0}) (λ all left. ReadsUpTo c limit all left) h.seen start after
       (λ all left e end. record { front = h.seen; rest = left; parts = e; left_is = refl; within = omega (arith, h.room_is); right = (r, h.takes) })
       (Consumes-kept start now after h.seen h.moved same) tt
+
+  -- at most one piece more was read
+  pub near-piece : (after : Option (List ℕ)) (piece : List ℕ) (most : ℕ) → Consumes now after piece → length piece ≤ most → TakesAtMost start after (limit + most)
+  near-piece after piece most moved short = (h.seen ++ piece, Consumes-trans start now after h.seen piece h.moved moved, omega (arith, h.room_is, short, length-append h.seen piece))
+
+  -- no more was read
+  pub near-kept : (after : Option (List ℕ)) (most : ℕ) → known.Keeps now after → TakesAtMost start after (limit + most)
+  near-kept after most same = (h.seen, Consumes-kept start now after h.seen h.moved same, omega (arith, h.room_is))
 
 -- so few rows were taken
 pub rows-read : (c : Checking) (limit : ℕ) (start now : Option (List ℕ)) (room : ℕ) (kept : List ℕ) (r : Reading) → IsRead c limit start now room kept r → c.accepted ≡ 0 →

@@ -2,15 +2,16 @@
 use Rattle.std.proofs.Common.{◌≡◌, ◌∷◌, ◌++◌, ℕ, ◌+◌, ◌/◌, ◌%◌, ◌^◌, ◌<◌, ◌≤◌, List, [], Bool, true, false, length, ap, refl, sym, subst, ◌∙◌, arith, ◌&&◌, cond, nat_eq, bit_and, slice_index, slice_index_or, IsTrue, IsFalse}
 use Rattle.std.proofs.lemmas.Bool.{and_left, and_right, eqb-true, eq-eqb}
 use Rattle.std.proofs.lemmas.Nat.{and_shr, and_mod}
-use Rattle.field_boxes.specs.Bits.{bits}
-use Rattle.field_boxes.specs.Fields.{stated, width}
+use Rattle.field_boxes.specs.Headline.Bits.{bits}
+use Rattle.field_boxes.specs.Headline.Fields.{stated, width}
 use Rattle.field_boxes.specs.declared.span.Span.{Span}
 use Rattle.field_boxes.specs.Spans.{interval_of, intervals_of}
 use Rattle.std.proofs.lemmas.List.{length-map}
 use Rattle.field_boxes.proofs.Bits.{bits-add, bits-mod, length-bits}
 use Rattle.field_boxes.proofs.FieldByField.{five, header_of}
 use Rattle.ternary_words.specs.declared.word.Word.{Word}
-use Rattle.ternary_words.specs.Word.{Trit, trit, trits, trit_agrees, agrees, field_bits, header_bits}
+use Rattle.ternary_words.specs.Headline.Word.{Trit, agrees, field_bits, header_bits}
+use Rattle.ternary_words.specs.Word.{trit, trits, trit_agrees}
 use Rattle.ternary_words.specs.Views.{word_of}
 use Rattle.ternary_words.proofs.Fives.{five_of}
 use Rattle.partition_check.specs.Boxes.{EachIn, SomeIn}

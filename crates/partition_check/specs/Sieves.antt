@@ -1,6 +1,6 @@
 -- Which of the items of a list may match a header of a box.
 use Rattle.std.specs.Prelude.{◌≡◌, ℕ, ◌≤◌, ◌<◌, ◌⊎◌, Bool, List, [], ◌∷◌, Contains, Some, slice_get, IsTrue, IsFalse}
-use Rattle.field_boxes.specs.Classifier.{Interval}
+use Rattle.field_boxes.specs.Headline.Classifier.{Interval}
 use Rattle.partition_check.specs.Boxes.{EachIn, SomeIn}
 
 -- each interval of the first box lies in that of the second

@@ -2,10 +2,11 @@
 ghost use Rattle.std.specs.Prelude.{◌≡◌, ◌≢◌, ◌≤◌, ◌<◌, ◌+◌, ◌-◌, ℕ, List, Err, IfSome, IfOk, OnOk, IsErrOf, MatchResult, OnErr, length, take, drop, min};
 ghost use Rattle.std.specs.Io.KnownBytes.{Consumes, IsAtEnd, Keeps};
 ghost use Rattle.razor_base.specs.Faults.{Rose};
+ghost use Rattle.razor_base.specs.Input.{TakesAtMost};
 ghost use Rattle.razor_base.specs.declared.limits.TheConstants.{MOST_CERTIFICATE_BYTES};
 ghost use Rattle.partition_check.specs.declared.row.Wrong.{Wrong as wrong_row};
 ghost use Rattle.partition_check.specs.Agreement.{Agree, HaveNames};
-ghost use Rattle.partition_check.specs.Streams.{ReadsUpTo, ReadsTooMuch, ReadsValid, ReadsWrong};
+ghost use Rattle.partition_check.specs.Streams.{ReadsUpTo, ReadsTooMuch, ReadsValid, ReadsWrong, UnlessFault};
 
 use crate::checker::Checker;
 use crate::reader::Reader;
@@ -65,6 +66,7 @@ fn read_behind<D: Desk>(
         × (n ≡ 0 → IsAtEnd (D.remaining desk.new name.now)) × (kept + n ≤ length buffer.new)) }
     ensures failed { OnErr result (Rose (D.faults desk.old name.now) (D.faults desk.new name.now)
         × Keeps (D.remaining desk.old name.now) (D.remaining desk.new name.now)) }
+    ensures calm { OnOk result ((other : List ℕ) → D.faults desk.new other ≡ D.faults desk.old other) }
     ensures kept { take kept buffer.new ≡ take kept buffer.old }
     ensures others { (other : List ℕ) → other ≢ name.now → Keeps (D.remaining desk.old other) (D.remaining desk.new other) }
     ensures counts { (other : List ℕ) → D.faults desk.old other ≤ D.faults desk.new other }
@@ -108,6 +110,12 @@ pub fn check_stream<D: Desk>(
         (λ all. ReadsTooMuch checker.entry MOST_CERTIFICATE_BYTES all) }
     ensures fault { IsErrOf result Stop.ReadFault → Rose (D.faults desk.old name.now) (D.faults desk.new name.now)
         × IfSome (D.remaining desk.old name.now) (λ all. ReadsUpTo checker.entry MOST_CERTIFICATE_BYTES all (D.remaining desk.new name.now)) }
+
+    // However else it ends, no read failed.
+    ensures calm { UnlessFault result ((other : List ℕ) → D.faults desk.new other ≡ D.faults desk.old other) }
+
+    // Past the limit at most what the buffer holds is read.
+    ensures near { TakesAtMost (D.remaining desk.old name.now) (D.remaining desk.new name.now) (MOST_CERTIFICATE_BYTES + length buffer.old) }
 
     // The other inputs keep what they had, and no count falls.
     ensures others { (other : List ℕ) → other ≢ name.now → Keeps (D.remaining desk.old other) (D.remaining desk.new other) }

@@ -1,9 +1,10 @@
 //! Words against the boxes of rows, field by field.
 ghost use Rattle.std.specs.Prelude.{◌≡◌, ◌≤◌, ◌<◌, ◌^◌, ℕ, bit_and, IsTrue, IsFalse};
 ghost use Rattle.std.specs.Bool.{OnTrue, OnFalse};
-ghost use Rattle.field_boxes.specs.Fields.{greatest_of, width};
+ghost use Rattle.field_boxes.specs.Headline.Fields.{width};
+ghost use Rattle.field_boxes.specs.Fields.{greatest_of};
 ghost use Rattle.field_boxes.specs.Spans.{intervals_of};
-ghost use Rattle.ternary_words.specs.Word.{agrees, header_bits};
+ghost use Rattle.ternary_words.specs.Headline.Word.{agrees, header_bits};
 ghost use Rattle.ternary_words.specs.Views.{word_of};
 ghost use Rattle.partition_check.specs.Boxes.{ends, IsBox, EachIn, SomeIn};
 ghost use Rattle.partition_check.specs.WordFields.{field_part, word_field, EachBetween, SomeBetween};

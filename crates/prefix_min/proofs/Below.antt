@@ -5,8 +5,8 @@ use Rattle.std.specs.List.{All, AllByRecursion}
 use Rattle.std.proofs.lemmas.Nat.{shr_split, shr_high, mod_low}
 use Rattle.std.proofs.lemmas.List.{length-take-le}
 use Rattle.std.proofs.lemmas.List.Elements.{All-head, All-tail}
-use Rattle.field_boxes.specs.Prefix.{FitsWidth}
-use Rattle.field_boxes.specs.Bits.{bits}
+use Rattle.field_boxes.specs.Headline.Prefix.{FitsWidth}
+use Rattle.field_boxes.specs.Headline.Bits.{bits}
 use Rattle.field_boxes.proofs.Bits.{bits-add, bits-mod, length-bits}
 use Rattle.field_boxes.proofs.Halves.{Row, IsRootless, front, front-half, half, is_root, kept_below, weight-halves}
 use Rattle.prefix_min.specs.declared.row.PrefixRow.{PrefixRow}

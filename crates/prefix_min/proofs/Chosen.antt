@@ -8,7 +8,7 @@ use Rattle.std.proofs.lemmas.List.{append-nil}
 use Rattle.std.proofs.lemmas.List.Elements.{filter-append, All-filter, All-from_recursion, recursion_from_All}
 use Rattle.std.proofs.lemmas.List.Sums.{sum_by-append}
 use Rattle.std.proofs.lemmas.Nat.{pow_pos}
-use Rattle.field_boxes.specs.Prefix.{prefix_holds}
+use Rattle.field_boxes.specs.Headline.Prefix.{prefix_holds}
 use Rattle.prefix_min.specs.declared.row.PrefixRow.{PrefixRow}
 use Rattle.prefix_min.specs.Trie.{Node}
 use Rattle.prefix_min.specs.Choice.{AnswerIn, IsWorth, IsWorthIn, beside, lies_in, within}

@@ -4,7 +4,7 @@ use Rattle.std.specs.Prelude.{◌⊎◌, unwrap_or, slice_index, None}
 use Rattle.std.specs.List.{AllByRecursion}
 use Rattle.std.proofs.lemmas.Bool.{cases_lt}
 use Rattle.std.proofs.lemmas.List.Sums.{sum_by-append}
-use Rattle.field_boxes.specs.Prefix.{prefix_holds}
+use Rattle.field_boxes.specs.Headline.Prefix.{prefix_holds}
 use Rattle.field_boxes.proofs.Powers.{double}
 use Rattle.prefix_min.specs.declared.row.PrefixRow.{PrefixRow}
 use Rattle.prefix_min.specs.Choice.{IsWorth, IsWorthIn}

@@ -4,7 +4,7 @@ use Rattle.std.specs.Prelude.{◌⊎◌, ◌&&◌, cond, find, Option, Some, Non
 use Rattle.std.specs.List.{AllByRecursion}
 use Rattle.std.proofs.lemmas.Bool.{false≢true, leb-true, le-leb}
 use Rattle.std.proofs.lemmas.Nat.{pow_pos}
-use Rattle.field_boxes.specs.Prefix.{FitsWidth, prefix_holds}
+use Rattle.field_boxes.specs.Headline.Prefix.{FitsWidth, prefix_holds}
 use Rattle.field_boxes.proofs.Prefixes.{interval-prefix}
 use Rattle.prefix_min.specs.declared.row.PrefixRow.{PrefixRow}
 use Rattle.prefix_min.specs.PrefixList.{front}

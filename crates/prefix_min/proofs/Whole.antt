@@ -4,8 +4,10 @@ use Rattle.std.specs.Prelude.{cond, Option, Some, find, option_map, unwrap_or, s
 use Rattle.std.specs.List.{All}
 use Rattle.std.proofs.lemmas.List.Sums.{sum_by-cons}
 use Rattle.std.proofs.lemmas.List.Elements.{All-head, All-tail}
-use Rattle.field_boxes.specs.Prefix.{FitsWidth, prefix_holds, prefix_bits}
-use Rattle.field_boxes.specs.Bits.{bits, begins}
+use Rattle.field_boxes.specs.Headline.Prefix.{FitsWidth, prefix_holds}
+use Rattle.field_boxes.specs.Prefix.{prefix_bits}
+use Rattle.field_boxes.specs.Headline.Bits.{bits}
+use Rattle.field_boxes.specs.Bits.{begins}
 use Rattle.field_boxes.proofs.Bits.{prefix-begins}
 use Rattle.field_boxes.proofs.Halves.{Row, front}
 use Rattle.prefix_min.specs.declared.row.PrefixRow.{PrefixRow}

@@ -1,7 +1,7 @@
 -- Which of the cheapest lists is chosen.
 use Rattle.std.specs.Prelude.{◌≡◌, ℕ, ◌+◌, ◌^◌, ◌<◌, Bool, true, not, ◌&&◌, List, ◌∷◌, ◌++◌, filter, nat_le, unwrap_or, slice_index}
 use Rattle.std.specs.List.{All}
-use Rattle.field_boxes.specs.Prefix.{FitsWidth, prefix_holds}
+use Rattle.field_boxes.specs.Headline.Prefix.{FitsWidth, prefix_holds}
 use Rattle.prefix_min.specs.declared.row.PrefixRow.{PrefixRow}
 use Rattle.prefix_min.specs.PrefixList.{IsRight, front, weight}
 

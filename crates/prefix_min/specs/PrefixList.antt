@@ -2,7 +2,7 @@
 -- The weighted one-field problem of the Razor papers (Meiners, Liu, Torng 2007 and 2010).
 use Rattle.std.specs.Prelude.{◌≡◌, ℕ, ◌^◌, ◌<◌, ◌≤◌, List, find, length, Option, Some, option_map, sum_by, slice_index}
 use Rattle.std.specs.List.{All}
-use Rattle.field_boxes.specs.Prefix.{FitsWidth, prefix_holds}
+use Rattle.field_boxes.specs.Headline.Prefix.{FitsWidth, prefix_holds}
 use Rattle.prefix_min.specs.declared.row.PrefixRow.{PrefixRow}
 
 -- the label of the first row that holds the value

@@ -1,7 +1,7 @@
 -- The rows of a part of the field.
 use Rattle.std.specs.Prelude.{◌≡◌, ℕ, zero, suc, ◌+◌, ◌-◌, ◌%◌, ◌^◌, ◌<◌, ◌≤◌, true, List, [], ◌∷◌, ◌++◌, unwrap_or, length}
 use Rattle.std.specs.List.{AllByRecursion, Contains}
-use Rattle.field_boxes.specs.Prefix.{FitsWidth, prefix_holds}
+use Rattle.field_boxes.specs.Headline.Prefix.{FitsWidth, prefix_holds}
 use Rattle.prefix_min.specs.declared.row.PrefixRow.{PrefixRow}
 use Rattle.prefix_min.specs.Trie.{Node, Constant, Halves}
 use Rattle.prefix_min.specs.PrefixList.{front, weight}

@@ -7,7 +7,7 @@ use Rattle.std.proofs.lemmas.List.Elements.{All-nil, All-cons}
 use Rattle.std.proofs.lemmas.List.Kept.{AllPairs-cons}
 use Rattle.std.proofs.lemmas.List.Folds.{list_any-append}
 use Rattle.field_boxes.specs.declared.prefix.Prefix.{Prefix}
-use Rattle.field_boxes.specs.Prefix.{FitsWidth, prefix_holds}
+use Rattle.field_boxes.specs.Headline.Prefix.{FitsWidth, prefix_holds}
 use Rattle.field_boxes.proofs.Prefixes.{interval-prefix}
 use Rattle.range_prefix.specs.Cover.{IsApart}
 use Rattle.range_prefix.specs.Shortest.{has_block, block_prefix, shortest_in}

@@ -5,7 +5,7 @@ use Rattle.std.proofs.lemmas.Bool.{cases_lt, eqb-true, false≢true, false_from_
 use Rattle.std.proofs.lemmas.Nat.{div-mul-add, div_below, le-div, mod_below, pow_pos, shr-shr, shr_split}
 use Rattle.field_boxes.specs.declared.prefix.Prefix.{Prefix}
 use Rattle.field_boxes.specs.declared.span.Span.{Span}
-use Rattle.field_boxes.specs.Prefix.{FitsWidth, prefix_holds}
+use Rattle.field_boxes.specs.Headline.Prefix.{FitsWidth, prefix_holds}
 use Rattle.field_boxes.specs.Spans.{intervals_of}
 use Rattle.field_boxes.specs.Unions.{RiseApart}
 use Rattle.field_boxes.proofs.Powers.{double}

@@ -8,7 +8,7 @@ use Rattle.std.proofs.lemmas.List.Folds.{list_any-append}
 use Rattle.std.proofs.Math.Pow.{pow_mono}
 use Rattle.field_boxes.specs.declared.prefix.Prefix.{Prefix}
 use Rattle.field_boxes.specs.declared.span.Span.{Span}
-use Rattle.field_boxes.specs.Prefix.{FitsWidth, prefix_holds}
+use Rattle.field_boxes.specs.Headline.Prefix.{FitsWidth, prefix_holds}
 use Rattle.range_prefix.specs.Cover.{HoldExactly}
 use Rattle.range_prefix.specs.Shortest.{has_block, block_prefix, shortest_below, shortest_cover, shortest_in}
 use Rattle.range_prefix.specs.Spans.{union_of, values_of}

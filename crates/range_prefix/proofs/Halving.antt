@@ -1,7 +1,7 @@
 -- Halving finds a shortest cover.
 use Rattle.std.proofs.Common.{◌≡◌, ℕ, ◌+◌, ◌-◌, ◌≤◌, Bool, ap, subst, arith}
 use Rattle.std.specs.List.{list_any}
-use Rattle.field_boxes.specs.Prefix.{prefix_holds}
+use Rattle.field_boxes.specs.Headline.Prefix.{prefix_holds}
 use Rattle.range_prefix.specs.Cover.{IsShortestCover}
 use Rattle.range_prefix.specs.Shortest.{shortest_below, shortest_cover, shortest_in}
 use Rattle.field_boxes.proofs.Aligned.{field_block}

@@ -2,7 +2,7 @@
 use Rattle.std.proofs.Common.{◌≡◌, ℕ, ◌+◌, ◌-◌, ◌^◌, ◌<◌, ◌≤◌, [], Bool, true, false, nat_le, ap, ◌∙◌, arith, ◌&&◌}
 use Rattle.std.proofs.Math.Bool.{and-false}
 use Rattle.std.proofs.lemmas.Bool.{le-leb, lt-leb}
-use Rattle.field_boxes.specs.Classifier.{interval_holds}
+use Rattle.field_boxes.specs.Headline.Classifier.{interval_holds}
 use Rattle.range_prefix.specs.Shortest.{has_block, shortest_in}
 use Rattle.range_prefix.proofs.Blocks.{has_block-from, nothing_in}
 

@@ -6,8 +6,10 @@ use Rattle.std.proofs.lemmas.Bool.{true≢false, false≢true}
 use Rattle.std.proofs.lemmas.List.Sums.{sum_by-cons}
 use Rattle.std.proofs.Math.Nat.{add-div_left, add-mod_left, div-eq_of_lt}
 use Rattle.field_boxes.specs.declared.prefix.Prefix.{Prefix}
-use Rattle.field_boxes.specs.Prefix.{FitsWidth, prefix_bits, prefix_holds}
-use Rattle.field_boxes.specs.Bits.{bits, begins}
+use Rattle.field_boxes.specs.Headline.Prefix.{FitsWidth, prefix_holds}
+use Rattle.field_boxes.specs.Prefix.{prefix_bits}
+use Rattle.field_boxes.specs.Headline.Bits.{bits}
+use Rattle.field_boxes.specs.Bits.{begins}
 use Rattle.field_boxes.proofs.Bits.{bits-mod, begins_at}
 use Rattle.field_boxes.proofs.Halves.{Row, IsRootless, front, front-half, half, is_root, weight-halves}
 use Rattle.range_prefix.specs.Cover.{HoldExactly}

@@ -2,7 +2,7 @@
 use Rattle.std.specs.Prelude.{◌≡◌, ℕ, ◌<◌, ◌≤◌, ◌^◌, Bool, true, false, List, length, All, AllPairs}
 use Rattle.std.specs.List.{list_any}
 use Rattle.field_boxes.specs.declared.prefix.Prefix.{Prefix}
-use Rattle.field_boxes.specs.Prefix.{FitsWidth, prefix_holds}
+use Rattle.field_boxes.specs.Headline.Prefix.{FitsWidth, prefix_holds}
 
 -- each prefix fits the width, and together they hold exactly the set's values of that width
 pub record HoldExactly (width : ℕ) (set : ℕ → Bool) (prefixes : List Prefix) : Type 0 where

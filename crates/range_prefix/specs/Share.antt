@@ -2,7 +2,7 @@
 use Rattle.std.specs.Prelude.{◌≡◌, ℕ, ◌<◌, List, [], ◌∷◌, ◌++◌}
 use Rattle.field_boxes.specs.declared.prefix.Prefix.{Prefix}
 use Rattle.field_boxes.specs.declared.span.Span.{Span}
-use Rattle.field_boxes.specs.Prefix.{FitsWidth}
+use Rattle.field_boxes.specs.Headline.Prefix.{FitsWidth}
 use Rattle.range_prefix.specs.declared.share.Halved.{Halved}
 use Rattle.range_prefix.specs.declared.share.Share.{Share}
 use Rattle.range_prefix.specs.declared.share.Share.TheVariants.{Nothing, Whole, Part}

@@ -2,7 +2,7 @@
 use Rattle.std.specs.Prelude.{ℕ, ◌+◌, ◌≤◌, Bool, List, [], ◌∷◌, map}
 use Rattle.std.specs.List.{list_any}
 use Rattle.field_boxes.specs.declared.span.Span.{Span}
-use Rattle.field_boxes.specs.Classifier.{interval_holds}
+use Rattle.field_boxes.specs.Headline.Classifier.{interval_holds}
 use Rattle.field_boxes.specs.Spans.{interval_of}
 
 -- the values of a span, as a set

@@ -4,7 +4,7 @@ ghost use Rattle.field_boxes.specs.declared.prefix.Prefix.{Prefix};
 ghost use Rattle.field_boxes.specs.Spans.{intervals_of};
 ghost use Rattle.field_boxes.specs.Unions.{RiseApart};
 ghost use Rattle.range_prefix.specs.Cover.{IsShortestCover};
-ghost use Rattle.field_boxes.specs.Prefix.{FitsWidth};
+ghost use Rattle.field_boxes.specs.Headline.Prefix.{FitsWidth};
 ghost use Rattle.range_prefix.specs.Shortest.{shortest_below, shortest_cover};
 ghost use Rattle.range_prefix.specs.Spans.{AreApart, union_of, values_of};
 

@@ -1,6 +1,6 @@
 //! The shortest covers of spans by prefixes.
 ghost use Rattle.std.specs.Prelude.{◌≡◌, ◌≤◌, ◌++◌, IfOk, OnErr, OnOk, ◌<◌, ◌-◌, ◌^◌};
-ghost use Rattle.field_boxes.specs.Prefix.{FitsWidth};
+ghost use Rattle.field_boxes.specs.Headline.Prefix.{FitsWidth};
 ghost use Rattle.field_boxes.specs.Spans.{intervals_of};
 ghost use Rattle.field_boxes.specs.Unions.{RiseApart};
 ghost use Rattle.range_prefix.specs.Cover.{IsShortestCover};

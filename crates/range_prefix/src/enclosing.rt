@@ -1,6 +1,6 @@
 //! The longest prefix that holds some spans.
 ghost use Rattle.std.specs.Prelude.{◌≡◌, ◌≤◌, ◌<◌, ◌-◌, ◌^◌, true};
-ghost use Rattle.field_boxes.specs.Prefix.{FitsWidth, prefix_holds};
+ghost use Rattle.field_boxes.specs.Headline.Prefix.{FitsWidth, prefix_holds};
 ghost use Rattle.field_boxes.specs.Spans.{intervals_of};
 ghost use Rattle.field_boxes.specs.Unions.{RiseApart};
 ghost use Rattle.range_prefix.specs.Shortest.{shortest_below, shortest_cover};

@@ -1,6 +1,6 @@
 //! The two halves of a prefix.
 ghost use Rattle.std.specs.Prelude.{◌≡◌, ◌<◌};
-ghost use Rattle.field_boxes.specs.Prefix.{FitsWidth};
+ghost use Rattle.field_boxes.specs.Headline.Prefix.{FitsWidth};
 ghost use Rattle.range_prefix.specs.Halves.{low_half, high_half};
 
 use field_boxes::Prefix;

@@ -1,7 +1,7 @@
 //! How much of a prefix some spans have.
 ghost use Rattle.std.specs.Prelude.{◌≤◌, ◌<◌, ◌⊎◌};
 ghost use Rattle.std.specs.Bool.{OnTrue, OnFalse};
-ghost use Rattle.field_boxes.specs.Prefix.{FitsWidth};
+ghost use Rattle.field_boxes.specs.Headline.Prefix.{FitsWidth};
 ghost use Rattle.range_prefix.specs.Spans.{AreApart};
 
 use crate::halves::halves;

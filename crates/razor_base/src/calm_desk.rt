@@ -47,7 +47,7 @@ impl CalmDesk {
 }
 
 impl Desk for CalmDesk {
-    ghost use Rattle.std.specs.Prelude.{◌≡◌, ◌≢◌, ◌≤◌, ℕ, List, length, min, None, Some, Ok, IfOk, OnErr};
+    ghost use Rattle.std.specs.Prelude.{◌≡◌, ◌≢◌, ◌≤◌, ℕ, List, length, min, None, Some, Ok, IfOk, OnOk, OnErr};
     ghost use Rattle.std.specs.Io.KnownBytes.{ReadConsumes, Keeps};
     ghost use Rattle.razor_base.specs.Faults.{Rose};
     ghost use Rattle.razor_base.specs.CalmDesk.{left_to_read, put_under};
@@ -63,6 +63,7 @@ impl Desk for CalmDesk {
         ensures others { (other : List ℕ) → other ≢ name.now
             → Keeps (Some (left_to_read self.old other)) (Some (left_to_read self.new other)) }
         ensures failed { OnErr result (Rose 0 0) }
+        ensures calm { OnOk result ((other : List ℕ) → ◌≡◌ {A = ℕ} 0 0) }
         ensures counts { (other : List ℕ) → 0 ≤ 0 }
 
         // It gives as much as there is room for.

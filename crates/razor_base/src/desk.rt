@@ -1,5 +1,5 @@
 //! What gives the bytes of named inputs.
-ghost use Rattle.std.specs.Prelude.{◌≡◌, ◌≢◌, ◌≤◌, ℕ, List, Option, length, Ok, IfOk, OnErr};
+ghost use Rattle.std.specs.Prelude.{◌≡◌, ◌≢◌, ◌≤◌, ℕ, List, Option, length, Ok, IfOk, OnOk, OnErr};
 ghost use Rattle.std.specs.Io.KnownBytes.{ReadConsumes, Keeps};
 ghost use Rattle.razor_base.specs.Faults.{Rose};
 
@@ -22,7 +22,8 @@ pub trait Desk {
         ensures empty { length piece.old ≡ 0 → result ≡ Ok 0 }
         ensures others { (other : List ℕ) → other ≢ name.now → Keeps (remaining self.old other) (remaining self.new other) }
 
-        // A failure is counted, and no count falls.
+        // A failure is counted and nothing else is, and no count falls.
         ensures failed { OnErr result (Rose (faults self.old name.now) (faults self.new name.now)) }
+        ensures calm { OnOk result ((other : List ℕ) → faults self.new other ≡ faults self.old other) }
         ensures counts { (other : List ℕ) → faults self.old other ≤ faults self.new other };
 }

@@ -46,6 +46,7 @@ impl<R: Files + Input + Drop> Desk for HostDesk<R> {
         ensures empty { length piece.old ≡ 0 → result ≡ Ok 0 }
         ensures others { (other : List ℕ) → other ≢ name.now → Keeps None None }
         ensures failed { OnErr result (Rose (file_faults self.old) (file_faults self.new)) }
+        ensures calm { OnOk result ((other : List ℕ) → file_faults self.new ≡ file_faults self.old) }
         ensures counts { (other : List ℕ) → file_faults self.old ≤ file_faults self.new }
 
         // The count rises by one with a failure, and with nothing else.

@@ -1,5 +1,8 @@
 //! How much is taken at most.
 
+/// The bytes that are asked for at once, in one read.
+pub const PIECE_BYTES: usize = 65_536;
+
 /// The bytes of a rule list.
 pub const MOST_LIST_BYTES: u64 = 16_777_216;
 

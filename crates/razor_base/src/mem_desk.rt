@@ -85,7 +85,7 @@ impl MemDesk {
 }
 
 impl Desk for MemDesk {
-    ghost use Rattle.std.specs.Prelude.{◌≡◌, ◌≢◌, ◌≤◌, ◌==◌, ℕ, List, length, None, Ok, IfOk, OnErr, is_ok, if◌then◌else◌};
+    ghost use Rattle.std.specs.Prelude.{◌≡◌, ◌≢◌, ◌≤◌, ◌==◌, ℕ, List, length, None, Ok, IfOk, OnOk, OnErr, is_ok, if◌then◌else◌};
     ghost use Rattle.std.specs.Io.KnownBytes.{ReadConsumes, Keeps};
     ghost use Rattle.razor_base.specs.Faults.{Rose};
     ghost use Rattle.razor_base.specs.FaultPlan.{counted};
@@ -101,6 +101,7 @@ impl Desk for MemDesk {
         ensures empty { length piece.old ≡ 0 → result ≡ Ok 0 }
         ensures others { (other : List ℕ) → other ≢ name.now → Keeps (left_under self.old other) (left_under self.new other) }
         ensures failed { OnErr result (Rose (read_faults self.old) (read_faults self.new)) }
+        ensures calm { OnOk result ((other : List ℕ) → read_faults self.new ≡ read_faults self.old) }
         ensures counts { (other : List ℕ) → read_faults self.old ≤ read_faults self.new }
 
         // Exactly what it answers.

@@ -10,11 +10,11 @@ use itoa::Buffer;
 use std::marker::Model;
 
 /// As many bytes as may wait.
-const ROOM: usize = 65_536;
+const ROOM: usize = 16_384;
 
 /// Bytes that wait to be written, so that a sink gets few large pieces instead of many small ones.
 ///
-/// It takes no memory: its 65,536 bytes lie where it lies. What waits is lost unless [`flush`] is called
+/// It takes no memory: its 16,384 bytes lie where it lies. What waits is lost unless [`flush`] is called
 /// at the end. After a call that fails nothing waits.
 ///
 /// [`flush`]: Pending::flush
@@ -31,7 +31,7 @@ impl Model for Pending {
 
     ghost view = { λ p. take p.filled p.bytes };
 
-    ghost invariant = { λ p. p.filled ≤ 65536 };
+    ghost invariant = { λ p. p.filled ≤ 16384 };
 }
 
 impl Pending {
@@ -81,14 +81,14 @@ impl Pending {
 
     /// As many more bytes as may wait.
     fn room(&self) -> usize
-        ensures { result + length self.now ≡ 65536 }
+        ensures { result + length self.now ≡ 16384 }
     {
         ROOM - self.filled
     }
 
     /// Copies the bytes behind those that wait.
     fn keep(&mut self, bytes: &[u8])
-        requires { length self.old + length bytes.now ≤ 65536 }
+        requires { length self.old + length bytes.now ≤ 16384 }
         ensures { self.new ≡ self.old ++ bytes.now }
     {
         let end = self.filled + bytes.len();

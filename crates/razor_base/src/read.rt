@@ -1,18 +1,16 @@
 //! Reading an input to its end.
-ghost use Rattle.std.specs.Prelude.{◌≡◌, ◌≢◌, ◌≤◌, ◌<◌, ℕ, List, [], ◌++◌, length, take, OnOk, IsErrOf};
+ghost use Rattle.std.specs.Prelude.{◌≡◌, ◌≢◌, ◌≤◌, ◌<◌, ◌+◌, ℕ, List, [], ◌++◌, length, take, OnOk, IsErrOf};
 ghost use Rattle.std.specs.Io.KnownBytes.{Consumes, Keeps};
 ghost use Rattle.razor_base.specs.Faults.{Rose};
-ghost use Rattle.razor_base.specs.Input.{ReadsWhole, ReadsFront, PassesLimit};
+ghost use Rattle.razor_base.specs.Input.{ReadsWhole, ReadsFront, PassesLimit, TakesAtMost, UnlessFault};
 ghost use Rattle.razor_base.specs.declared.read.ReadError.TheVariants.{Fault, TooLong, Memory};
-ghost use Rattle.razor_base.specs.declared.limits.TheConstants.{MOST_CERTIFICATE_BYTES};
+ghost use Rattle.razor_base.specs.declared.limits.TheConstants.{MOST_CERTIFICATE_BYTES, PIECE_BYTES};
 
 use crate::desk::Desk;
 use crate::failure::Failed;
+use crate::limits::PIECE_BYTES;
 use std::alloc::AllocError;
 use thiserror::Error;
-
-/// As many bytes as are asked for at once.
-const PIECE: usize = 65_536;
 
 /// Why an input was not read to its end.
 #[derive(Clone, Copy, Debug, PartialEq, Eq, Error)]
@@ -44,6 +42,7 @@ impl From<AllocError> for ReadError {
 /// Reads an input to its end, into a vector that is empty.
 ///
 /// It takes time linear in the bytes read, and asks for 65,536 bytes at a time.
+#[inline(never)]
 pub fn read_all<D: Desk>(
     desk: &mut D,
     name: &str,
@@ -65,11 +64,17 @@ pub fn read_all<D: Desk>(
     ensures memory { IsErrOf result ReadError.Memory
         → ReadsFront (D.remaining desk.old name.now) into.new.items }
 
+    // Past the limit at most one piece is read.
+    ensures near { TakesAtMost (D.remaining desk.old name.now) (D.remaining desk.new name.now) (limit + PIECE_BYTES) }
+
+    // However else it ends, no read failed.
+    ensures calm { UnlessFault result ((other : List ℕ) → D.faults desk.new other ≡ D.faults desk.old other) }
+
     // The other inputs keep what they had, and no count falls.
     ensures others { (other : List ℕ) → other ≢ name.now → Keeps (D.remaining desk.old other) (D.remaining desk.new other) }
     ensures counts { (other : List ℕ) → D.faults desk.old other ≤ D.faults desk.new other }
 {
-    let mut piece = [0; PIECE];
+    let mut piece = [0; PIECE_BYTES];
     'pieces: loop {
         let count = desk.read(name, &mut piece)?;
         if count == 0 {

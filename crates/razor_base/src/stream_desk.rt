@@ -132,6 +132,7 @@ impl<O: Opener<Stream = S>, S: Source + Drop> Desk for StreamDesk<O, S> {
         ensures empty { length piece.old ≡ 0 → result ≡ Ok 0 }
         ensures others { (other : List ℕ) → other ≢ name.now → Keeps None None }
         ensures failed { OnErr result (Rose (open_faults self.old) (open_faults self.new)) }
+        ensures calm { OnOk result ((other : List ℕ) → open_faults self.new ≡ open_faults self.old) }
         ensures counts { (other : List ℕ) → open_faults self.old ≤ open_faults self.new }
 
         // The count rises by one with a failure, and with nothing else.

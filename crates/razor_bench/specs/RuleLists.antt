@@ -1,8 +1,10 @@
 -- The rules of generated lists, in the classifier model.
 use Rattle.std.specs.Prelude.{◌≡◌, ◌⊎◌, Bool, true, false, ℕ, zero, suc, ◌*◌, ◌-◌, ◌≤◌, ◌<◌, List, [], ◌∷◌, ◌++◌, length, map, All, nat_eq, if◌then◌else◌}
-use Rattle.field_boxes.specs.Classifier.{Rule, Interval}
-use Rattle.field_boxes.specs.Fields.{stated, greatest_of}
-use Rattle.field_boxes.specs.Prefix.{FitsWidth, prefix_interval}
+use Rattle.field_boxes.specs.Headline.Classifier.{Rule, Interval}
+use Rattle.field_boxes.specs.Headline.Fields.{stated}
+use Rattle.field_boxes.specs.Fields.{greatest_of}
+use Rattle.field_boxes.specs.Headline.Prefix.{FitsWidth}
+use Rattle.field_boxes.specs.Prefix.{prefix_interval}
 use Rattle.field_boxes.specs.Ports.{ArePorts}
 use Rattle.field_boxes.specs.Rules.{rule_of}
 use Rattle.field_boxes.specs.declared.prefix.Prefix.{Prefix}

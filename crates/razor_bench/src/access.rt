@@ -1,6 +1,6 @@
 //! A generated access list: networks, one or more ports and a protocol in each rule.
 ghost use Rattle.std.specs.Prelude.{◌≡◌, ◌≤◌, ◌<◌, ◌∷◌, [], IfOk};
-ghost use Rattle.field_boxes.specs.Prefix.{FitsWidth};
+ghost use Rattle.field_boxes.specs.Headline.Prefix.{FitsWidth};
 ghost use Rattle.field_boxes.specs.Rules.{rule_of};
 ghost use Rattle.field_boxes.specs.Ports.{ArePorts};
 ghost use Rattle.razor_bench.specs.RuleLists.{IsAccess, IsAccessList, HasPorts};

@@ -1,6 +1,6 @@
 //! The first steps of compiling a list.
 ghost use Rattle.std.specs.Prelude.{◌≡◌};
-ghost use Rattle.field_boxes.specs.Fields.{stated};
+ghost use Rattle.field_boxes.specs.Headline.Fields.{stated};
 ghost use Rattle.node_store.specs.Diagram.{level_of};
 
 use crate::input::{input, list_of};

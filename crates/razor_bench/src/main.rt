@@ -1,6 +1,7 @@
 //! The program `razor_bench`: does the work that its words name and prints what came of it.
 //!
-//! It measures nothing but commits and the steps of a compilation: the scripts under `bench/` time it from outside.
+//! It measures nothing but commits and the steps of a compilation: the scripts under `bench/` time it from outside. It
+//! is proved safe and to end, and nothing else.
 //!
 //! ```text
 //! razor_bench nodes 1000000
@@ -17,6 +18,14 @@
 //! razor_bench anew 1 100 < LIST
 //! razor_bench both 1 100 < LIST
 //! ```
+//!
+//! | Room | Holds |
+//! |---|---|
+//! | `work`, `input`, `numbers` | what the words ask for, the list on standard input, and random numbers |
+//! | `nodes`, `plan`, `tally` | diagram nodes, made and asked for |
+//! | `minimise`, `pieces` | cheapest prefix lists |
+//! | `build`, `lists`, `rules`, `access`, `crossed` | diagrams of generated lists |
+//! | `read`, `tables`, `compile`, `phases`, `commits` | lists and tables read, compiled, and committed |
 #![tactic(auto)]
 
 mod access;

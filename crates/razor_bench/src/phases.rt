@@ -1,6 +1,6 @@
 //! The steps of compiling a list, one after another, and how long each takes of its processor.
 ghost use Rattle.std.specs.Prelude.{◌≡◌, IfOk};
-ghost use Rattle.field_boxes.specs.Fields.{stated};
+ghost use Rattle.field_boxes.specs.Headline.Fields.{stated};
 ghost use Rattle.node_store.specs.Diagram.{level_of};
 ghost use Rattle.table_compose.specs.Plans.{ArePlansOf};
 

@@ -1,6 +1,6 @@
 //! What can be told of a diagram.
 ghost use Rattle.std.specs.Prelude.{◌≡◌, ◌≤◌, ◌<◌, length, IfOk};
-ghost use Rattle.field_boxes.specs.Fields.{stated};
+ghost use Rattle.field_boxes.specs.Headline.Fields.{stated};
 ghost use Rattle.node_store.specs.Diagram.{level_of};
 
 use anyhow::{Context, Result, anyhow};

@@ -1,4 +1,7 @@
 //! The program `razor`: hands the words, the real files and the standard streams to the top call.
+//!
+//! It is proved safe and to end. What a status and an output mean is the contract of [`razor`]; a real desk and real
+//! streams tell none of their bytes, so of real files that is argued from the same code over every desk, and tested.
 #![tactic(auto)]
 
 use razor_base::{HostDesk, HostSink};

@@ -9,9 +9,10 @@ use Rattle.razor_base.specs.Faults.{Rose}
 use Rattle.razor_base.specs.Output.{AppendsFront}
 use Rattle.razor_base.proofs.Output.{appends_front-after, appends_front-longer}
 use Rattle.std.proofs.KnownBytes.{Appends-trans}
-use Rattle.field_boxes.specs.Classifier.{Interval, Rule, matches, source}
-use Rattle.field_boxes.specs.Fields.{stated}
-use Rattle.field_boxes.specs.Names.{miss, name_at, number_of, text_of}
+use Rattle.field_boxes.specs.Headline.Classifier.{Interval, Rule, matches, source}
+use Rattle.field_boxes.specs.Headline.Fields.{stated}
+use Rattle.field_boxes.specs.Headline.Names.{miss, text_of}
+use Rattle.field_boxes.specs.Names.{name_at, number_of}
 use Rattle.field_boxes.specs.NamedRules.{IsNumberedBy, named_rule, named_rules}
 use Rattle.field_boxes.specs.declared.rule.Rule as code
 use Rattle.field_boxes.proofs.FirstSeen.{found}

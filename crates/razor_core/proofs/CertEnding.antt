@@ -4,13 +4,13 @@ use Rattle.std.specs.Prelude.{true, false, Option, map, slice_get, ◌⊎◌}
 use Rattle.std.specs.Io.KnownBytes.{Appends, Keeps}
 use Rattle.razor_base.specs.Output.{AppendsFront}
 use Rattle.field_boxes.specs.Alike.{IsFirstDifference}
-use Rattle.field_boxes.specs.Classifier.{source}
-use Rattle.field_boxes.specs.Fields.{stated}
+use Rattle.field_boxes.specs.Headline.Classifier.{source}
+use Rattle.field_boxes.specs.Headline.Fields.{stated}
 use Rattle.filter_reader.specs.Lists.{filter_list, name_decided}
 use Rattle.filter_reader.specs.declared.list.RuleList.{RuleList}
 use Rattle.ternary_words.specs.Prefixes.{IsPrefixInEach}
-use Rattle.ternary_words.specs.Table.{answer}
-use Rattle.ternary_words.specs.Table as tables
+use Rattle.ternary_words.specs.Headline.Table.{answer}
+use Rattle.ternary_words.specs.Headline.Table as tables
 use Rattle.ternary_words.specs.Views.{entry_of, table_of}
 use Rattle.ternary_words.specs.declared.entry.Entry.{Entry}
 use Rattle.ternary_words.specs.declared.table.Table.{Table}
@@ -36,7 +36,7 @@ use Rattle.razor_core.specs.Stopping.{IsFree}
 use Rattle.razor_core.specs.Turns.{bad_line, too_long, too_many}
 use Rattle.razor_core.specs.Ending.{Ends, Stops}
 use Rattle.razor_core.proofs.Ended.{done_ends}
-use Rattle.razor_core.proofs.Turns.{AllRead, Passed, ends_in_turn, passed_taken, read_taken, turns_pass}
+use Rattle.razor_core.proofs.Turns.{AllRead, Passed, ends_in_turn, pass_behind, passed_taken, read_taken, turns_pass}
 
 -- the entry at a place, as the specification sees it
 entry_at : (names : List (List ℕ)) (es : List Entry) (k : ℕ) (e : tables.Entry) → slice_get (map (entry_of names) es) k ≡ Some e → (x : Entry) × (slice_get es k ≡ Some x) × (e ≡ entry_of names x)
@@ -166,11 +166,11 @@ module _ (first second : List ℕ) (before after : Outside) (list : RuleList) (t
 
   pub cert_ends : (ending : Ending) → IsEnd ending → Ends command before after ending
   cert_ends (Done summary) h = done_as summary h.0 h.2 h.1 h.3
-  cert_ends No h = λ tells. done_ends command before after values (difference_outcome h.1.0) false passed (free h.0) (gives_difference h.1.0 h.1.1) refl h.1.2 (both_read tells) tells
+  cert_ends No h = (tt, λ tells. done_ends command before after values (difference_outcome h.1.0) false passed (free h.0) (gives_difference h.1.0 h.1.1) refl h.1.2 (both_read tells) tells)
   cert_ends (Bad file line reason) h =
       bad_line_as file.now line h.3 (record { line = line; reason = reason }) h.0 h.5 (ap (λ r. let bad : BadLine = record { line = line; reason = r } in bad) h.1) (other_stops h.3 h.4 h.2)
   cert_ends (TooLong file limit) h = absurd h
   cert_ends (TooMany needed limit) h = absurd h
   cert_ends (ReadFault file) h = absurd h
-  cert_ends WriteFault h = (h.0, fault_ends h.1 h.2)
-  cert_ends Memory h = (h.0, memory_ends h.1)
+  cert_ends WriteFault h = (h.0, fault_ends h.1 h.2, pass_behind before after (inputs command) values passed)
+  cert_ends Memory h = (h.0, memory_ends h.1, pass_behind before after (inputs command) values passed)

@@ -1,13 +1,13 @@
 -- How a command ends that checks a certificate of a list and a table.
-use Rattle.std.proofs.Common.{◌≡◌, ℕ, ◌≤◌, List, [], ◌∷◌, ◌++◌, length, ap, Some, None, inl, inr, refl, subst, sym, arith, ◌∙◌}
+use Rattle.std.proofs.Common.{◌≡◌, ℕ, ◌+◌, ◌≤◌, List, [], ◌∷◌, ◌++◌, length, ap, Some, None, inl, inr, refl, subst, sym, arith, ◌∙◌}
 use Rattle.std.specs.Prelude.{true, false, Option, Ok, IfSome, Result, unwrap_or, ◌⊎◌}
 use Rattle.std.specs.Io.KnownBytes.{Appends, Consumes, Keeps}
 use Rattle.razor_base.specs.Output.{AppendsFront}
 use Rattle.razor_base.specs.Faults.{Rose}
-use Rattle.filter_reader.specs.FilterList.{FilterList}
+use Rattle.filter_reader.specs.Headline.FilterList.{FilterList}
 use Rattle.filter_reader.specs.Lists.{filter_list}
 use Rattle.filter_reader.specs.declared.list.RuleList.{RuleList}
-use Rattle.ternary_words.specs.Table as tables
+use Rattle.ternary_words.specs.Headline.Table as tables
 use Rattle.ternary_words.specs.Views.{table_of}
 use Rattle.ternary_words.specs.declared.table.Table.{Table}
 use Rattle.partition_check.specs.Agreement.{Agree}
@@ -19,7 +19,7 @@ use Rattle.razor_core.specs.declared.ending.Ending.{Ending}
 use Rattle.razor_core.specs.declared.ending.Ending.TheVariants.{Done, No, BadLine as Bad, TooLong, TooMany, ReadFault, WriteFault, Memory}
 use Rattle.razor_core.specs.declared.ending.Summary.{Summary}
 use Rattle.razor_core.specs.Check.{Checks, valid_line, wrong_line, IsEndOfCheck, SaysValid, SaysWrong, IsRightSoFar}
-use Rattle.razor_core.specs.Inputs.{Input, Value, inputs, certificate_input, lines_value, list_input, list_value, most_bytes, table_input, table_value, text_of_certificate}
+use Rattle.razor_core.specs.Inputs.{Input, Value, inputs, certificate_input, lines_value, list_input, list_value, table_input, table_value, text_of_certificate}
 use Rattle.razor_core.specs.Outcome.{Outcome}
 use Rattle.razor_core.specs.Gives.{Gives}
 use Rattle.razor_core.specs.Outside.{Outside, Tells, bytes_at}
@@ -27,11 +27,11 @@ use Rattle.razor_core.specs.Standing.{IsCutOff}
 use Rattle.razor_core.specs.Taking.{table_value_of, value_of}
 use Rattle.razor_core.specs.Turns.{Stop, too_long}
 use Rattle.razor_core.specs.Stopping.{IsFree}
-use Rattle.razor_core.specs.Deciding.{EndsInTurn, IsFaultUnder, IsReadFault}
+use Rattle.razor_core.specs.Deciding.{EndsInTurn, IsFaultUnder, IsLong, IsReadFault}
 use Rattle.razor_core.specs.Ending.{Ends, IsDone}
 use Rattle.razor_core.proofs.CertEnding.{BothRead, both_read, passed}
 use Rattle.razor_core.proofs.Ended.{done_ends}
-use Rattle.razor_core.proofs.Turns.{AllRead, Passed, PassesWith, ends_in_turn, fault_later, kept_told, some_bytes, told_turn, turns_pass}
+use Rattle.razor_core.proofs.Turns.{AllRead, Passed, PassesWith, ends_in_turn, fault_later, kept_told, near_later, pass_behind, some_bytes, told_turn, turns_pass}
 
 abbrev most : ℕ
 most = 268435456
@@ -179,15 +179,15 @@ module _ (first second third : List ℕ) (before after : Outside) (list : RuleLi
 
   pub check_ends : (ending : Ending) → IsEndOfCheck list table third between after ending → Ends command before after ending
   check_ends (Done summary) h = subst (λ (s : Summary). Ends command before after (Done s)) (sym h.0) (refl, λ tells. valid_done h.1 tells)
-  check_ends No h = wrong_done h
+  check_ends No h = (tt, wrong_done h)
   check_ends (Bad file line reason) h = absurd h
   check_ends (TooLong file limit) h = record {
     unchanged = λ last. h.2;
-    named = in_certificate (λ input. (file.now ≡ input.name) × (limit ≡ most_bytes input.kind)) (h.0, h.1);
+    named = in_certificate (IsLong before after file.now limit) (record { named = h.0; limited = h.1; near = near_later (before.remaining third) (left third) (after.remaining third) (limit + 65536) checked.kept h.3 });
     stopped = λ tells. inr (record {
       values = values;
       turns = turns_pass before (inputs command) values all_passed tells;
-      later = (h.0, h.1, record { checks = checks; goes_on = at_text (λ all. ReadsTooMuch (begun list table) most all) h.3 tells });
+      later = (h.0, h.1, record { checks = checks; goes_on = at_text (λ all. ReadsTooMuch (begun list table) most all) h.4 tells });
     });
     stands = λ tells. record { in_turn = λ stop e. h.2; later = λ vs e. h.2 };
   }
@@ -196,5 +196,5 @@ module _ (first second third : List ℕ) (before after : Outside) (list : RuleLi
     in_certificate (IsFaultUnder before after file.now) (h.0, fault h.2 h.3),
     (h.1, λ tells same. right_so_far h.3 tells),
   )
-  check_ends WriteFault h = (h.0, fault_ends h.1)
+  check_ends WriteFault h = (h.0, fault_ends h.1, pass_behind before after (inputs command) values all_passed)
   check_ends Memory h = absurd h

@@ -3,7 +3,7 @@ use Rattle.std.proofs.Common.{◌≡◌, ◌∷◌, ◌++◌, ℕ, List, [], len
 use Rattle.std.specs.Prelude.{Option, codes}
 use Rattle.std.specs.List.{flat_map}
 use Rattle.std.specs.Fmt.{decimal}
-use Rattle.field_boxes.specs.Names.{text_of}
+use Rattle.field_boxes.specs.Headline.Names.{text_of}
 use Rattle.razor_core.specs.Equiv.{differ_line, spaced}
 
 -- the parts of the line, one after another

@@ -25,7 +25,7 @@ use Rattle.razor_core.specs.Taking.{TakesTurn, table_value_of}
 use Rattle.razor_core.specs.Ending.{Ends}
 use Rattle.razor_core.proofs.Ended.{done_ends}
 use Rattle.razor_core.proofs.Tables.{all_passed, all_read}
-use Rattle.razor_core.proofs.Turns.{Passed, passed_taken, read_taken, turns_pass}
+use Rattle.razor_core.proofs.Turns.{Passed, pass_behind, passed_taken, read_taken, turns_pass}
 
 -- the lines of commands begin with those of the first of them
 front_lines : (tables : List Table) (s : State) (front rest : List Event) → (more : List (List ℕ)) × (session tables s (front ++ rest) ≡ session tables s front ++ more)
@@ -109,5 +109,7 @@ module _ (law : PrintsSession) (slots : ℕ) (script : List ℕ) (files : List (
         (subst (λ (lines : List (List ℕ)). Appends before.written after.written (concat lines)) printed h.written)
         (read_taken (script_input (length files) script) (before.remaining script) (after.remaining script) (script_value events) run.script_taken tells.0, all_read before after files tables run.tables_taken tells.1) tells,
   )
-  drive_ends (Err errors.WriteFault) ending run is = subst (Ends (Drive slots script files) before after) (sym is) (run.write_fault refl, cut (Err errors.WriteFault) run (fault_front run))
-  drive_ends (Err errors.Memory) ending run is = subst (Ends (Drive slots script files) before after) (sym is) (run.calm, λ tells. inr (cut (Err errors.Memory) run (memory_front run) tells))
+  drive_ends (Err errors.WriteFault) ending run is = subst (Ends (Drive slots script files) before after) (sym is)
+      (run.write_fault refl, cut (Err errors.WriteFault) run (fault_front run), pass_behind before after (inputs (Drive slots script files)) values (passed (Err errors.WriteFault) run))
+  drive_ends (Err errors.Memory) ending run is = subst (Ends (Drive slots script files) before after) (sym is)
+      (run.calm, (λ tells. inr (cut (Err errors.Memory) run (memory_front run) tells)), pass_behind before after (inputs (Drive slots script files)) values (passed (Err errors.Memory) run))

@@ -1,15 +1,17 @@
 -- How a command ends: in the turn of an input, with a table that wasn't made, cut off, or done.
-use Rattle.std.proofs.Common.{◌≡◌, ℕ, ◌≤◌, List, [], ◌∷◌, ◌++◌, Some, None, inl, inr, refl, subst, sym, ap, append-nil, arith, ◌∙◌}
+use Rattle.std.proofs.Common.{◌≡◌, ℕ, ◌+◌, ◌≤◌, List, [], ◌∷◌, ◌++◌, Some, None, inl, inr, refl, subst, sym, ap, append-nil, arith, ◌∙◌}
 use Rattle.std.specs.Prelude.{Bool, Option, Ok, Err, Result, ◌⊎◌}
 use Rattle.std.specs.Io.KnownBytes.{Appends, Keeps}
 use Rattle.razor_base.specs.Faults.{Rose}
 use Rattle.razor_base.specs.Output.{AppendsFront}
-use Rattle.command_words.specs.Command.{Command, Make, Method, Session, Shorten, Sizes}
-use Rattle.filter_reader.specs.FilterList.{FilterList}
+use Rattle.field_boxes.specs.Headline.Classifier.{Rule}
+use Rattle.command_words.specs.Command.{Command, Make, Method, Expand, Compile, Arrange, Session, Shorten, Sizes}
+use Rattle.command_words.specs.Orders.{Wanted, Best, In}
+use Rattle.filter_reader.specs.Headline.FilterList.{FilterList}
 use Rattle.razor_core.specs.declared.ending.Ending.{Ending}
 use Rattle.razor_core.specs.declared.ending.Ending.TheVariants.{Done, No, BadLine as Bad, TooLong, TooMany, ReadFault, WriteFault, Memory}
-use Rattle.razor_core.specs.Inputs.{Input, Value, inputs, list_input, list_value, session_value, most_bytes, read_by}
-use Rattle.razor_core.specs.Make.{IsNeeded, IsNotMade, IsRoom}
+use Rattle.razor_core.specs.Inputs.{Input, Value, inputs, list_input, list_value, session_value, read_by}
+use Rattle.razor_core.specs.Make.{IsNeeded, IsNotMade, IsOrderOf, IsRoom, IsWanted, MayBeOrderOf, MayBeWanted}
 use Rattle.razor_core.specs.Outcome.{Outcome}
 use Rattle.razor_core.specs.Gives.{Begins, Gives}
 use Rattle.razor_core.specs.Outside.{Outside, AreKept, Tells}
@@ -18,8 +20,8 @@ use Rattle.razor_core.specs.Taking.{EndsTurn}
 use Rattle.razor_core.specs.Turns.{Stop, bad_line, too_long, too_many, turns_of}
 use Rattle.razor_core.specs.Stopping.{IsFree, MayGoOn}
 use Rattle.razor_core.specs.Ending.{Ends, IsDone, Stops}
-use Rattle.razor_core.specs.Deciding.{EndsInTurn, IsFaultUnder, IsStopOf}
-use Rattle.razor_core.proofs.Turns.{AllRead, AllTold, Passed, StopsWith, ends_in_turn, fault_later, turns_pass, turns_stop}
+use Rattle.razor_core.specs.Deciding.{EndsInTurn, IsFaultUnder, IsLong, IsStopOf}
+use Rattle.razor_core.proofs.Turns.{AllRead, AllTold, Passed, StopsWith, ends_in_turn, fault_later, near_later, pass_behind, turn_behind, turns_pass, turns_stop}
 
 -- turns that all pass are ended by nothing
 pub passed_or_stopped : (turns : Result (List Value) Stop) (values : List Value) (stop : Stop) → turns ≡ Ok values → turns ≡ Err stop → ⊥
@@ -73,12 +75,13 @@ turn_ends command before after front values input others (Bad file line reason) 
     (ends_there command before after front values input others (λ i. file.now ≡ i.name) reached h.0) h.1
 turn_ends command before after front values input others (TooLong file limit) reached still h =
     stops command before after front values input others (too_long file.now limit) reached still.keeps
-    (ends_there command before after front values input others (λ i. (file.now ≡ i.name) × (limit ≡ most_bytes i.kind)) reached (h.0, h.1)) h.2
+    (ends_there command before after front values input others (IsLong before after file.now limit) reached (record { named = h.0; limited = h.1; near = h.2 })) h.3
 turn_ends command before after front values input others (TooMany needed limit) reached still h = absurd h
 turn_ends command before after front values input others (ReadFault file) reached still h =
     (ends_there command before after front values input others (IsFaultUnder before after file.now) reached h, still.cut file.now h.0)
 turn_ends command before after front values input others WriteFault reached still h = absurd h
-turn_ends command before after front values input others Memory reached still h = (still.calm, still.short)
+turn_ends command before after front values input others Memory reached still h =
+    (still.calm, still.short, turn_behind before after (λ i. Unit {0}) (inputs command) (ends_there command before after front values input others (λ i. Unit {0}) reached tt))
 
 stops_later : (input : Input) (before between : Option (List ℕ)) (stop : Stop) → Keeps before between → StopsWith input between stop → StopsWith input before stop
 stops_later input None between stop keeps h = tt
@@ -91,7 +94,8 @@ pub ends_later : (input : Input) (before between after : Option (List ℕ)) (fir
 ends_later input before between after first second last (Done summary) keeps le h = absurd h
 ends_later input before between after first second last No keeps le h = absurd h
 ends_later input before between after first second last (Bad file line reason) keeps le h = (h.0, stops_later input before between (bad_line file.now (record { line = line; reason = reason })) keeps h.1)
-ends_later input before between after first second last (TooLong file limit) keeps le h = (h.0, h.1, stops_later input before between (too_long file.now limit) keeps h.2)
+ends_later input before between after first second last (TooLong file limit) keeps le h =
+    (h.0, h.1, near_later before between after (limit + 65536) keeps h.2, stops_later input before between (too_long file.now limit) keeps h.3)
 ends_later input before between after first second last (TooMany needed limit) keeps le h = absurd h
 ends_later input before between after first second last (ReadFault file) keeps le h = (h.0, fault_later input.kind before between after first second last keeps le h.1)
 ends_later input before between after first second last WriteFault keeps le h = absurd h
@@ -134,7 +138,20 @@ cut_off_ends command before after values outcome passed free gives rose written 
     gives = begins_of command values outcome gives;
     written = written;
   }),
+  pass_behind before after (inputs command) values passed,
 )
+
+-- the order that is said may be the one that is wanted
+said_wanted : (wanted : Wanted) (rules : List (Rule (List ℕ))) (order : List ℕ) → IsWanted wanted rules order → MayBeWanted wanted order
+said_wanted Best rules order h = h.1.is
+said_wanted (In asked) rules order h = h
+
+pub said_order : (method : Method) (rules : List (Rule (List ℕ))) (order : List ℕ) → IsOrderOf method rules order → MayBeOrderOf method order
+said_order Expand rules order h = h
+said_order Compile rules order h = h
+said_order (Arrange wanted) rules order h = said_wanted wanted rules order h
+said_order (Shorten None) rules order h = h
+said_order (Shorten (Some wanted)) rules order h = said_wanted wanted rules order h
 
 -- no more entries are needed than the limit
 room_free : (method : Method) (sizes : Sizes) (file : List ℕ) (list : FilterList) → ((needed : ℕ) → IsNeeded method list.rules needed → needed ≤ sizes.limit) → IsFree (Make method sizes file) (list_value list ∷ [])
@@ -159,7 +176,7 @@ or_in_turn (inr c) = inr (inr c)
 -- no table was made
 pub not_made_ends : (method : Method) (sizes : Sizes) (file : List ℕ) (before after : Outside) (list : FilterList) (ending : Ending) → Passed before (list_input file ∷ []) (list_value list ∷ []) → IsNotMade (IsNeeded method list.rules) sizes.limit ending →
     Keeps before.written after.written → after.write_faults ≡ before.write_faults → Ends (Make method sizes file) before after ending
-not_made_ends method sizes file before after list Memory passed refused keeps calm = (calm, keeps)
+not_made_ends method sizes file before after list Memory passed refused keeps calm = (calm, keeps, pass_behind before after (list_input file ∷ []) (list_value list ∷ []) passed)
 not_made_ends method sizes file before after list (TooMany needed limit) passed refused keeps calm = record {
   unchanged = λ last. keeps;
   named = (refused.1, let limited = refused.1 in let above = refused.2 in omega arith);

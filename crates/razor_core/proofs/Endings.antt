@@ -13,9 +13,10 @@ use Rattle.razor_core.specs.Inputs.{BadLine, Value, list_value, table_value, lin
 use Rattle.razor_core.specs.Outside.{Outside, Tells}
 use Rattle.razor_core.specs.Standing.{IsCutOff, StandsCut, StandsShort, WritesInTurn, WritesNothing}
 use Rattle.razor_core.specs.Trace.{HasBadLine, bad_line_of, taken_of}
+use Rattle.razor_core.specs.Deciding.{AreKeptBehind}
 use Rattle.razor_core.specs.Turns.{Stop, bad_line, too_long, too_many, stop_status, turns_of}
 use Rattle.razor_core.specs.Stopping.{MayGoOn, Pass, IsFree, IsStopped, StopsLater}
-use Rattle.razor_core.specs.Ending.{status_of, ending_line, IsDone, IsDoneLine, Ends, Stops}
+use Rattle.razor_core.specs.Ending.{status_of, ending_line, IsDone, IsDoneLine, MaySayNo, Ends, Stops}
 use Rattle.razor_core.proofs.Ended.{passed_or_stopped, same_values}
 use Rattle.razor_core.specs.Messages.{stop_line, write_fault_line, memory_line}
 use Rattle.razor_core.specs.Outcome.{Outcome}
@@ -75,8 +76,12 @@ done_line_by command before after (Done summary) h e = h.0
 done_line_by command before after ending h e = absurd (omega (arith, e))
 
 no_by : (command : Command) (before after : Outside) (ending : Ending) → Ends command before after ending → status_of ending ≡ 1 → Tells before command → IsDone command before after false []
-no_by command before after No h e tells = h tells
+no_by command before after No h e tells = h.1 tells
 no_by command before after ending h e tells = absurd (omega (arith, e))
+
+may_say_no_by : (command : Command) (before after : Outside) (ending : Ending) → Ends command before after ending → status_of ending ≡ 1 → MaySayNo command
+may_say_no_by command before after No h e = h.0
+may_say_no_by command before after ending h e = absurd (omega (arith, e))
 
 no_line_by : (ending : Ending) → status_of ending ≡ 1 → ending_line ending ≡ []
 no_line_by No e = refl
@@ -110,6 +115,11 @@ write_fault_by command before after ending h e = absurd (omega (arith, e))
 cut_off_by : (command : Command) (before after : Outside) (ending : Ending) → Ends command before after ending → status_of ending ≡ 6 → Tells before command → IsCutOff command before after
 cut_off_by command before after WriteFault h e tells = h.1 tells
 cut_off_by command before after ending h e tells = absurd (omega (arith, e))
+
+behind_by : (command : Command) (before after : Outside) (ending : Ending) → Ends command before after ending → (status_of ending ≡ 6) ⊎ (status_of ending ≡ 7) → AreKeptBehind before after (inputs command)
+behind_by command before after WriteFault h e = h.2
+behind_by command before after Memory h e = h.2
+behind_by command before after ending h e = absurd (grind (arith, e))
 
 complete_by : (command : Command) (before after : Outside) (ending : Ending) → Ends command before after ending → Tells before command → (values : List Value) → Pass command before values → IsStatusOfPass (status_of ending)
 complete_by command before after (Done summary) h tells values pass = inl refl
@@ -159,7 +169,7 @@ no_by_stop command before after stop done (inr may) s = absurd (says_yes command
 
 stopped_by_turns : (command : Command) (before after : Outside) (ending : Ending) → Ends command before after ending → Tells before command → (stop : Stop) → IsStopped command before stop → IsStatusOfStop command stop (status_of ending)
 stopped_by_turns command before after (Done summary) h tells stop s = let done = h.1 tells in done_by_stop command before stop done.values done.pass.turns done.pass.free s
-stopped_by_turns command before after No h tells stop s = let done = h tells in no_by_stop command before after stop done done.pass.free s
+stopped_by_turns command before after No h tells stop s = let done = h.1 tells in no_by_stop command before after stop done done.pass.free s
 stopped_by_turns command before after (Bad file line reason) h tells stop s = inl (one_status command before (bad_line file.now (record { line = line; reason = reason })) stop (h.stopped tells) s)
 stopped_by_turns command before after (TooLong file limit) h tells stop s = inl (one_status command before (too_long file.now limit) stop (h.stopped tells) s)
 stopped_by_turns command before after (TooMany needed limit) h tells stop s = inl (one_status command before (too_many needed limit) stop (h.stopped tells) s)
@@ -234,6 +244,7 @@ kept_by command before after ending h = record {
   done = done_by command before after ending h;
   done_line = done_line_by command before after ending h;
   answered_no = no_by command before after ending h;
+  may_say_no = may_say_no_by command before after ending h;
   no_line = no_line_by ending;
   ended = ended_by command before after ending h;
   read_fault = read_fault_by command before after ending h;
@@ -243,6 +254,7 @@ kept_by command before after ending h = record {
   calm = calm_by command before after ending h;
   short = short_by command before after ending h;
   short_line = short_line_by ending;
+  behind = behind_by command before after ending h;
   known = known_by ending;
   complete = complete_by command before after ending h;
   stopped = stopped_by_turns command before after ending h;

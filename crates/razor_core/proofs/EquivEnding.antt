@@ -63,9 +63,12 @@ answered_ends left right before after first second Equal ending reads is written
       done_ends (Equiv left right) before after (value_of first ∷ value_of second ∷ []) (outcome_of Equal first second) true (both_passed left right before after first second reads) (λ stop later. later)
       (compares Equal first second is) refl written (both_read left right before after first second reads tells) tells,
 )
-answered_ends left right before after first second (Differ header a b) ending reads is written same = subst (Ends (Equiv left right) before after) (sym same) (λ tells.
-    done_ends (Equiv left right) before after (value_of first ∷ value_of second ∷ []) (outcome_of (Differ header a b) first second) false (both_passed left right before after first second reads) (λ stop later. later)
-    (compares (Differ header a b) first second is) refl written (both_read left right before after first second reads tells) tells)
+answered_ends left right before after first second (Differ header a b) ending reads is written same = subst (Ends (Equiv left right) before after) (sym same) (
+  tt,
+  λ tells.
+      done_ends (Equiv left right) before after (value_of first ∷ value_of second ∷ []) (outcome_of (Differ header a b) first second) false (both_passed left right before after first second reads) (λ stop later. later)
+      (compares (Differ header a b) first second is) refl written (both_read left right before after first second reads tells) tells,
+)
 
 -- a write of the verdict failed
 pub cut_verdict_ends : (left right : List ℕ) (before after : Outside) (first second : RuleList) (verdict : Verdict) → ReadBoth left right before after first second → IsListVerdict first second verdict →

@@ -4,11 +4,11 @@ use Rattle.std.specs.Prelude.{◌&&◌, ◌==◌}
 use Rattle.std.proofs.lemmas.Bool.{and_parts, eqb-true}
 use Rattle.field_boxes.specs.Orders.{IsOrder, are_distinct, are_fields}
 use Rattle.field_boxes.proofs.Orders.{passed}
-use Rattle.field_boxes.specs.Classifier.{Rule}
+use Rattle.field_boxes.specs.Headline.Classifier.{Rule}
 use Rattle.command_words.specs.Command.{Arrange}
 use Rattle.command_words.specs.Orders as words
 use Rattle.command_words.specs.Orders.{Wanted, Best, In}
-use Rattle.table_compose.specs.LeastCost.{IsLeastCost}
+use Rattle.table_compose.specs.Headline.LeastCost.{IsLeastCost}
 use Rattle.razor_core.specs.Make.{IsNeeded, IsOrderOf}
 
 -- what the words spell is an order

@@ -1,15 +1,15 @@
 -- What status 0 of a command means, over bytes.
 use Rattle.std.proofs.Common.{◌≡◌, ℕ, List, [], ◌∷◌, Some, None, ap, inl, inr, refl, subst, sym, ◌∙◌}
 use Rattle.std.specs.Prelude.{Bool, true, false, Option, Ok, Err, Result, IsSome, length, map, unwrap_or, if◌then◌else◌}
-use Rattle.filter_reader.specs.FilterList as lists
-use Rattle.filter_reader.specs.FilterList.{FilterList, list_of}
+use Rattle.filter_reader.specs.Headline.FilterList as lists
+use Rattle.filter_reader.specs.Headline.FilterList.{FilterList, list_of}
 use Rattle.table_text.specs.Reading as tables
 use Rattle.bank_update.specs.Script as scripts
 use Rattle.edit_session.specs.SessionText as sessions
 use Rattle.table_text.specs.Reading.{table_in_text}
-use Rattle.ternary_words.specs.Table.{Table, answer}
+use Rattle.ternary_words.specs.Headline.Table.{Table, answer}
 use Rattle.field_boxes.specs.Alike.{AreAlike, source_of}
-use Rattle.field_boxes.specs.Classifier.{Interval, Rule}
+use Rattle.field_boxes.specs.Headline.Classifier.{Interval, Rule}
 use Rattle.filter_reader.specs.ListText.{list_text}
 use Rattle.list_generator.specs.DrawnRules.{generated}
 use Rattle.bit_merge.proofs.Merged.{is_alike, is_fewer, is_tight}

@@ -18,3 +18,4 @@ pub mod Headlines
 pub mod OneText
 pub mod StateLines
 pub mod AnsweredBoxes
+pub mod FileWords

@@ -16,7 +16,7 @@ use Rattle.razor_core.specs.Outside.{Outside, Tells}
 use Rattle.razor_core.specs.Standing.{StandsShort}
 use Rattle.razor_core.specs.Stopping.{IsFree}
 use Rattle.razor_core.proofs.Ended.{cut_off_ends, done_ends}
-use Rattle.razor_core.proofs.Turns.{AllRead, Passed}
+use Rattle.razor_core.proofs.Turns.{AllRead, Passed, pass_behind}
 
 -- the outcome with the text
 abbrev pub said : List ℕ → Outcome
@@ -44,4 +44,4 @@ module _ (command : Command) (before after : Outside) (values : List Value) (Is 
   text_ends (TooMany needed limit) h = absurd h
   text_ends (ReadFault file) h = absurd h
   text_ends WriteFault h = cut_off_ends command before after values (said h.1.0) one.passed (inl one.free) (one.gives h.1.0 h.1.1) h.0 h.1.2
-  text_ends Memory h = (h.0, one.short h.1)
+  text_ends Memory h = (h.0, one.short h.1, pass_behind before after (inputs command) values one.passed)

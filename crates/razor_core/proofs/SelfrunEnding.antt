@@ -4,9 +4,9 @@ use Rattle.std.specs.Prelude.{true}
 use Rattle.std.specs.Io.KnownBytes.{Appends, Keeps}
 use Rattle.razor_base.specs.Faults.{Rose}
 use Rattle.razor_base.specs.Output.{AppendsFront}
-use Rattle.field_boxes.specs.Fields.{stated}
+use Rattle.field_boxes.specs.Headline.Fields.{stated}
 use Rattle.list_generator.specs.DrawnRules.{generated}
-use Rattle.table_compose.specs.LeastCost.{IsLeastCost}
+use Rattle.table_compose.specs.Headline.LeastCost.{IsLeastCost}
 use Rattle.self_run.specs.Summaries.{IsSummary}
 use Rattle.self_run.specs.declared.summary.Summary.{Summary}
 use Rattle.command_words.specs.Command.{Selfrun}

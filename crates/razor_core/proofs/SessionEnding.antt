@@ -6,7 +6,7 @@ use Rattle.std.proofs.lemmas.List.{length-append}
 use Rattle.std.proofs.lemmas.List.Folds.{concat-append}
 use Rattle.std.specs.Io.KnownBytes.{Appends, Keeps}
 use Rattle.razor_base.specs.Faults.{Rose}
-use Rattle.field_boxes.specs.Classifier.{Rule}
+use Rattle.field_boxes.specs.Headline.Classifier.{Rule}
 use Rattle.field_boxes.specs.Names.{is_known, with_name}
 use Rattle.filter_reader.specs.FirstSeen.{first_seen}
 use Rattle.filter_reader.specs.Lists.{filter_list}
@@ -32,7 +32,7 @@ use Rattle.razor_core.specs.Session.{AreEdited, AreEditedSoFar, Edits, IsEndOfSe
 use Rattle.razor_core.specs.Standing.{IsCutOff}
 use Rattle.razor_core.specs.Taking.{TakesTurn, value_of}
 use Rattle.razor_core.proofs.Ended.{done_ends}
-use Rattle.razor_core.proofs.Turns.{AllRead, Passed, passed_taken, read_taken, turns_pass}
+use Rattle.razor_core.proofs.Turns.{AllRead, Passed, pass_behind, passed_taken, read_taken, turns_pass}
 
 -- a list has at most as many names as rules
 named_by : (known : Bool) (names : List (List ℕ)) (name : List ℕ) → length (if known then names else names ++ name ∷ []) ≤ length names + 1
@@ -140,5 +140,5 @@ module _ (slots : ℕ) (sizes : Sizes) (script list : List ℕ) (before after : 
   session_ends (TooLong file limit) h = absurd h
   session_ends (TooMany needed limit) h = absurd h
   session_ends (ReadFault file) h = absurd h
-  session_ends WriteFault h = (h.0, cut h.1)
-  session_ends Memory h = (h.0, kept_or_cut h.1)
+  session_ends WriteFault h = (h.0, cut h.1, pass_behind before after (inputs command) values passed)
+  session_ends Memory h = (h.0, kept_or_cut h.1, pass_behind before after (inputs command) values passed)

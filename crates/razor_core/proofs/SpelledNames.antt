@@ -8,9 +8,9 @@ use Rattle.std.proofs.lemmas.Bool.{and_from, or_cases, or_left, or_right}
 use Rattle.std.proofs.lemmas.Fmt.{first_decimal}
 use Rattle.std.proofs.lemmas.List.Elements.{All-nil, All-push}
 use Rattle.std.proofs.lemmas.Slice.Eq.{bytes_eq-Decides}
-use Rattle.field_boxes.specs.Classifier.{Rule}
+use Rattle.field_boxes.specs.Headline.Classifier.{Rule}
 use Rattle.field_boxes.specs.Names.{is_decision_word, with_name}
-use Rattle.filter_reader.specs.FilterList.{own_name}
+use Rattle.filter_reader.specs.Headline.FilterList.{own_name}
 use Rattle.filter_reader.specs.FirstSeen.{first_seen}
 use Rattle.filter_reader.specs.OwnNames.{HaveNames, IsNameOf}
 use Rattle.table_text.specs.Names.{is_name, is_rule_name}

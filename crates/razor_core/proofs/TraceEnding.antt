@@ -1,12 +1,13 @@
 -- How a command ends that answers a trace.
-use Rattle.std.proofs.Common.{◌≡◌, ◌≢◌, ℕ, ◌≤◌, List, [], ◌∷◌, ◌++◌, Some, None, length, inl, inr, le-leb, refl, subst, sym, ap, arith, ◌∙◌}
+use Rattle.std.proofs.Common.{◌≡◌, ◌≢◌, ℕ, ◌+◌, ◌≤◌, List, [], ◌∷◌, ◌++◌, Some, None, length, inl, inr, le-leb, refl, subst, sym, ap, arith, ◌∙◌}
 use Rattle.std.specs.Prelude.{Bool, true, Option, IfSome, IsErrOf, Ok, Err, Result, map, option_map, take, unwrap_or, if◌then◌else◌}
 use Rattle.std.specs.Io.KnownBytes.{Appends, Keeps}
 use Rattle.razor_base.specs.Faults.{Rose}
+use Rattle.razor_base.specs.Input.{TakesAtMost}
 use Rattle.razor_base.specs.Output.{AppendsFront}
-use Rattle.field_boxes.specs.Names.{text_of}
+use Rattle.field_boxes.specs.Headline.Names.{text_of}
 use Rattle.tcam_sim.specs.Slots.{Stored, filled}
-use Rattle.ternary_words.specs.Table.{Table, answer}
+use Rattle.ternary_words.specs.Headline.Table.{Table, answer}
 use Rattle.ternary_words.specs.Views.{entry_of, table_of}
 use Rattle.ternary_words.specs.declared.entry.Entry.{Entry}
 use Rattle.ternary_words.specs.declared.table.Table as code_table
@@ -24,7 +25,7 @@ use Rattle.razor_core.specs.declared.ending.Ending.{Ending}
 use Rattle.razor_core.specs.declared.ending.Ending.TheVariants.{BadLine as Bad, TooLong, ReadFault}
 use Rattle.razor_core.specs.declared.line_reason.LineReason.{LineReason}
 use Rattle.razor_core.specs.declared.line_reason.LineReason.TheVariants.{OfTrace}
-use Rattle.razor_core.specs.Inputs.{BadLine, Input, Value, inputs, most_bytes, table_input, table_value, text_of_trace, trace_input, lines_value}
+use Rattle.razor_core.specs.Inputs.{BadLine, Input, Value, inputs, table_input, table_value, text_of_trace, trace_input, lines_value}
 use Rattle.razor_core.specs.Outcome.{Outcome}
 use Rattle.razor_core.specs.Outside.{Outside, Tells, bytes_at}
 use Rattle.razor_core.specs.Trace.{IsEndOfRun, AnswersCut, answer_line, answers_text, bad_line_of, taken_of}
@@ -32,10 +33,10 @@ use Rattle.razor_core.specs.Standing.{IsCutOff, Stands, WroteFor}
 use Rattle.razor_core.specs.Taking.{TakesTurn}
 use Rattle.razor_core.specs.Turns.{Stop, bad_line, too_long, too_many, turn, turns_of}
 use Rattle.razor_core.specs.Stopping.{StopsLater}
-use Rattle.razor_core.specs.Deciding.{EndsInTurn, IsFaultUnder, IsReadFault}
+use Rattle.razor_core.specs.Deciding.{AreKeptBehind, EndsInTurn, IsFaultUnder, IsLong, IsReadFault}
 use Rattle.razor_core.specs.Ending.{Ends, IsDone, Stops}
 use Rattle.razor_core.proofs.Ended.{done_ends, passed_or_stopped, same_values}
-use Rattle.razor_core.proofs.Turns.{Passed, PassesWith, ends_in_turn, fault_later, kept_told, passed_taken, read_taken, some_bytes, told_turn, turns_pass}
+use Rattle.razor_core.proofs.Turns.{Passed, PassesWith, ends_in_turn, fault_later, kept_told, near_later, passed_taken, read_taken, some_bytes, told_turn, turn_behind, turns_pass}
 
 abbrev pub most : ℕ
 most = 67108864
@@ -51,6 +52,7 @@ pub record Ran (table trace : List ℕ) (before after : Outside) (entries : Tabl
   pub read_fault : IsErrOf ended errors.ReadFault → Rose faults (after.read_faults trace)
   pub write_fault : OnWriteFault ended (Rose before.write_faults after.write_faults)
   pub calm : UnlessWriteFault ended (after.write_faults ≡ before.write_faults)
+  pub near : TakesAtMost middle (after.remaining trace) (most + 65536)
 
 -- a bank into which the table was loaded answers as the table
 headers_answered : (names : List (List ℕ)) (entries : List Entry) (slots : List (Option Stored)) → ((header : List ℕ) → runs.answer_in names slots header ≡ answer (map (entry_of names) entries) header) → (table : Table) →
@@ -176,7 +178,12 @@ module _ (table trace : List ℕ) (before after : Outside) (entries : Table) (an
       let at = long_at ran in
       record {
         unchanged = λ last. absurd last;
-        named = in_trace ended ran (λ input. (file ≡ input.name) × (limit ≡ most_bytes input.kind)) (named, limited);
+        named = in_trace ended ran (IsLong before after file limit) (record {
+          named = named;
+          limited = limited;
+          near = subst (λ (n : ℕ). TakesAtMost (before.remaining trace) (after.remaining trace) (n + 65536)) (sym limited)
+              (near_later (before.remaining trace) middle (after.remaining trace) (most + 65536) ran.kept ran.near);
+        });
         stopped = λ tells. inr (record { values = values; turns = pass_all ended ran tells; later = (named, limited, subst (λ (n : ℕ). GoesOn n text) (sym limited) (at tells).0) });
         stands = λ tells. stands ended ran tells (at tells).1;
       }
@@ -214,6 +221,9 @@ module _ (table trace : List ℕ) (before after : Outside) (entries : Table) (an
       AppendsFront before.written after.written (answers (taken_of text).headers)
   front_of ended ran tells h = at_text (λ all. AppendsFront before.written after.written (answers (trace_within most all).headers)) ended ran tells h
 
+  behind : (ended : Result ℕ TraceError) → IsRan ended → AreKeptBehind before after (inputs (Trace table trace))
+  behind ended ran = turn_behind before after (λ i. Unit {0}) (inputs (Trace table trace)) (in_trace ended ran (λ i. Unit {0}) tt)
+
   pub run_ends : (ended : Result ℕ TraceError) (ending : Ending) → IsRan ended → IsEndOfRun trace ended ending → Ends (Trace table trace) before after ending
   run_ends (Ok count) ending ran is = subst (Ends (Trace table trace) before after) (sym is) (refl, done count ran)
   run_ends (Err (errors.BadLine line reason)) (Bad file at why) ran is =
@@ -227,5 +237,7 @@ module _ (table trace : List ℕ) (before after : Outside) (entries : Table) (an
     cut file.now ran is,
   )
   run_ends (Err errors.ReadFault) ending ran is = absurd is
-  run_ends (Err errors.WriteFault) ending ran is = subst (Ends (Trace table trace) before after) (sym is) (ran.write_fault, (λ tells. cut_off (Err errors.WriteFault) ran tells (front_of (Err errors.WriteFault) ran tells ran.outcome)))
-  run_ends (Err errors.Memory) ending ran is = subst (Ends (Trace table trace) before after) (sym is) (ran.calm, λ tells. inr (cut_off (Err errors.Memory) ran tells (front_of (Err errors.Memory) ran tells ran.outcome)))
+  run_ends (Err errors.WriteFault) ending ran is = subst (Ends (Trace table trace) before after) (sym is)
+      (ran.write_fault, (λ tells. cut_off (Err errors.WriteFault) ran tells (front_of (Err errors.WriteFault) ran tells ran.outcome)), behind (Err errors.WriteFault) ran)
+  run_ends (Err errors.Memory) ending ran is = subst (Ends (Trace table trace) before after) (sym is)
+      (ran.calm, (λ tells. inr (cut_off (Err errors.Memory) ran tells (front_of (Err errors.Memory) ran tells ran.outcome))), behind (Err errors.Memory) ran)

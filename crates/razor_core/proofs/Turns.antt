@@ -3,11 +3,12 @@ use Rattle.std.proofs.Common.{◌≡◌, ℕ, ◌≤◌, List, [], ◌∷◌, �
 use Rattle.std.specs.Prelude.{Option, IfSome, IsSome, Ok, Err, Result, unwrap_or}
 use Rattle.std.specs.List.{AllByRecursion}
 use Rattle.std.specs.Io.KnownBytes.{Consumes, Keeps}
+use Rattle.razor_base.specs.Input.{TakesAtMost}
 use Rattle.razor_core.specs.Inputs.{Input, Kind, Value}
 use Rattle.razor_core.specs.Outside.{Outside, AreKept}
 use Rattle.razor_core.specs.Taking.{TakesTurn}
 use Rattle.razor_core.specs.Turns.{Stop, before_others, turn, turns_of}
-use Rattle.razor_core.specs.Deciding.{EndsInTurn, IsReadFault}
+use Rattle.razor_core.specs.Deciding.{AreKeptBehind, EndsInTurn, IsReadFault}
 use Rattle.razor_base.proofs.Writing.{rose-later}
 
 -- the desk tells the bytes of each of these inputs
@@ -75,6 +76,18 @@ ends_in_turn before after Ended (first ∷ front) [] input others passed ended k
 ends_in_turn before after Ended (first ∷ front) (value ∷ values) input others passed ended kept =
     inr (passes_turn before first value (before.remaining first.name) passed.0, ends_in_turn before after Ended front values input others passed.1 ended kept)
 
+-- then those behind it are
+pub turn_behind : (before after : Outside) (Ended : Input → Type 0) (is : List Input) → EndsInTurn before after Ended is → AreKeptBehind before after is
+turn_behind before after Ended [] h = absurd h
+turn_behind before after Ended (input ∷ others) (inl h) = inl h.1
+turn_behind before after Ended (input ∷ others) (inr h) = inr (h.0, turn_behind before after Ended others h.1)
+
+-- where all turns pass, none is behind
+pub pass_behind : (before after : Outside) (is : List Input) (values : List Value) → Passed before is values → AreKeptBehind before after is
+pass_behind before after [] values passed = tt
+pass_behind before after (input ∷ is) [] passed = absurd passed
+pass_behind before after (input ∷ is) (value ∷ values) passed = inr (passes_turn before input value (before.remaining input.name) passed.0, pass_behind before after is values passed.1)
+
 -- what was taken passed
 pub passed_taken : (input : Input) (before after : Option (List ℕ)) (value : Value) → TakesTurn input before after value → PassesWith input before value
 passed_taken input None after value h = tt
@@ -119,6 +132,10 @@ consumed_later None between after seen keeps read = tt
 consumed_later (Some text) None after seen keeps read = absurd keeps
 consumed_later (Some text) (Some other) None seen keeps read = absurd read
 consumed_later (Some text) (Some other) (Some left) seen keeps read = sym keeps ∙ read
+
+-- and so are the bytes that were taken of them
+pub near_later : (before between after : Option (List ℕ)) (most : ℕ) → Keeps before between → TakesAtMost between after most → TakesAtMost before after most
+near_later before between after most keeps near = (near.0, consumed_later before between after near.0 keeps near.1, near.2)
 
 -- and a read of them that failed is one of those
 pub fault_later : (kind : Kind) (before between after : Option (List ℕ)) (first second last : ℕ) → Keeps before between → first ≤ second → IsReadFault kind between after second last → IsReadFault kind before after first last

@@ -2,9 +2,9 @@
 use Rattle.std.specs.Prelude.{◌≡◌, ℕ, ◌<◌, ◌+◌, List, Some, slice_get, ◌⊎◌, true, [], Option}
 use Rattle.std.specs.Io.KnownBytes.{Appends, Keeps}
 use Rattle.field_boxes.specs.Alike.{IsFirstDifference, source_of}
-use Rattle.filter_reader.specs.FilterList.{FilterList}
+use Rattle.filter_reader.specs.Headline.FilterList.{FilterList}
 use Rattle.ternary_words.specs.Prefixes.{IsPrefixInEach}
-use Rattle.ternary_words.specs.Table.{Entry, Table, answer}
+use Rattle.ternary_words.specs.Headline.Table.{Entry, Table, answer}
 use Rattle.partition_check.specs.Checking.{Statement}
 use Rattle.partition_check.specs.Good.{certificate_text}
 use Rattle.box_partition.specs.Certificate.{IsCertificate}

@@ -1,13 +1,14 @@
 -- What `check` defines: what checking a certificate of a list and a table comes to, and how it is written.
-use Rattle.std.specs.Prelude.{◌≡◌, ℕ, ◌≤◌, List, [], ◌∷◌, ◌++◌, length, codes, Option, ◌⊎◌, true, false, Ok, IfSome}
+use Rattle.std.specs.Prelude.{◌≡◌, ℕ, ◌+◌, ◌≤◌, List, [], ◌∷◌, ◌++◌, length, codes, Option, ◌⊎◌, true, false, Ok, IfSome}
 use Rattle.std.specs.Fmt.{decimal}
 use Rattle.std.specs.Io.KnownBytes.{Appends, Keeps}
 use Rattle.field_boxes.specs.Alike.{AreAlike, source_of}
-use Rattle.field_boxes.specs.Names.{name_at, text_of}
-use Rattle.filter_reader.specs.FilterList.{FilterList}
+use Rattle.field_boxes.specs.Headline.Names.{text_of}
+use Rattle.field_boxes.specs.Names.{name_at}
+use Rattle.filter_reader.specs.Headline.FilterList.{FilterList}
 use Rattle.filter_reader.specs.Lists.{filter_list}
 use Rattle.filter_reader.specs.declared.list.RuleList.{RuleList}
-use Rattle.ternary_words.specs.Table.{Table, answer}
+use Rattle.ternary_words.specs.Headline.Table.{Table, answer}
 use Rattle.ternary_words.specs.Views.{table_of}
 use Rattle.ternary_words.specs.declared.table.Table as code
 use Rattle.partition_check.specs.declared.row.Why.{Why}
@@ -18,6 +19,8 @@ use Rattle.partition_check.specs.Streams.{ReadsTooMuch, ReadsUpTo, ReadsWrong, R
 use Rattle.partition_check.specs.Verdict.{IsValid}
 use Rattle.razor_base.specs.Output.{AppendsFront}
 use Rattle.razor_base.specs.Faults.{Rose}
+use Rattle.razor_base.specs.Input.{TakesAtMost}
+use Rattle.razor_base.specs.declared.limits.TheConstants.{PIECE_BYTES}
 use Rattle.partition_check.specs.Agreement.{Agree}
 use Rattle.razor_core.specs.Outcome.{Outcome}
 use Rattle.razor_core.specs.Turns.{Stop, too_long, turn}
@@ -110,7 +113,8 @@ abbrev pub IsEndOfCheck : RuleList → code.Table → List ℕ → Outside → O
 IsEndOfCheck list table name before after (Done summary) = (summary ≡ Nothing) × SaysValid list table (before.remaining name) (after.remaining name) (Appends before.written after.written)
 IsEndOfCheck list table name before after No = SaysWrong list table (before.remaining name) (Appends before.written after.written)
 IsEndOfCheck list table name before after (TooLong file limit) =
-    (file.now ≡ name) × (limit ≡ most_bytes text_of_certificate) × Keeps before.written after.written × IfSome (before.remaining name) (λ text. ReadsTooMuch (begun list table) (most_bytes text_of_certificate) text)
+    (file.now ≡ name) × (limit ≡ most_bytes text_of_certificate) × Keeps before.written after.written × TakesAtMost (before.remaining name) (after.remaining name) (limit + PIECE_BYTES)
+    × IfSome (before.remaining name) (λ text. ReadsTooMuch (begun list table) (most_bytes text_of_certificate) text)
 IsEndOfCheck list table name before after (ReadFault file) =
     (file.now ≡ name) × Keeps before.written after.written × Rose (before.read_faults name) (after.read_faults name)
     × IfSome (before.remaining name) (λ text. ReadsUpTo (begun list table) (most_bytes text_of_certificate) text (after.remaining name))

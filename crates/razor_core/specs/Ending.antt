@@ -2,20 +2,20 @@
 use Rattle.std.specs.Prelude.{◌≡◌, ℕ, Bool, true, false, List, [], Some}
 use Rattle.std.specs.Io.KnownBytes.{Appends, Keeps}
 use Rattle.razor_base.specs.Faults.{Rose}
-use Rattle.command_words.specs.Command.{Command, Make}
+use Rattle.command_words.specs.Command.{Command, Make, Equiv, Cert, Check}
 use Rattle.razor_core.specs.declared.ending.Ending.{Ending}
 use Rattle.razor_core.specs.declared.ending.Ending.TheVariants.{Done, No, BadLine as Bad, TooLong, TooMany, ReadFault, WriteFault, Memory}
 use Rattle.razor_core.specs.declared.ending.Summary.{Summary}
 use Rattle.razor_core.specs.declared.ending.Summary.TheVariants.{Nothing, Rules, Ordered}
-use Rattle.razor_core.specs.Inputs.{Value, read_by}
+use Rattle.razor_core.specs.Inputs.{Value, inputs, read_by}
 use Rattle.razor_core.specs.Outside.{Outside, Tells, AreReadThrough}
 use Rattle.razor_core.specs.Standing.{IsCutOff, Stands, StandsCut, StandsShort, WritesNothing}
 use Rattle.razor_core.specs.Turns.{Stop, bad_line, too_long, too_many, stop_status}
 use Rattle.razor_core.specs.Stopping.{GoesThrough, IsStopped}
-use Rattle.razor_core.specs.Deciding.{FailsToRead, IsStopOf}
+use Rattle.razor_core.specs.Deciding.{AreKeptBehind, FailsToRead, IsStopOf}
 use Rattle.razor_core.specs.Outcome.{Outcome}
 use Rattle.razor_core.specs.Gives.{Gives}
-use Rattle.razor_core.specs.Make.{made_line}
+use Rattle.razor_core.specs.Make.{MayBeOrderOf, made_line}
 use Rattle.razor_core.specs.Messages.{ordered_line, rules_line, bad_line_line, too_long_line, too_many_line, read_fault_line, write_fault_line, memory_line}
 
 -- all turns passed, all that the command defines was written, and its inputs were read to their end
@@ -55,10 +55,18 @@ ending_line (ReadFault file) = read_fault_line file.now
 ending_line WriteFault = write_fault_line
 ending_line Memory = memory_line
 
--- the line of a command that is done: how many rules its list has and how many are flagged, if it makes a table of one
+-- the line of a command that is done: how many rules its list has, how many are flagged and, where it may be asked for, the
+-- order, if it makes a table of one
 abbrev pub IsDoneLine : Command → List ℕ → Type 0
-IsDoneLine (Make method sizes file) line = (order : List ℕ) × (rules : ℕ) × (flagged : ℕ) × (line ≡ made_line method order rules flagged)
+IsDoneLine (Make method sizes file) line = (order : List ℕ) × MayBeOrderOf method order × (rules : ℕ) × (flagged : ℕ) × (line ≡ made_line method order rules flagged)
 IsDoneLine command line = line ≡ []
+
+-- the commands whose answer may be no
+abbrev pub MaySayNo : Command → Type 0
+MaySayNo (Equiv left right) = Unit {0}
+MaySayNo (Cert list table) = Unit {0}
+MaySayNo (Check list table certificate) = Unit {0}
+MaySayNo command = ⊥
 
 -- the command is ended by this, and what stands then
 pub record Stops (command : Command) (before after : Outside) (stop : Stop) : Type 0 where
@@ -70,10 +78,10 @@ pub record Stops (command : Command) (before after : Outside) (stop : Stop) : Ty
 -- what stands when a command ends so
 abbrev pub Ends : Command → Outside → Outside → Ending → Type 0
 Ends command before after (Done summary) = IsDoneLine command (summary_text summary) × (Tells before command → IsDone command before after true (summary_text summary))
-Ends command before after No = Tells before command → IsDone command before after false []
+Ends command before after No = MaySayNo command × (Tells before command → IsDone command before after false [])
 Ends command before after (Bad file line reason) = Stops command before after (bad_line file.now (record { line = line; reason = reason }))
 Ends command before after (TooLong file limit) = Stops command before after (too_long file.now limit)
 Ends command before after (TooMany needed limit) = Stops command before after (too_many needed limit)
 Ends command before after (ReadFault file) = FailsToRead command before after file.now × StandsCut command before after file.now
-Ends command before after WriteFault = Rose before.write_faults after.write_faults × (Tells before command → IsCutOff command before after)
-Ends command before after Memory = (after.write_faults ≡ before.write_faults) × StandsShort command before after
+Ends command before after WriteFault = Rose before.write_faults after.write_faults × (Tells before command → IsCutOff command before after) × AreKeptBehind before after (inputs command)
+Ends command before after Memory = (after.write_faults ≡ before.write_faults) × StandsShort command before after × AreKeptBehind before after (inputs command)

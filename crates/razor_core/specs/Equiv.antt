@@ -3,8 +3,8 @@ use Rattle.std.specs.Prelude.{◌≡◌, ℕ, List, [], ◌∷◌, ◌++◌, Opt
 use Rattle.std.specs.List.{flat_map}
 use Rattle.std.specs.Fmt.{decimal}
 use Rattle.field_boxes.specs.Alike.{AreAlike, IsFirstDifference, source_of}
-use Rattle.field_boxes.specs.Classifier.{Rule}
-use Rattle.field_boxes.specs.Names.{text_of}
+use Rattle.field_boxes.specs.Headline.Classifier.{Rule}
+use Rattle.field_boxes.specs.Headline.Names.{text_of}
 use Rattle.list_equiv.specs.declared.verdict.Verdict.{Verdict}
 use Rattle.list_equiv.specs.declared.verdict.Verdict.TheVariants.{Equal, Differ}
 use Rattle.razor_core.specs.Outcome.{Outcome}

@@ -8,15 +8,15 @@ use Rattle.bank_update.specs.Script.{Event, script_of}
 use Rattle.command_words.specs.Command.{Arrange, Shorten, Sizes}
 use Rattle.command_words.specs.Orders.{Wanted}
 use Rattle.field_boxes.specs.Alike.{AreAlike, IsTight, source_of}
-use Rattle.field_boxes.specs.Classifier.{Interval, Rule}
-use Rattle.field_boxes.specs.Fields.{stated}
-use Rattle.filter_reader.specs.FilterList.{FilterList, list_of}
+use Rattle.field_boxes.specs.Headline.Classifier.{Interval, Rule}
+use Rattle.field_boxes.specs.Headline.Fields.{stated}
+use Rattle.filter_reader.specs.Headline.FilterList.{FilterList, list_of}
 use Rattle.rule_expansion.specs.Expansion.{expanded_count, expansion}
 use Rattle.rule_shortening.specs.Shortened.{IsShortTable, IsWithinCost}
-use Rattle.table_compose.specs.LeastCost.{IsLeastCost}
+use Rattle.table_compose.specs.Headline.LeastCost.{IsLeastCost}
 use Rattle.table_text.specs.Reading.{table_in_text}
-use Rattle.ternary_words.specs.Table.{Table, answer}
-use Rattle.ternary_words.specs.TableText.{table_text}
+use Rattle.ternary_words.specs.Headline.Table.{Table, answer}
+use Rattle.ternary_words.specs.Headline.TableText.{table_text}
 use Rattle.ternary_words.specs.declared.table.Table as code
 use Rattle.razor_core.specs.Inputs.{table_input}
 use Rattle.razor_core.specs.Drive.{value_of_table}

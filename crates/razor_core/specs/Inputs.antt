@@ -1,11 +1,11 @@
 -- The inputs of a command, in the order in which they are read, and what their texts come to.
 use Rattle.std.specs.Prelude.{ℕ, Bool, false, nat_lt, List, [], ◌∷◌, length, map, Result, Ok, Err}
 use Rattle.razor_base.specs.declared.limits.TheConstants.{MOST_LIST_BYTES, MOST_TABLE_BYTES, MOST_SCRIPT_BYTES, MOST_TRACE_BYTES, MOST_CERTIFICATE_BYTES}
-use Rattle.filter_reader.specs.FilterList as lists
+use Rattle.filter_reader.specs.Headline.FilterList as lists
 use Rattle.table_text.specs.Reading as tables
 use Rattle.bank_update.specs.Script as scripts
 use Rattle.edit_session.specs.SessionText as sessions
-use Rattle.ternary_words.specs.Table.{Table}
+use Rattle.ternary_words.specs.Headline.Table.{Table}
 use Rattle.command_words.specs.Command.{Command, Make, Equiv, Cert, Check, Trace, Drive, Gen, Selfrun, Migrate, Merge, Audit, Query, Session, Trim}
 use Rattle.razor_core.specs.declared.line_reason.LineReason.{LineReason}
 use Rattle.razor_core.specs.declared.line_reason.LineReason.TheVariants.{OfList, OfTable, OfScript, OfSession}

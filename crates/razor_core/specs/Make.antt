@@ -1,10 +1,11 @@
 -- What `expand`, `compile`, `arrange` and `shorten` define: the table of a list.
 use Rattle.std.specs.Prelude.{◌≡◌, ℕ, ◌<◌, ◌≤◌, true, List, length, Some, None}
-use Rattle.field_boxes.specs.Classifier.{Rule}
-use Rattle.field_boxes.specs.Fields.{stated}
-use Rattle.filter_reader.specs.FilterList.{FilterList}
-use Rattle.ternary_words.specs.Table.{Table}
-use Rattle.table_compose.specs.LeastCost.{IsLeastCost}
+use Rattle.field_boxes.specs.Headline.Classifier.{Rule}
+use Rattle.field_boxes.specs.Headline.Fields.{stated}
+use Rattle.field_boxes.specs.Orders.{IsOrder}
+use Rattle.filter_reader.specs.Headline.FilterList.{FilterList}
+use Rattle.ternary_words.specs.Headline.Table.{Table}
+use Rattle.table_compose.specs.Headline.LeastCost.{IsLeastCost}
 use Rattle.field_order.specs.Best.{IsBestOrder}
 use Rattle.rule_compilation.specs.Compiled.{IsCompiledIn}
 use Rattle.rule_expansion.specs.Expansion.{expanded_count}
@@ -30,6 +31,19 @@ IsOrderOf Compile rules order = order ≡ stated
 IsOrderOf (Arrange wanted) rules order = IsWanted wanted rules order
 IsOrderOf (Shorten None) rules order = order ≡ stated
 IsOrderOf (Shorten (Some wanted)) rules order = IsWanted wanted rules order
+
+-- the order that is said, whatever the rules are: the one that is asked for, or else some order of the five fields
+abbrev pub MayBeWanted : Wanted → List ℕ → Type 0
+MayBeWanted Best order = IsOrder order
+MayBeWanted (In asked) order = order ≡ asked
+
+-- the order in which a method composes, whatever the rules are
+abbrev pub MayBeOrderOf : Method → List ℕ → Type 0
+MayBeOrderOf Expand order = order ≡ stated
+MayBeOrderOf Compile order = order ≡ stated
+MayBeOrderOf (Arrange wanted) order = MayBeWanted wanted order
+MayBeOrderOf (Shorten None) order = order ≡ stated
+MayBeOrderOf (Shorten (Some wanted)) order = MayBeWanted wanted order
 
 -- the method makes so many entries of the rules: those of the expansion, or their field-by-field least cost in its order; a search
 -- makes fewer than the expansion, and with an order no more than the lesser of both

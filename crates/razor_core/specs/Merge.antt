@@ -1,6 +1,6 @@
 -- What `merge` defines: the text of a table whose entries are merged.
 use Rattle.std.specs.Prelude.{◌≡◌, true, []}
-use Rattle.ternary_words.specs.Table.{Table}
+use Rattle.ternary_words.specs.Headline.Table.{Table}
 use Rattle.bit_merge.specs.Merge.{IsMerged}
 use Rattle.razor_core.specs.Outcome.{Outcome, IsTextOf}
 

@@ -1,6 +1,6 @@
 -- What `migrate` defines: the compact text of a table.
 use Rattle.std.specs.Prelude.{◌≡◌, true, []}
-use Rattle.ternary_words.specs.Table.{Table}
+use Rattle.ternary_words.specs.Headline.Table.{Table}
 use Rattle.razor_core.specs.Outcome.{Outcome, IsTextOf}
 
 -- the text of the table

@@ -1,7 +1,7 @@
 -- What a command comes to.
 use Rattle.std.specs.Prelude.{◌≡◌, ℕ, Bool, List, Ok}
-use Rattle.ternary_words.specs.Table.{Table}
-use Rattle.ternary_words.specs.TableText.{table_text}
+use Rattle.ternary_words.specs.Headline.Table.{Table}
+use Rattle.ternary_words.specs.Headline.TableText.{table_text}
 use Rattle.table_text.specs.Reading.{table_in_text}
 
 -- whether the answer is yes, the output, and the line on standard error

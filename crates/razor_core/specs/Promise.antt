@@ -4,12 +4,12 @@ use Rattle.std.specs.Io.KnownBytes.{Keeps}
 use Rattle.razor_base.specs.Faults.{Rose}
 use Rattle.command_words.specs.Command.{Command}
 use Rattle.command_words.specs.Spelling.{command_of}
-use Rattle.razor_core.specs.Inputs.{Value}
+use Rattle.razor_core.specs.Inputs.{Value, inputs}
 use Rattle.razor_core.specs.Outside.{Outside, Tells, IsNoInput}
 use Rattle.razor_core.specs.Turns.{Stop, stop_status, too_many}
 use Rattle.razor_core.specs.Stopping.{MayGoOn, Pass, IsStopped}
-use Rattle.razor_core.specs.Deciding.{FailsToRead, IsStopOf}
-use Rattle.razor_core.specs.Ending.{IsDone, IsDoneLine}
+use Rattle.razor_core.specs.Deciding.{AreKeptBehind, FailsToRead, IsStopOf}
+use Rattle.razor_core.specs.Ending.{IsDone, IsDoneLine, MaySayNo}
 use Rattle.razor_core.specs.Standing.{IsCutOff, Stands, StandsCut, StandsShort, WritesInTurn, WritesNothing}
 use Rattle.razor_core.specs.Messages.{usage_text, stop_line, read_fault_line, write_fault_line, memory_line}
 
@@ -55,8 +55,9 @@ pub record KeepsPromise (command : Command) (before after : Outside) (line : Lis
   pub done_line : status ≡ 0 → IsDoneLine command line
   -- 1: likewise, and the answer is no
   pub answered_no : status ≡ 1 → Tells before command → IsDone command before after false []
+  pub may_say_no : status ≡ 1 → MaySayNo command
   pub no_line : status ≡ 1 → line ≡ []
-  -- 3 and 4: something ends the command
+  -- 3 and 4: something ends the command; the inputs behind the one in whose turn it ended are as they were, with 6 and 7 too
   pub ended : (status ≡ 3) ⊎ (status ≡ 4) → IsEnded command before after line status
   -- 5: a read failed
   pub read_fault : status ≡ 5 → IsUnread command before after line
@@ -68,6 +69,7 @@ pub record KeepsPromise (command : Command) (before after : Outside) (line : Lis
   pub calm : status ≡ 7 → after.write_faults ≡ before.write_faults
   pub short : status ≡ 7 → StandsShort command before after
   pub short_line : status ≡ 7 → line ≡ memory_line
+  pub behind : (status ≡ 6) ⊎ (status ≡ 7) → AreKeptBehind before after (inputs command)
   -- no other status than those, and where the desk tells, than those that the turns allow
   pub known : (status ≤ 7) × (status ≢ 2)
   pub complete : Tells before command → (values : List Value) → Pass command before values → IsStatusOfPass status

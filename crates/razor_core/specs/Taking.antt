@@ -1,5 +1,7 @@
 -- What taking the turn of one input comes to.
-use Rattle.std.specs.Prelude.{nat_lt, ◌≡◌, ℕ, List, [], Option, Some, IfSome, IsTrue, All, Ok, Err}
+use Rattle.std.specs.Prelude.{nat_lt, ◌≡◌, ℕ, ◌+◌, List, [], Option, Some, IfSome, IsTrue, All, Ok, Err}
+use Rattle.razor_base.specs.Input.{TakesAtMost}
+use Rattle.razor_base.specs.declared.limits.TheConstants.{PIECE_BYTES}
 use Rattle.razor_base.specs.declared.read.ReadError.{ReadError}
 use Rattle.razor_base.specs.declared.read.ReadError.TheVariants as reads
 use Rattle.filter_reader.specs.declared.list.RuleList.{RuleList}
@@ -36,7 +38,7 @@ abbrev pub EndsTurn : Input → Option (List ℕ) → Option (List ℕ) → ℕ 
 EndsTurn input before after faults_before faults_after (Done summary) = ⊥
 EndsTurn input before after faults_before faults_after No = ⊥
 EndsTurn input before after faults_before faults_after (Bad file line reason) = (file.now ≡ input.name) × IfSome before (λ text. turn input text ≡ Err (bad_line file.now (record { line = line; reason = reason })))
-EndsTurn input before after faults_before faults_after (TooLong file limit) = (file.now ≡ input.name) × (limit ≡ most_bytes input.kind) × IfSome before (λ text. turn input text ≡ Err (too_long file.now limit))
+EndsTurn input before after faults_before faults_after (TooLong file limit) = (file.now ≡ input.name) × (limit ≡ most_bytes input.kind) × TakesAtMost before after (limit + PIECE_BYTES) × IfSome before (λ text. turn input text ≡ Err (too_long file.now limit))
 EndsTurn input before after faults_before faults_after (TooMany needed limit) = ⊥
 EndsTurn input before after faults_before faults_after (ReadFault file) = (file.now ≡ input.name) × IsReadFault input.kind before after faults_before faults_after
 EndsTurn input before after faults_before faults_after WriteFault = ⊥

@@ -2,8 +2,8 @@
 use Rattle.std.specs.Prelude.{true, ◌≡◌, ℕ, List, [], ◌∷◌, ◌++◌, Some, option_map, Ok, Result, Err}
 use Rattle.std.specs.List.{flat_map}
 use Rattle.std.specs.Io.KnownBytes.{Appends, Keeps}
-use Rattle.field_boxes.specs.Names.{text_of}
-use Rattle.ternary_words.specs.Table.{Table, answer}
+use Rattle.field_boxes.specs.Headline.Names.{text_of}
+use Rattle.ternary_words.specs.Headline.Table.{Table, answer}
 use Rattle.trace_run.specs.Trace as traces
 use Rattle.trace_run.specs.Trace.{trace_of, trace_within, whole_lines}
 use Rattle.trace_run.specs.declared.error.TraceError.{TraceError}

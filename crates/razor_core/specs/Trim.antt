@@ -1,7 +1,7 @@
 -- What `trim` defines: the text of a table without its redundant entries.
 use Rattle.std.specs.Prelude.{◌≡◌, ◌⊎◌, true, List, [], ◌∷◌}
 use Rattle.field_boxes.specs.Alike.{AreAlike, IsTight}
-use Rattle.ternary_words.specs.Table.{Entry, Table, answer}
+use Rattle.ternary_words.specs.Headline.Table.{Entry, Table, answer}
 use Rattle.razor_core.specs.Outcome.{Outcome, IsTextOf}
 
 -- the first list is the second without some of its entries

@@ -1,7 +1,7 @@
 //! What status 0 of each command means over bytes, from what the top call promises of the command alone. The functions do
 //! nothing.
 ghost use Rattle.std.specs.Prelude.{◌≡◌, ℕ, List, Option, Some};
-ghost use Rattle.field_boxes.specs.Classifier.{Interval};
+ghost use Rattle.field_boxes.specs.Headline.Classifier.{Interval};
 ghost use Rattle.command_words.specs.Command.{Arrange, Audit, Cert, Check, Compile, Drive, Equiv, Expand, Gen, Make, Merge, Migrate, Query, Selfrun, Session, Shorten, Sizes, Trace, Trim};
 ghost use Rattle.command_words.specs.Orders.{Wanted};
 ghost use Rattle.razor_core.specs.Headlines.{Adds, AgreeByName, AreEqualLists, IsAnswered, IsArrangedText, IsAudited, IsCertified, IsCompiledText, IsDriven, IsEdited, IsExpandedText, IsMergedText, IsMigrated, IsQueried, IsShortenedText, IsTrimmedText};

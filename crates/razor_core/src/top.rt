@@ -1,4 +1,8 @@
 //! The top call: words in, status out.
+ghost use Rattle.std.specs.Prelude.{◌≡◌, ℕ, List, [], ◌∷◌, Some, codes};
+ghost use Rattle.std.specs.Io.KnownBytes.{Appends};
+ghost use Rattle.razor_core.specs.Headline.Further.{IsArranged, IsShortened};
+ghost use Rattle.razor_core.specs.Headline.Tables.{IsCompiled};
 ghost use Rattle.razor_core.specs.Outside.{seen};
 ghost use Rattle.razor_core.specs.Says.{Says};
 ghost use Rattle.razor_core.specs.Promise.{Promise};
@@ -28,7 +32,13 @@ pub fn razor<D: Desk, K: Sink, E: Sink>(
     out: &mut K,
     err: &mut E,
 ) -> u8
-    ensures { let before = seen D.remaining D.faults K.written K.faults desk.old out.old in
+    ensures headline { (file bytes : List ℕ) → words.now ≡ codes "compile" ∷ codes "--" ∷ file ∷ [] → result ≡ 0 → D.remaining desk.old file ≡ Some bytes →
+        (written : List ℕ) × Appends (K.written out.old) (K.written out.new) written × IsCompiled bytes written }
+    ensures arranged { (file bytes : List ℕ) → words.now ≡ codes "arrange" ∷ codes "--" ∷ file ∷ [] → result ≡ 0 → D.remaining desk.old file ≡ Some bytes →
+        (written : List ℕ) × Appends (K.written out.old) (K.written out.new) written × IsArranged bytes written }
+    ensures shortened { (file bytes : List ℕ) → words.now ≡ codes "shorten" ∷ codes "--" ∷ file ∷ [] → result ≡ 0 → D.remaining desk.old file ≡ Some bytes →
+        (written : List ℕ) × Appends (K.written out.old) (K.written out.new) written × IsShortened bytes written }
+    ensures promise { let before = seen D.remaining D.faults K.written K.faults desk.old out.old in
         let after = seen D.remaining D.faults K.written K.faults desk.new out.new in
         Promise words.now before after (Says E.written E.faults err.old err.new) result }
 {

@@ -1,6 +1,12 @@
 //! A tour of the program: every command on the files in `data/`, with what it writes and what it says.
 //!
-//! What a command writes may go into a file that later commands name. Nothing is written to the disk.
+//! What a command writes may go into a file that later commands name. Nothing is written to the disk. It is proved safe
+//! and to end, and nothing else; the gate compares what it writes, and `tools/tour` puts it into the documents.
+//!
+//! | Room | Holds |
+//! |---|---|
+//! | `steps` | the commands of the tour |
+//! | `shelf` | its files |
 #![tactic(auto)]
 
 mod shelf;

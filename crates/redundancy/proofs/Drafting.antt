@@ -8,7 +8,7 @@ use Rattle.std.proofs.lemmas.List.Elements.{All-append, All-map, All-push, All-w
 use Rattle.field_boxes.specs.declared.span.Span.{Span}
 use Rattle.node_store.specs.Levels.{HasField, IsLevel, next as next_level, top_of}
 use Rattle.node_store.proofs.Canonical.{is_level, is_next}
-use Rattle.field_boxes.specs.Classifier.{Interval, interval_holds}
+use Rattle.field_boxes.specs.Headline.Classifier.{Interval, interval_holds}
 use Rattle.field_boxes.specs.Spans.{interval_of}
 use Rattle.field_boxes.proofs.Unions.{holds_between, between, not_below, not_past}
 use Rattle.node_store.specs.declared.edge.NodeId.{NodeId}

@@ -1,7 +1,7 @@
 -- An entry's row over a level, with the interval of the level's first field in front.
 use Rattle.std.proofs.Common.{◌≡◌, ◌∷◌, ◌≤◌, ℕ, List, [], ap, get_or}
 use Rattle.ternary_words.specs.declared.entry.Entry.{Entry}
-use Rattle.field_boxes.specs.Classifier.{Interval}
+use Rattle.field_boxes.specs.Headline.Classifier.{Interval}
 use Rattle.field_boxes.specs.Fields.{greatest_of}
 use Rattle.node_store.specs.Levels.{HasField, next as next_level, top_of}
 use Rattle.redundancy_laws.specs.Built.{row_at, span_at}

@@ -5,8 +5,8 @@ use Rattle.std.specs.List.{list_any}
 use Rattle.std.proofs.lemmas.List.{get_or_default}
 use Rattle.std.proofs.lemmas.List.Folds.{list_any-append}
 use Rattle.std.proofs.lemmas.List.Elements.{All-head, All-tail, All-map, All-weaker}
-use Rattle.field_boxes.specs.Classifier.{interval_holds}
-use Rattle.field_boxes.specs.Fields.{AreValues}
+use Rattle.field_boxes.specs.Headline.Classifier.{interval_holds}
+use Rattle.field_boxes.specs.Headline.Fields.{AreValues}
 use Rattle.node_store.specs.Levels.{HasField, next as next_level, top_of}
 use Rattle.field_boxes.specs.Spans.{interval_of}
 use Rattle.node_store.specs.declared.edge.Edge.{Edge}

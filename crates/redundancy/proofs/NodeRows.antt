@@ -5,9 +5,10 @@ use Rattle.std.specs.List.{AllZip}
 use Rattle.std.proofs.lemmas.List.{map-append}
 use Rattle.std.proofs.lemmas.List.Elements.{All-nil, All-cons, All-append, All-head, All-map, All-tail}
 use Rattle.field_boxes.specs.declared.prefix.Prefix.{Prefix}
-use Rattle.field_boxes.specs.Fields.{AreValues, IsHeader, width}
-use Rattle.field_boxes.specs.Classifier.{Interval, interval_holds}
-use Rattle.field_boxes.specs.Prefix.{FitsWidth, prefix_holds, prefix_interval}
+use Rattle.field_boxes.specs.Headline.Fields.{AreValues, IsHeader, width}
+use Rattle.field_boxes.specs.Headline.Classifier.{Interval, interval_holds}
+use Rattle.field_boxes.specs.Headline.Prefix.{FitsWidth, prefix_holds}
+use Rattle.field_boxes.specs.Prefix.{prefix_interval}
 use Rattle.field_boxes.proofs.Prefixes.{interval-prefix}
 use Rattle.ternary_words.specs.declared.entry.Entry.{Entry}
 use Rattle.ternary_words.specs.Prefixes.{FitFields, IsPrefixInEach, all_hold}

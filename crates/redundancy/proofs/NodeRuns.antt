@@ -6,8 +6,9 @@ use Rattle.std.proofs.Math.Seq.{take-suc}
 use Rattle.std.proofs.lemmas.List.{length-append, length-map, map-append, append-nil, take_all}
 use Rattle.std.proofs.lemmas.List.Concat.{flat_map-append}
 use Rattle.std.proofs.lemmas.Nat.{pow_pos}
-use Rattle.field_boxes.specs.Fields.{width}
-use Rattle.field_boxes.specs.Prefix.{FitsWidth, prefix_interval}
+use Rattle.field_boxes.specs.Headline.Fields.{width}
+use Rattle.field_boxes.specs.Headline.Prefix.{FitsWidth}
+use Rattle.field_boxes.specs.Prefix.{prefix_interval}
 use Rattle.field_boxes.specs.Spans.{interval_of}
 use Rattle.field_boxes.proofs.Prefixes.{whole_step_within}
 use Rattle.node_store.specs.Diagram.{Node, level_of}

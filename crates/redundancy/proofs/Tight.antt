@@ -4,9 +4,9 @@ use Rattle.std.specs.Prelude.{find, option_map, slice_index, Option}
 use Rattle.std.specs.List.{All, AllZip}
 use Rattle.std.proofs.lemmas.Option.{none-some, same_Some}
 use Rattle.std.proofs.lemmas.List.Elements.{All-nil, All-cons, All-head, All-tail}
-use Rattle.field_boxes.specs.Fields.{IsHeader}
+use Rattle.field_boxes.specs.Headline.Fields.{IsHeader}
 use Rattle.ternary_words.specs.declared.entry.Entry.{Entry}
-use Rattle.ternary_words.specs.Word.{agrees, header_bits}
+use Rattle.ternary_words.specs.Headline.Word.{agrees, header_bits}
 use Rattle.ternary_words.specs.Views.{word_of}
 use Rattle.node_store.specs.Diagram.{Node, answer as diagram_answer, level_of}
 use Rattle.node_store.specs.Store.{IsStore}

@@ -2,7 +2,7 @@
 use Rattle.std.proofs.Common.{◌≡◌, ◌∷◌, ℕ, List, [], Bool, length, map, refl, ap, arith, subst, ◌∙◌, inl}
 use Rattle.std.specs.Prelude.{◌==◌, not}
 use Rattle.std.proofs.lemmas.List.{length-map}
-use Rattle.field_boxes.specs.Fields.{AreValues}
+use Rattle.field_boxes.specs.Headline.Fields.{AreValues}
 use Rattle.node_store.specs.Diagram.{Node, answer}
 use Rattle.ternary_words.specs.declared.entry.Entry.{Entry}
 use Rattle.redundancy_laws.specs.declared.context.Context.{Context}

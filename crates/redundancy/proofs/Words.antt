@@ -5,14 +5,15 @@ use Rattle.std.specs.List.{AllZip}
 use Rattle.std.proofs.lemmas.List.{length-map, length-set}
 use Rattle.std.proofs.lemmas.List.Elements.{All-head, All-tail}
 use Rattle.field_boxes.specs.declared.prefix.Prefix.{Prefix}
-use Rattle.field_boxes.specs.Bits.{bits}
-use Rattle.field_boxes.specs.Fields.{stated, width}
-use Rattle.field_boxes.specs.Prefix.{FitsWidth}
+use Rattle.field_boxes.specs.Headline.Bits.{bits}
+use Rattle.field_boxes.specs.Headline.Fields.{stated, width}
+use Rattle.field_boxes.specs.Headline.Prefix.{FitsWidth}
 use Rattle.ternary_words.specs.declared.entry.Entry.{Entry}
 use Rattle.ternary_words.specs.declared.word.Word.{Word}
 use Rattle.ternary_words.specs.Prefixes.{FitFields, fields_trits, masks_of}
 use Rattle.ternary_words.specs.Views.{word_of}
-use Rattle.ternary_words.specs.Word.{agrees, header_bits, key_of, trits}
+use Rattle.ternary_words.specs.Headline.Word.{agrees, header_bits}
+use Rattle.ternary_words.specs.Word.{key_of, trits}
 use Rattle.ternary_words.proofs.Fives.{fit_five, five_of, masks_below, values_below}
 use Rattle.ternary_words.proofs.Joined.{bits-header}
 use Rattle.ternary_words.proofs.Masked.{masked_key}

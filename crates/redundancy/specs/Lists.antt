@@ -1,6 +1,6 @@
 -- Lists of rows by their last items: each is empty, or another with an item behind it.
 use Rattle.std.specs.Prelude.{◌≡◌, ℕ, zero, suc, ◌<◌, ◌≤◌, List, [], ◌∷◌, ◌++◌, Option, Some, None, length, map, slice_get}
-use Rattle.field_boxes.specs.Classifier.{Interval}
+use Rattle.field_boxes.specs.Headline.Classifier.{Interval}
 use Rattle.redundancy_laws.specs.Rows.{Row, in_front, last_row}
 use Rattle.redundancy.specs.declared.blocks.Blocks.{Blocks}
 use Rattle.redundancy.specs.declared.lists.Item.{Item}

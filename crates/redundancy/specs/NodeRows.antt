@@ -1,7 +1,7 @@
 -- The rows that the nodes of a diagram compose, by prefix lists of its nodes.
 use Rattle.std.specs.Prelude.{ℕ, List, [], ◌∷◌, map}
 use Rattle.std.specs.List.{flat_map}
-use Rattle.field_boxes.specs.Fields.{width}
+use Rattle.field_boxes.specs.Headline.Fields.{width}
 use Rattle.field_boxes.specs.Prefix.{prefix_interval}
 use Rattle.node_store.specs.Diagram.{Node, answer}
 use Rattle.prefix_min.specs.declared.row.PrefixRow.{PrefixRow}

@@ -1,7 +1,7 @@
 -- Stretches of a span that lead to pairs of nodes.
 use Rattle.std.specs.Prelude.{◌≡◌, ◌⊎◌, ℕ, suc, ◌<◌, true, List, [], ◌∷◌, All, Some, length, map, nat_le, if◌then◌else◌, slice_get, slice_index_or}
 use Rattle.smallvec.specs.SmallVec.{SmallVec}
-use Rattle.field_boxes.specs.Classifier.{Interval, interval_holds}
+use Rattle.field_boxes.specs.Headline.Classifier.{Interval, interval_holds}
 use Rattle.node_store.specs.declared.split.Part.{Part}
 use Rattle.node_store.specs.Diagram.{Node}
 use Rattle.redundancy_laws.specs.declared.context.Context.{Context}

@@ -1,7 +1,7 @@
 //! Tables of diagrams without redundant entries.
 ghost use Rattle.std.specs.Prelude.{◌≡◌, ◌≤◌, ℕ, List, All, length, IfErr, IfOk};
 ghost use Rattle.field_boxes.specs.Alike.{IsTight};
-ghost use Rattle.field_boxes.specs.Fields.{IsHeader};
+ghost use Rattle.field_boxes.specs.Headline.Fields.{IsHeader};
 ghost use Rattle.node_store.specs.Diagram.{answer as diagram_answer, level_of};
 ghost use Rattle.table_compose.specs.Diagrams.{IsCostOf};
 ghost use Rattle.table_compose.specs.Composed.{IsAnswer, IsRefusal};

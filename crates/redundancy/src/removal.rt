@@ -32,7 +32,7 @@ const OPEN: [Prefix; 5] = [Prefix { value: 0, len: 0 }; 5];
 impl<'a> Removal<'a> {
     ghost use Rattle.std.specs.Prelude.{◌≡◌, ◌≤◌, ℕ, List, [], All, length, slice_index, IfErr, IfOk, OnOk};
     ghost use Rattle.std.specs.List.{AllZip};
-    ghost use Rattle.field_boxes.specs.Fields.{IsHeader};
+    ghost use Rattle.field_boxes.specs.Headline.Fields.{IsHeader};
     ghost use Rattle.node_store.specs.Diagram.{Node, answer as diagram_answer, level_of};
     ghost use Rattle.ternary_words.specs.declared.entry.Entry as entries_of;
     ghost use Rattle.table_compose.specs.declared.diagram_plans.Plans as plans_of;

@@ -24,7 +24,7 @@ impl Model for Sets {
 
 impl Sets {
     ghost use Rattle.std.specs.Prelude.{◌≡◌, ◌≤◌, ℕ, List, [], ◌∷◌, true, length, map, IfOk, OnOk};
-    ghost use Rattle.field_boxes.specs.Fields.{AreValues};
+    ghost use Rattle.field_boxes.specs.Headline.Fields.{AreValues};
     ghost use Rattle.node_store.specs.Levels.{HasField, IsLevel, next, top_of};
     ghost use Rattle.node_store.specs.Diagram.{answer, edges_of, level_of};
     ghost use Rattle.node_store.specs.Store.{Grows, IsStore, LeadTo};

@@ -1,5 +1,5 @@
 -- What is right for one block and its contexts is right for another that is alike at all values that matter.
-use Rattle.field_boxes.specs.Fields.{AreValues}
+use Rattle.field_boxes.specs.Headline.Fields.{AreValues}
 use Rattle.std.proofs.Common.{◌≡◌, ◌∷◌, ◌⊎◌, ℕ, List, [], ◌<◌, Bool, true, false, refl, ap, sym, ◌∙◌, subst, inl, inr}
 use Rattle.std.specs.Prelude.{◌≢◌, ◌||◌, cond}
 use Rattle.std.specs.List.{list_any}

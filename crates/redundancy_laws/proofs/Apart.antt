@@ -4,7 +4,7 @@ use Rattle.std.specs.Prelude.{◌&&◌, ◌||◌, Some, slice_get, map}
 use Rattle.std.specs.List.{list_any}
 use Rattle.std.proofs.lemmas.List.{append-nil}
 use Rattle.std.proofs.lemmas.List.Folds.{list_any-append}
-use Rattle.field_boxes.specs.Classifier.{Interval, interval_holds}
+use Rattle.field_boxes.specs.Headline.Classifier.{Interval, interval_holds}
 use Rattle.redundancy_laws.specs.Rows.{Row, matches, in_front}
 use Rattle.redundancy_laws.specs.Layers.{Run, rows_of_runs, AreApart, AreApartFrom, end_of}
 use Rattle.redundancy_laws.proofs.OneRun.{cover-behind}

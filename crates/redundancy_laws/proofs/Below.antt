@@ -1,7 +1,7 @@
 -- The pairs of nodes below the values of an interval stand for the contexts there.
 use Rattle.node_store.specs.Levels.{HasField, next, top_of}
 use Rattle.std.proofs.Common.{◌≡◌, ℕ, List, ◌≤◌, ap, sym, ◌∙◌, subst}
-use Rattle.field_boxes.specs.Classifier.{Interval}
+use Rattle.field_boxes.specs.Headline.Classifier.{Interval}
 use Rattle.node_store.specs.Edges.{child_of}
 use Rattle.node_store.specs.Diagram.{Node, answer, level_of, edges_of}
 use Rattle.node_store.specs.Store.{IsStore}

@@ -4,8 +4,8 @@ use Rattle.std.proofs.Common.{◌≡◌, ◌∷◌, ℕ, List, [], Bool, true, f
 use Rattle.std.specs.Prelude.{◌≢◌, ◌||◌, ◌==◌, not, cond, map}
 use Rattle.std.specs.List.{list_any}
 use Rattle.std.proofs.lemmas.List.Elements.{All-tail}
-use Rattle.field_boxes.specs.Fields.{IsHeader, AreValues}
-use Rattle.field_boxes.specs.Classifier.{Interval}
+use Rattle.field_boxes.specs.Headline.Fields.{IsHeader, AreValues}
+use Rattle.field_boxes.specs.Headline.Classifier.{Interval}
 use Rattle.node_store.specs.Diagram.{Node, answer as answer_of_node}
 use Rattle.ternary_words.specs.declared.entry.Entry.{Entry}
 use Rattle.ternary_words.specs.Prefixes.{IsPrefixInEach}

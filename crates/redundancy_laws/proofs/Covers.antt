@@ -5,8 +5,8 @@ use Rattle.std.specs.Prelude.{◌&&◌, ◌||◌, Some, slice_get, map}
 use Rattle.std.specs.List.{list_any}
 use Rattle.std.proofs.Math.Bool.{or-false}
 use Rattle.std.proofs.lemmas.List.Folds.{list_any-append}
-use Rattle.field_boxes.specs.Fields.{AreValues}
-use Rattle.field_boxes.specs.Classifier.{interval_holds}
+use Rattle.field_boxes.specs.Headline.Fields.{AreValues}
+use Rattle.field_boxes.specs.Headline.Classifier.{interval_holds}
 use Rattle.node_store.specs.Edges.{child_of}
 use Rattle.node_store.specs.Diagram.{Node, edges_of}
 use Rattle.node_store.proofs.Values.{each}

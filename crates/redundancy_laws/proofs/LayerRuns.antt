@@ -4,8 +4,8 @@ use Rattle.std.proofs.Common.{◌≡◌, ◌∷◌, ◌++◌, ℕ, List, [], ◌
 use Rattle.std.specs.Prelude.{cond, map}
 use Rattle.std.specs.List.{list_any}
 use Rattle.std.proofs.lemmas.List.{append-nil, length-append, length-map}
-use Rattle.field_boxes.specs.Fields.{AreValues}
-use Rattle.field_boxes.specs.Classifier.{interval_holds}
+use Rattle.field_boxes.specs.Headline.Fields.{AreValues}
+use Rattle.field_boxes.specs.Headline.Classifier.{interval_holds}
 use Rattle.node_store.proofs.Values.{each}
 use Rattle.redundancy_laws.specs.Rows.{Row, matches, in_front}
 use Rattle.redundancy_laws.specs.Marks.{marked}

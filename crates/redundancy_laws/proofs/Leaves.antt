@@ -1,5 +1,5 @@
 -- With no field left a row is kept exactly where some context wants it.
-use Rattle.field_boxes.specs.Fields.{AreValues}
+use Rattle.field_boxes.specs.Headline.Fields.{AreValues}
 use Rattle.std.proofs.Common.{◌≡◌, ◌∷◌, ℕ, List, [], ◌<◌, Bool, true, false, refl}
 use Rattle.std.specs.Prelude.{cond}
 use Rattle.redundancy_laws.specs.Rows.{answer_or, last_row}

@@ -1,5 +1,5 @@
 -- Contexts that stand for others of the same fields.
-use Rattle.field_boxes.specs.Fields.{AreValues}
+use Rattle.field_boxes.specs.Headline.Fields.{AreValues}
 use Rattle.std.proofs.Common.{◌≡◌, ◌∷◌, ℕ, List, [], ◌<◌, false, refl, ap, arith, sym, inl}
 use Rattle.std.specs.Prelude.{◌||◌}
 use Rattle.redundancy_laws.specs.Marks.{Mark}

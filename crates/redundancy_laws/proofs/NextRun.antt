@@ -5,8 +5,8 @@ use Rattle.std.specs.Prelude.{◌||◌, cond, map}
 use Rattle.std.specs.List.{list_any}
 use Rattle.std.proofs.Math.Bool.{or-false}
 use Rattle.std.proofs.lemmas.Bool.{true≢false}
-use Rattle.field_boxes.specs.Fields.{AreValues}
-use Rattle.field_boxes.specs.Classifier.{Interval, interval_holds}
+use Rattle.field_boxes.specs.Headline.Fields.{AreValues}
+use Rattle.field_boxes.specs.Headline.Classifier.{Interval, interval_holds}
 use Rattle.node_store.proofs.Values.{each, values_from}
 use Rattle.redundancy_laws.specs.Rows.{Row, matches, answer_or, in_front}
 use Rattle.redundancy_laws.specs.Marks.{Mark, all_of, kept_of, marked}

@@ -3,8 +3,8 @@ use Rattle.node_store.specs.Levels.{HasField, next, top_of}
 use Rattle.std.proofs.Common.{◌≡◌, ◌∷◌, ◌⊎◌, ℕ, List, [], ◌<◌, ◌≤◌, Bool, true, false, refl, ap, sym, ◌∙◌, inl, inr}
 use Rattle.std.specs.Prelude.{◌&&◌, ◌||◌, map}
 use Rattle.std.specs.List.{list_any}
-use Rattle.field_boxes.specs.Fields.{AreValues}
-use Rattle.field_boxes.specs.Classifier.{Interval, interval_holds}
+use Rattle.field_boxes.specs.Headline.Fields.{AreValues}
+use Rattle.field_boxes.specs.Headline.Classifier.{Interval, interval_holds}
 use Rattle.node_store.proofs.Values.{each, values_from}
 use Rattle.redundancy_laws.specs.Rows.{Row, matches, in_front}
 use Rattle.redundancy_laws.specs.Marks.{all_of, marked}

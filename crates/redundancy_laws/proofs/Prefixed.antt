@@ -3,13 +3,13 @@ use Rattle.std.proofs.Common.{◌≡◌, ◌∷◌, ℕ, List, [], ◌+◌, ◌-
 use Rattle.std.specs.Prelude.{◌&&◌, bit_and, slice_index}
 use Rattle.std.proofs.lemmas.Nat.{pow_pos, mod_below}
 use Rattle.std.proofs.Math.Pow.{pow_mono}
-use Rattle.field_boxes.specs.Fields.{AreValues, IsHeader, stated}
-use Rattle.field_boxes.specs.Classifier.{Interval, interval_holds}
-use Rattle.field_boxes.specs.Prefix.{FitsWidth, prefix_holds}
+use Rattle.field_boxes.specs.Headline.Fields.{AreValues, IsHeader, stated}
+use Rattle.field_boxes.specs.Headline.Classifier.{Interval, interval_holds}
+use Rattle.field_boxes.specs.Headline.Prefix.{FitsWidth, prefix_holds}
 use Rattle.field_boxes.specs.declared.prefix.Prefix.{Prefix}
 use Rattle.field_boxes.proofs.Prefixes.{interval-prefix}
 use Rattle.ternary_words.specs.declared.entry.Entry.{Entry}
-use Rattle.ternary_words.specs.Word.{Trit, agrees, header_bits}
+use Rattle.ternary_words.specs.Headline.Word.{Trit, agrees, header_bits}
 use Rattle.ternary_words.specs.Views.{word_of}
 use Rattle.ternary_words.specs.Prefixes.{HasMask, IsPart, IsPrefixInEach, IsWordOf, all_hold, mask_of}
 use Rattle.ternary_words.proofs.OnesInFront.{between, low_zero}

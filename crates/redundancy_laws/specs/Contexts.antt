@@ -1,5 +1,5 @@
 -- Blocks of rows, of which the same are kept for several contexts at once.
-use Rattle.field_boxes.specs.Fields.{AreValues}
+use Rattle.field_boxes.specs.Headline.Fields.{AreValues}
 use Rattle.std.specs.Prelude.{◌≡◌, ◌≢◌, ◌||◌, ℕ, ◌<◌, Bool, true, false, List, [], ◌∷◌}
 use Rattle.std.specs.List.{list_any}
 use Rattle.redundancy_laws.specs.Rows.{Row, matches, answer_or}

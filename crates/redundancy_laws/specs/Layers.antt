@@ -2,8 +2,8 @@
 use Rattle.node_store.specs.Levels.{next, top_of}
 use Rattle.std.specs.Prelude.{◌≡◌, ℕ, ◌<◌, ◌≤◌, ◌+◌, Bool, true, false, cond, List, [], ◌∷◌, ◌++◌, length, map}
 use Rattle.std.specs.List.{list_any}
-use Rattle.field_boxes.specs.Fields.{AreValues}
-use Rattle.field_boxes.specs.Classifier.{Interval, interval_holds}
+use Rattle.field_boxes.specs.Headline.Fields.{AreValues}
+use Rattle.field_boxes.specs.Headline.Classifier.{Interval, interval_holds}
 use Rattle.redundancy_laws.specs.Rows.{Row, matches, in_front}
 use Rattle.redundancy_laws.specs.Marks.{marked}
 use Rattle.redundancy_laws.specs.Contexts.{Contexts, IsRight}

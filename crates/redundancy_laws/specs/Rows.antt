@@ -1,6 +1,6 @@
 -- Entries as an interval of each field and a decision, over the fields from a level on.
 use Rattle.std.specs.Prelude.{ℕ, Bool, true, ◌&&◌, cond, List, [], ◌∷◌}
-use Rattle.field_boxes.specs.Classifier.{Interval, interval_holds}
+use Rattle.field_boxes.specs.Headline.Classifier.{Interval, interval_holds}
 
 -- an interval for each field, and what the values in them are answered
 pub record Row : Type 0 where

@@ -1,7 +1,7 @@
 -- What the label of a header shows of an open rule is what comes behind the rule.
 use Rattle.std.proofs.Common.{◌≡◌, ◌∷◌, ℕ, ◌<◌, ◌+◌, zero, suc, List, [], Bool, true, false, cond, ap, sym, refl, ◌∙◌, arith, Option, Some, None, eq-eqb, ne_eqb}
 use Rattle.field_boxes.specs.declared.rule.Rule as code
-use Rattle.field_boxes.specs.Fields.{stated}
+use Rattle.field_boxes.specs.Headline.Fields.{stated}
 use Rattle.fdd_build.specs.Rules.{decided}
 use Rattle.rule_audit.specs.declared.label.Next.{Next}
 use Rattle.rule_audit.specs.Joined.{AllBelow}

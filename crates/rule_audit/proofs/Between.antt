@@ -2,8 +2,8 @@
 use Rattle.std.proofs.Common.{◌≡◌, ◌∷◌, ◌++◌, ◌+◌, ◌<◌, ◌∙◌, ℕ, zero, suc, List, [], Bool, true, false, cond, length, get_or, append_assoc, ap, refl, sym, subst, arith, nat_eq, Option, Some, None, IfSome, ne_eqb, append-nil, length-append}
 use Rattle.std.proofs.lemmas.List.Elements.{All-cons, All-nil, All-push}
 use Rattle.field_boxes.specs.declared.rule.Rule as code
-use Rattle.field_boxes.specs.Classifier.{matches}
-use Rattle.field_boxes.specs.Fields.{stated, IsHeader}
+use Rattle.field_boxes.specs.Headline.Classifier.{matches}
+use Rattle.field_boxes.specs.Headline.Fields.{stated, IsHeader}
 use Rattle.field_boxes.specs.Rules.{rule_of}
 use Rattle.node_store.specs.declared.edge.NodeId.{NodeId}
 use Rattle.node_store.specs.Diagram.{Node, answer, level_of}

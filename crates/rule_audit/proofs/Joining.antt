@@ -1,7 +1,7 @@
 -- The numbers of a list, by those of its two parts.
 use Rattle.std.proofs.Common.{◌≡◌, ◌∷◌, ◌++◌, ℕ, ◌≤◌, ◌<◌, ◌+◌, suc, List, [], Bool, true, false, cond, ap, refl, sym, ◌∙◌, subst, length, arith, nat_eq, option_map, Option, Some, unwrap_or, slice_get, ne_eqb, eqb-true}
 use Rattle.field_boxes.specs.declared.rule.Rule as code
-use Rattle.field_boxes.specs.Fields.{stated}
+use Rattle.field_boxes.specs.Headline.Fields.{stated}
 use Rattle.fdd_build.specs.Rules.{decided}
 use Rattle.fdd_build.proofs.Decided.{decided_head}
 use Rattle.rule_audit.specs.declared.label.Label.{Label}

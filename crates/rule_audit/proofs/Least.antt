@@ -3,7 +3,8 @@ use Rattle.std.proofs.Common.{◌≡◌, ◌∷◌, ◌++◌, ◌<◌, ◌∙◌
 use Rattle.std.proofs.lemmas.Bool.{cases_lt, true≢false}
 use Rattle.std.proofs.lemmas.List.{length-append, length-take-le}
 use Rattle.std.proofs.Math.Seq.{take-suc-set}
-use Rattle.field_boxes.specs.Fields.{stated, greatest_of, AreValues, ComesBefore}
+use Rattle.field_boxes.specs.Headline.Fields.{stated, AreValues}
+use Rattle.field_boxes.specs.Fields.{greatest_of, ComesBefore}
 use Rattle.node_store.specs.Diagram.{Node}
 use Rattle.node_store.proofs.Values.{each, first, values_from}
 use Rattle.rule_audit.specs.declared.around.Around.{Around}

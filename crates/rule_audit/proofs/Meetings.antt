@@ -1,7 +1,8 @@
 -- What was met, as the walk goes on.
 use Rattle.std.proofs.Common.{◌≡◌, ◌<◌, ◌≤◌, ◌∷◌, ◌++◌, ◌∙◌, ℕ, zero, suc, List, [], drop, take, length, set, ap, append_assoc, arith, refl, sym, subst, inl, inr, ◌⊎◌, Bool, true, slice_index_or, append-nil}
 use Rattle.field_boxes.specs.declared.header.Header.{Header}
-use Rattle.field_boxes.specs.Fields.{stated, greatest_of, AreValues, IsHeader, ComesBefore}
+use Rattle.field_boxes.specs.Headline.Fields.{stated, AreValues, IsHeader}
+use Rattle.field_boxes.specs.Fields.{greatest_of, ComesBefore}
 use Rattle.node_store.specs.declared.edge.Edge.{Edge}
 use Rattle.node_store.specs.Edges.{child_of}
 use Rattle.node_store.specs.Diagram.{Node, answer, edges_of, level_of}

@@ -4,8 +4,8 @@ use Rattle.std.specs.List.{remove, AllByRecursion}
 use Rattle.std.proofs.lemmas.List.Elements.{recursion_from_All}
 use Rattle.std.proofs.lemmas.List.{length-map}
 use Rattle.field_boxes.specs.declared.rule.Rule as code
-use Rattle.field_boxes.specs.Classifier.{matches, source}
-use Rattle.field_boxes.specs.Fields.{stated, IsHeader}
+use Rattle.field_boxes.specs.Headline.Classifier.{matches, source}
+use Rattle.field_boxes.specs.Headline.Fields.{stated, IsHeader}
 use Rattle.field_boxes.specs.NamedRules.{IsNumberedBy, named_rule, named_rules}
 use Rattle.field_boxes.specs.Names.{AreDistinct, name_at}
 use Rattle.field_boxes.specs.Rules.{rule_of}

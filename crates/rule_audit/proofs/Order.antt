@@ -1,6 +1,7 @@
 -- The order of headers, and the values with which they begin.
 use Rattle.std.proofs.Common.{◌≡◌, ◌∷◌, ◌++◌, ℕ, List, [], ◌≤◌, ◌<◌, length, drop, refl, ap, arith, ◌∙◌, inl, inr, ◌⊎◌, suc}
-use Rattle.field_boxes.specs.Fields.{AreValues, ComesBefore}
+use Rattle.field_boxes.specs.Headline.Fields.{AreValues}
+use Rattle.field_boxes.specs.Fields.{ComesBefore}
 
 pub none_before : (h : List ℕ) → ComesBefore h [] → ⊥
 none_before [] b = b

@@ -1,7 +1,7 @@
 -- Parts of a list stay parts when the store grows.
 use Rattle.std.proofs.Common.{◌+◌, ◌/◌, ℕ, suc, List, ◌∙◌, length, take, drop}
 use Rattle.field_boxes.specs.declared.rule.Rule as code
-use Rattle.field_boxes.specs.Fields.{stated}
+use Rattle.field_boxes.specs.Headline.Fields.{stated}
 use Rattle.node_store.specs.declared.edge.NodeId.{NodeId}
 use Rattle.node_store.specs.Diagram.{Node}
 use Rattle.node_store.specs.Store.{Grows}

@@ -1,7 +1,7 @@
 -- Parts are made of their halves.
 use Rattle.std.proofs.Common.{◌≡◌, ◌/◌, ◌∙◌, ℕ, List, ap, sym, length, take, drop, take-append-drop}
 use Rattle.field_boxes.specs.declared.rule.Rule as code
-use Rattle.field_boxes.specs.Fields.{stated, IsHeader}
+use Rattle.field_boxes.specs.Headline.Fields.{stated, IsHeader}
 use Rattle.node_store.specs.declared.edge.NodeId.{NodeId}
 use Rattle.node_store.specs.Diagram.{Node, answer, level_of}
 use Rattle.fdd_build.specs.Rules.{decided}

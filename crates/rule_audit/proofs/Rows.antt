@@ -1,7 +1,8 @@
 -- Where the values of a field lead from many nodes at once.
 use Rattle.std.proofs.Common.{◌≡◌, ◌∷◌, ◌++◌, ◌≤◌, ◌<◌, ◌∙◌, ℕ, suc, List, [], true, length, drop, min, ap, sym, subst, arith, eqb-true}
 use Rattle.std.proofs.lemmas.List.Elements.{All-nil, All-push}
-use Rattle.field_boxes.specs.Fields.{stated, greatest_of, AreValues}
+use Rattle.field_boxes.specs.Headline.Fields.{stated, AreValues}
+use Rattle.field_boxes.specs.Fields.{greatest_of}
 use Rattle.node_store.specs.declared.edge.Edge.{Edge}
 use Rattle.node_store.specs.declared.edge.NodeId.{NodeId}
 use Rattle.node_store.specs.Diagram.{Node, answer, edges_of, level_of}

@@ -1,6 +1,7 @@
 -- Headers as values, by how many of their fields are read.
 use Rattle.std.proofs.Common.{◌≡◌, ◌<◌, ◌≤◌, ◌^◌, ◌∷◌, ◌++◌, ℕ, zero, suc, List, [], drop, take, length, get_or, refl, arith, subst}
-use Rattle.field_boxes.specs.Fields.{stated, width, greatest_of, AreValues, IsHeader}
+use Rattle.field_boxes.specs.Headline.Fields.{stated, width, AreValues, IsHeader}
+use Rattle.field_boxes.specs.Fields.{greatest_of}
 use Rattle.node_store.specs.Levels.{HasField, top_of}
 use Rattle.node_store.proofs.Stated.{has_field, top_is}
 

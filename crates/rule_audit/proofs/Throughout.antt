@@ -1,7 +1,7 @@
 -- Nodes that answer 0 everywhere, or something everywhere, by their children.
 use Rattle.std.proofs.Common.{◌≡◌, ◌∙◌, ℕ, List, Bool, true, false, get_or, sym, subst, All, nat_eq, eq-eqb, true≢false}
 use Rattle.std.proofs.lemmas.List.Elements.{All-contains}
-use Rattle.field_boxes.specs.Fields.{AreValues}
+use Rattle.field_boxes.specs.Headline.Fields.{AreValues}
 use Rattle.node_store.specs.declared.edge.Edge.{Edge}
 use Rattle.node_store.specs.declared.edge.NodeId.{NodeId}
 use Rattle.node_store.specs.Diagram.{Node, answer, edges_of, level_of}

@@ -1,6 +1,7 @@
 -- What a search for the least wanted values comes to.
 use Rattle.std.specs.Prelude.{◌≡◌, ℕ, Bool, true, false, List, take, drop}
-use Rattle.field_boxes.specs.Fields.{stated, AreValues, ComesBefore}
+use Rattle.field_boxes.specs.Headline.Fields.{stated, AreValues}
+use Rattle.field_boxes.specs.Fields.{ComesBefore}
 use Rattle.node_store.specs.Diagram.{Node}
 use Rattle.rule_audit.specs.declared.around.Around.{Around}
 use Rattle.rule_audit.specs.declared.seeking.Found.{Found}

@@ -1,8 +1,8 @@
 -- Labels of headers: the place of the first rule that matches, if it is open, and how the next one that matches decides.
 use Rattle.std.specs.Prelude.{ℕ, suc, ◌+◌, ◌-◌, ◌*◌, ◌/◌, ◌%◌, nat_eq, nat_lt, Bool, false, List, [], ◌∷◌, Option, Some, None, slice_index_or, if◌then◌else◌}
 use Rattle.field_boxes.specs.declared.rule.Rule as code
-use Rattle.field_boxes.specs.Classifier.{matches}
-use Rattle.field_boxes.specs.Fields.{stated}
+use Rattle.field_boxes.specs.Headline.Classifier.{matches}
+use Rattle.field_boxes.specs.Headline.Fields.{stated}
 use Rattle.field_boxes.specs.Rules.{rule_of}
 use Rattle.fdd_build.specs.Rules.{decided}
 use Rattle.rule_audit.specs.declared.label.Label.{Label}

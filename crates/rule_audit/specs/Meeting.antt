@@ -2,8 +2,9 @@
 use Rattle.std.specs.Prelude.{◌≡◌, ◌⊎◌, ℕ, zero, suc, ◌<◌, List, [], ◌∷◌, ◌++◌, length, nat_eq, Option, Some, None, slice_get, slice_index_or, Bool, true, if◌then◌else◌}
 use Rattle.field_boxes.specs.declared.header.Header.{Header}
 use Rattle.field_boxes.specs.declared.rule.Rule as code
-use Rattle.field_boxes.specs.Classifier.{matches}
-use Rattle.field_boxes.specs.Fields.{stated, IsHeader, AreValues, ComesBefore}
+use Rattle.field_boxes.specs.Headline.Classifier.{matches}
+use Rattle.field_boxes.specs.Headline.Fields.{stated, IsHeader, AreValues}
+use Rattle.field_boxes.specs.Fields.{ComesBefore}
 use Rattle.field_boxes.specs.Rules.{rule_of}
 use Rattle.fdd_build.specs.Rules.{decided}
 use Rattle.node_store.specs.Diagram.{Node, level_of, answer}

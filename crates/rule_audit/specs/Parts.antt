@@ -1,7 +1,7 @@
 -- The parts of a list: the whole, its halves, the halves of these, each with the diagram of what it decides.
 use Rattle.std.specs.Prelude.{◌≡◌, ◌≤◌, ◌/◌, ℕ, nat_eq, List, length, take, drop, if◌then◌else◌}
 use Rattle.field_boxes.specs.declared.rule.Rule as code
-use Rattle.field_boxes.specs.Fields.{stated, IsHeader}
+use Rattle.field_boxes.specs.Headline.Fields.{stated, IsHeader}
 use Rattle.node_store.specs.declared.edge.NodeId.{NodeId}
 use Rattle.node_store.specs.Diagram.{Node, level_of, answer}
 use Rattle.fdd_build.specs.Rules.{decided}

@@ -1,7 +1,7 @@
 -- The states that a short search tells.
 use Rattle.std.specs.Prelude.{◌≡◌, ℕ, ◌<◌, List, ◌++◌, length, Option, IfSome, slice_index_or}
 use Rattle.field_boxes.specs.declared.rule.Rule as code
-use Rattle.field_boxes.specs.Fields.{stated, IsHeader}
+use Rattle.field_boxes.specs.Headline.Fields.{stated, IsHeader}
 use Rattle.node_store.specs.Diagram.{Node}
 use Rattle.fdd_build.specs.Rules.{decided}
 use Rattle.rule_audit.specs.declared.around.Around.{Around}

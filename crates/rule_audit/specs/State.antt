@@ -1,8 +1,9 @@
 -- The states of the rules of a list: live, droppable, or never first.
 use Rattle.std.specs.Prelude.{◌≡◌, ◌≢◌, ℕ, ◌<◌, List, length, position, Some, slice_index_or}
 use Rattle.std.specs.List.{remove}
-use Rattle.field_boxes.specs.Classifier.{Rule, matches, source}
-use Rattle.field_boxes.specs.Fields.{stated, IsHeader, ComesBefore}
+use Rattle.field_boxes.specs.Headline.Classifier.{Rule, matches, source}
+use Rattle.field_boxes.specs.Headline.Fields.{stated, IsHeader}
+use Rattle.field_boxes.specs.Fields.{ComesBefore}
 use Rattle.rule_audit.specs.declared.state.RuleState.{RuleState}
 use Rattle.rule_audit.specs.declared.state.RuleState.TheVariants.{Live, Droppable, Never}
 

@@ -1,6 +1,7 @@
 -- Steps of a search: where the values of a field lead from many nodes at once.
 use Rattle.std.specs.Prelude.{◌≡◌, ◌≤◌, ℕ, suc, List, ◌∷◌, drop}
-use Rattle.field_boxes.specs.Fields.{stated, greatest_of, AreValues}
+use Rattle.field_boxes.specs.Headline.Fields.{stated, AreValues}
+use Rattle.field_boxes.specs.Fields.{greatest_of}
 use Rattle.node_store.specs.declared.edge.NodeId.{NodeId}
 use Rattle.node_store.specs.Diagram.{Node, level_of, answer}
 use Rattle.rule_audit.specs.declared.around.Around.{Around}

@@ -1,7 +1,7 @@
 //! The states of the rules of a list.
 ghost use Rattle.std.specs.Prelude.{◌≡◌, ◌≤◌, ◌<◌, ◌+◌, ◌*◌, ℕ, true, None, IfOk, length, vec_len, slice_index_or, map, is_none, unwrap_or};
 ghost use Rattle.razor_base.specs.declared.limits.TheConstants.{MOST_RULES};
-ghost use Rattle.field_boxes.specs.Fields.{stated, IsHeader};
+ghost use Rattle.field_boxes.specs.Headline.Fields.{stated, IsHeader};
 ghost use Rattle.node_store.specs.Diagram.{level_of};
 ghost use Rattle.field_boxes.specs.NamedRules.{named_rules};
 ghost use Rattle.rule_audit.specs.declared.state.RuleState.{RuleState};

@@ -1,6 +1,6 @@
 //! The diagram of the labels of a list, from the diagrams of its halves.
 ghost use Rattle.std.specs.Prelude.{◌≡◌, ◌≤◌, ◌<◌, ◌+◌, ℕ, List, [], ◌∷◌, true, IfOk, length};
-ghost use Rattle.field_boxes.specs.Fields.{IsHeader, stated};
+ghost use Rattle.field_boxes.specs.Headline.Fields.{IsHeader, stated};
 ghost use Rattle.node_store.specs.Diagram.{level_of, answer};
 ghost use Rattle.node_store.specs.Store.{Grows};
 ghost use Rattle.fdd_build.specs.Nothing.{AreZeros};

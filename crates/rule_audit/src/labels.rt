@@ -26,7 +26,7 @@ pub(crate) struct Labels<'a> {
 impl<'a> Labels<'a> {
     ghost use Rattle.std.specs.Prelude.{◌≡◌, ◌<◌, ◌≤◌, ◌+◌, ℕ, List, length, false, IfOk};
     ghost use Rattle.std.specs.Bool.{OnFalse};
-    ghost use Rattle.field_boxes.specs.Fields.{stated, AreValues};
+    ghost use Rattle.field_boxes.specs.Headline.Fields.{stated, AreValues};
     ghost use Rattle.node_store.specs.Diagram.{level_of, answer};
     ghost use Rattle.node_store.specs.Store.{Grows};
     ghost use Rattle.fdd_build.specs.Nothing.{AreZeros};

@@ -1,8 +1,9 @@
 //! The states of the rules of a list: which are needed, which may be left out, which are never reached.
 //!
-//! A rule is live if leaving it out alone changes what the list decides of some header. It is never first
-//! if no header has it as its first matching rule. Else it is droppable: the rules behind it decide alike
-//! wherever it is the first. [`audit`] gives the state of each rule, with the least header that shows it.
+//! A rule is live (needed) if leaving it out alone changes what the list decides of some header. It is never first
+//! (shadowed, or upward redundant) if no header has it as its first matching rule. Else it is droppable (downward
+//! redundant): some headers match it first, and the rules behind it decide them alike. [`audit`] gives the state of
+//! each rule, with the least header that shows it.
 //!
 //! ```text
 //! for (place, state) in audit(alloc, &list)?.iter().enumerate() {
@@ -14,14 +15,24 @@
 //! }
 //! ```
 //!
-//! The diagrams of the list and of its halves are built first. A short search over them finds the states of
-//! most rules, and gives up on some. For these open rules one more diagram is made, by the same halves, whose
-//! leaves say which open rule is the first that matches and how the next one that matches decides: a label.
-//! Elsewhere its leaves say what is decided, so a part of the list without open rules is shown by the diagram
-//! that stands. Then one walk in rising order goes through each node once, at the least header that leads to
-//! it, and meets each label at its least header.
+//! What is promised: [`audit`] gives as many states as rules, and each is that of its rule in the list as it stands. Of
+//! a live rule the header is the least one whose decision, by name or none, changes when the rule is left out alone.
+//! Leaving a droppable rule out alone changes nothing, and the header is the least one that has it as its first
+//! matching rule. A rule is never first exactly where no header has it as its first. `specs/State.antt` says it; it
+//! stands on rules and headers.
 //!
-//! `specs/State.antt` says what the states are.
+//! The diagrams of the list and of its halves are built first. A short search over them finds the states of most rules,
+//! and gives up on some. For these open rules one more diagram is made, by the same halves, whose leaves say which open
+//! rule is the first that matches and how the next one that matches decides: a label. Elsewhere its leaves say what is
+//! decided, so a part of the list without open rules is shown by the diagram that stands. Then one walk in rising order
+//! goes through each node once, at the least header that leads to it, and meets each label at its least header.
+//!
+//! | Room | Holds |
+//! |---|---|
+//! | `auditing`, `state` | the call, and the state of a rule |
+//! | `part`, `halving`, `over`, `nothing` | the diagrams of the parts of a list, and overlays of them |
+//! | `scout`, `seeking`, `telling`, `around`, `stepping`, `leaves`, `marks` | the short search |
+//! | `label`, `labels`, `meeting`, `headers` | labels of the open rules, and the walk that meets them |
 #![tactic(auto)]
 
 mod around;

@@ -19,7 +19,8 @@ pub(crate) struct Meeting<'a> {
 
 impl<'a> Meeting<'a> {
     ghost use Rattle.std.specs.Prelude.{◌≡◌, ◌<◌, ◌≤◌, ◌+◌, ◌++◌, ◌∷◌, ℕ, suc, List, [], length, take, drop, slice_index_or};
-    ghost use Rattle.field_boxes.specs.Fields.{stated, greatest_of, IsHeader};
+    ghost use Rattle.field_boxes.specs.Headline.Fields.{stated, IsHeader};
+    ghost use Rattle.field_boxes.specs.Fields.{greatest_of};
     ghost use Rattle.node_store.specs.Diagram.{level_of};
     ghost use Rattle.rule_audit.specs.declared.state.RuleState.{RuleState};
     ghost use Rattle.rule_audit.specs.declared.state.RuleState.TheVariants.{Never};

@@ -14,7 +14,7 @@ pub(crate) struct Over {
 
 impl Over {
     ghost use Rattle.std.specs.Prelude.{◌≡◌, ℕ, List, IfOk};
-    ghost use Rattle.field_boxes.specs.Fields.{stated, IsHeader};
+    ghost use Rattle.field_boxes.specs.Headline.Fields.{stated, IsHeader};
     ghost use Rattle.node_store.specs.Diagram.{level_of, answer};
     ghost use Rattle.node_store.specs.Store.{Grows};
     ghost use Rattle.fdd_build.specs.Nothing.{AreZeros};

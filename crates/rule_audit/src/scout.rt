@@ -4,7 +4,7 @@
 //! second halves of the parts whose first half does. So a few diagrams say for each header whether a rule before it
 //! matches, and what the first rule behind it decides that does.
 ghost use Rattle.std.specs.Prelude.{◌≡◌, ◌<◌, ℕ, length, vec_len, Option, IfOk, IfSome, slice_index_or};
-ghost use Rattle.field_boxes.specs.Fields.{IsHeader};
+ghost use Rattle.field_boxes.specs.Headline.Fields.{IsHeader};
 ghost use Rattle.rule_audit.specs.declared.state.RuleState.{RuleState};
 ghost use Rattle.rule_audit.specs.Joined.{AllDecide};
 ghost use Rattle.rule_audit.specs.Meeting.{IsStateSoFar, next_behind};

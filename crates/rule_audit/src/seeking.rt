@@ -50,7 +50,7 @@ pub(crate) struct Seeking {
 impl Seeking {
     ghost use Rattle.std.specs.Prelude.{◌≡◌, ◌≤◌, ◌<◌, true, false, length, drop, IfOk, slice_index_or};
     ghost use Rattle.std.specs.Bool.{OnTrue};
-    ghost use Rattle.field_boxes.specs.Fields.{stated};
+    ghost use Rattle.field_boxes.specs.Headline.Fields.{stated};
     ghost use Rattle.rule_audit.specs.Around.{AreAround};
     ghost use Rattle.rule_audit.specs.Found.{IsFound};
     ghost use Rattle.rule_audit.specs.Marks.{AreMarks, AreWithin, HasMarked};

@@ -16,7 +16,8 @@ struct Row {
 
 impl Seeking {
     ghost use Rattle.std.specs.Prelude.{◌≤◌, ◌<◌, true, length, drop, IfOk, OnOk};
-    ghost use Rattle.field_boxes.specs.Fields.{stated, greatest_of};
+    ghost use Rattle.field_boxes.specs.Headline.Fields.{stated};
+    ghost use Rattle.field_boxes.specs.Fields.{greatest_of};
     ghost use Rattle.rule_audit.specs.Around.{AreAround, StandAtLevel};
     ghost use Rattle.rule_audit.specs.Marks.{AreMarks};
     ghost use Rattle.rule_audit.specs.Steps.{GainsChild, IsRow, IsStep};

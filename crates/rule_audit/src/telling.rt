@@ -12,7 +12,7 @@ const MOST: u32 = 1000;
 
 impl Seeking {
     ghost use Rattle.std.specs.Prelude.{true, false, IfOk, IfSome};
-    ghost use Rattle.field_boxes.specs.Fields.{stated, IsHeader};
+    ghost use Rattle.field_boxes.specs.Headline.Fields.{stated, IsHeader};
     ghost use Rattle.rule_audit.specs.Around.{AreAround, shown_around};
     ghost use Rattle.rule_audit.specs.Found.{NoneIsWanted};
     ghost use Rattle.rule_audit.specs.Marks.{AreMarks};

@@ -4,8 +4,8 @@ use Rattle.std.specs.Prelude.{IfErr, IfOk, MatchResult, Result, Ok, Err}
 use Rattle.std.specs.List.{All, AllByRecursion}
 use Rattle.field_boxes.specs.Alike.{IsTight}
 use Rattle.field_boxes.specs.declared.rule.Rule as code
-use Rattle.field_boxes.specs.Fields.{AreValues, IsHeader, stated}
-use Rattle.field_boxes.specs.Classifier.{source}
+use Rattle.field_boxes.specs.Headline.Fields.{AreValues, IsHeader, stated}
+use Rattle.field_boxes.specs.Headline.Classifier.{source}
 use Rattle.field_boxes.specs.NamedRules.{IsNumberedBy, named_rules}
 use Rattle.field_boxes.specs.Names.{AreDistinct, name_at}
 use Rattle.ternary_words.specs.declared.entry.Entry.{Entry}
@@ -14,7 +14,7 @@ use Rattle.node_store.specs.Diagram.{Node, answer, level_of}
 use Rattle.node_store.specs.Store.{IsStore}
 use Rattle.fdd_build.specs.Rules.{decided}
 use Rattle.fdd_build.proofs.Decided.{named, within}
-use Rattle.table_compose.specs.LeastCost.{IsLeastCost}
+use Rattle.table_compose.specs.Headline.LeastCost.{IsLeastCost}
 use Rattle.table_compose.specs.Diagrams.{DecideAs, IsCostOf, NamesApart}
 use Rattle.table_compose.specs.Composed.{IsAnswer, IsRefusal}
 use Rattle.table_compose.specs.declared.composition.ComposeError.{ComposeError}

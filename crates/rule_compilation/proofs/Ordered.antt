@@ -1,8 +1,8 @@
 -- Rules decide a header's values alike in any order of the fields.
 use Rattle.std.proofs.Common.{◌≡◌, ◌∷◌, ℕ, List, [], Bool, cond, ap, refl, sym, ◌∙◌, Some}
 use Rattle.std.specs.Prelude.{◌&&◌, find, option_map, slice_index}
-use Rattle.field_boxes.specs.Classifier.{Rule, matches, set_holds, source}
-use Rattle.field_boxes.specs.Fields.{IsHeader, stated}
+use Rattle.field_boxes.specs.Headline.Classifier.{Rule, matches, set_holds, source}
+use Rattle.field_boxes.specs.Headline.Fields.{IsHeader, stated}
 use Rattle.field_boxes.specs.Orders.{IsOrder, picked}
 use Rattle.field_boxes.proofs.Orders.{any_order, of_all, picked_stated}
 

@@ -4,7 +4,7 @@ use Rattle.std.specs.Prelude.{All}
 use Rattle.std.proofs.lemmas.List.Elements.{All-cons, All-head, All-nil, All-tail}
 use Rattle.ternary_words.specs.declared.entry.Entry.{Entry}
 use Rattle.ternary_words.specs.Prefixes.{IsPrefixInEach}
-use Rattle.ternary_words.specs.Table as by_name
+use Rattle.ternary_words.specs.Headline.Table as by_name
 use Rattle.ternary_words.specs.Views.{entry_of, word_of}
 use Rattle.redundancy_laws.specs.Built.{ArePrefixes}
 

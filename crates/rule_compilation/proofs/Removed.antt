@@ -8,9 +8,9 @@ use Rattle.field_boxes.specs.Alike.{IsTight}
 use Rattle.field_boxes.specs.Names.{AreDistinct, name_at}
 use Rattle.ternary_words.specs.declared.entry.Entry as code
 use Rattle.ternary_words.specs.Limits.{AreNumbered}
-use Rattle.ternary_words.specs.Table.{Entry, answer, entry_matches}
+use Rattle.ternary_words.specs.Headline.Table.{Entry, answer, entry_matches}
 use Rattle.ternary_words.specs.Views.{entry_of, word_of}
-use Rattle.ternary_words.specs.Word.{agrees, header_bits}
+use Rattle.ternary_words.specs.Headline.Word.{agrees, header_bits}
 use Rattle.ternary_words.specs.Entries as numbers
 
 answer_step : (names : List (List ℕ)) (t : Bool) (e : code.Entry) (o : Option Entry) (n : ℕ) → option_and_then (λ x. x.decision) o ≡ name_at names n →

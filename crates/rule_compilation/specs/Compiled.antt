@@ -1,11 +1,11 @@
 -- The compiled table of a rule list, and why there is none.
 use Rattle.std.specs.Prelude.{◌≡◌, ℕ, ◌<◌, ◌≤◌, List, All, length}
 use Rattle.field_boxes.specs.Alike.{AreAlike, IsTight, source_of}
-use Rattle.field_boxes.specs.Classifier.{Rule}
-use Rattle.field_boxes.specs.Fields.{stated}
+use Rattle.field_boxes.specs.Headline.Classifier.{Rule}
+use Rattle.field_boxes.specs.Headline.Fields.{stated}
 use Rattle.ternary_words.specs.Prefixes.{IsPrefixInEach}
-use Rattle.ternary_words.specs.Table.{Table, answer}
-use Rattle.table_compose.specs.LeastCost.{IsLeastCost}
+use Rattle.ternary_words.specs.Headline.Table.{Table, answer}
+use Rattle.table_compose.specs.Headline.LeastCost.{IsLeastCost}
 use Rattle.table_compose.specs.declared.composition.ComposeError.{ComposeError}
 use Rattle.table_compose.specs.declared.composition.ComposeError.TheVariants.{TooMany, Memory}
 use Rattle.rule_compilation.specs.Pass.{IsKept}

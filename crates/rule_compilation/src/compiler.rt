@@ -1,7 +1,7 @@
 //! A compiler of lists one after another.
 ghost use Rattle.std.specs.Prelude.{◌≡◌, IfSome};
 ghost use Rattle.razor_base.specs.declared.limits.TheConstants.{MOST_ENTRIES};
-ghost use Rattle.field_boxes.specs.Fields.{stated};
+ghost use Rattle.field_boxes.specs.Headline.Fields.{stated};
 ghost use Rattle.redundancy.specs.Removal.{UnlessMemory};
 ghost use Rattle.rule_compilation.specs.Kept.{IsTrue};
 
@@ -27,7 +27,7 @@ pub struct Compiler {
 
 impl Model for Compiler {
     ghost use Rattle.std.specs.Prelude.{IfSome};
-    ghost use Rattle.field_boxes.specs.Fields.{stated};
+    ghost use Rattle.field_boxes.specs.Headline.Fields.{stated};
     ghost use Rattle.rule_compilation.specs.Kept.{IsTrue};
 
     ghost Value = { Unit {0} };
@@ -39,12 +39,12 @@ impl Model for Compiler {
 
 impl Compiler {
     ghost use Rattle.std.specs.Prelude.{◌≡◌, ◌≤◌, ℕ, All, IfOk, MatchResult};
-    ghost use Rattle.field_boxes.specs.Fields.{stated};
+    ghost use Rattle.field_boxes.specs.Headline.Fields.{stated};
     ghost use Rattle.field_boxes.specs.NamedRules.{IsNumberedBy, named_rules};
     ghost use Rattle.ternary_words.specs.Limits.{IsSlotWidth};
     ghost use Rattle.ternary_words.specs.Views.{table_of};
     ghost use Rattle.redundancy.specs.Removal.{UnlessMemory};
-    ghost use Rattle.table_compose.specs.LeastCost.{IsLeastCost};
+    ghost use Rattle.table_compose.specs.Headline.LeastCost.{IsLeastCost};
     ghost use Rattle.rule_compilation.specs.Compiled.{IsCompiled, IsRefused};
     ghost use Rattle.rule_compilation.specs.Kept.{IsTrue};
 

@@ -1,12 +1,12 @@
 //! The table of a rule list.
 ghost use Rattle.std.specs.Prelude.{◌≡◌, ◌≤◌, ℕ, All, IfOk, MatchResult};
 ghost use Rattle.razor_base.specs.declared.limits.TheConstants.{MOST_ENTRIES};
-ghost use Rattle.field_boxes.specs.Fields.{stated};
+ghost use Rattle.field_boxes.specs.Headline.Fields.{stated};
 ghost use Rattle.field_boxes.specs.NamedRules.{IsNumberedBy, named_rules};
 ghost use Rattle.ternary_words.specs.Limits.{IsSlotWidth};
 ghost use Rattle.ternary_words.specs.Views.{table_of};
 ghost use Rattle.field_boxes.specs.Orders.{IsOrder};
-ghost use Rattle.table_compose.specs.LeastCost.{IsLeastCost};
+ghost use Rattle.table_compose.specs.Headline.LeastCost.{IsLeastCost};
 ghost use Rattle.rule_compilation.specs.Compiled.{IsCompiled, IsCompiledIn, IsRefused, IsRefusedIn};
 ghost use Rattle.rule_compilation.specs.Entries.{AreEntriesOf};
 
@@ -16,7 +16,7 @@ use field_boxes::{Decisions, Rule};
 use node_store::{Store, stated_order};
 use redundancy_laws::laws::orders;
 use std::alloc::Global;
-use table_compose::laws::distinct_names_tell_apart;
+use table_compose::laws::{distinct_names_tell_apart, one_least_cost};
 use table_compose::{ComposeError, compose};
 use ternary_words::{Entry, Table};
 
@@ -72,7 +72,8 @@ pub fn compile_in(
 
 /// The table that is composed in the order, whole: as many entries as the least cost, of which many may be left out.
 ///
-/// Where the least cost is more than `limit`, no entry is made.
+/// Where the least cost is more than `limit`, no entry is made; any other refusal is one of memory. An entry decides the
+/// number of one of the names, or 0, which is nothing.
 pub fn compose_in(
     alloc: Global,
     order: &[u8],
@@ -82,12 +83,14 @@ pub fn compose_in(
 ) -> Result<Vec<Entry>, ComposeError>
     requires order { IsOrder order.now }
     requires numbered { All (IsNumberedBy names.now) rules.now }
-    ensures { MatchResult result
+    ensures entries { MatchResult result
         (λ entries. AreEntriesOf order.now names.now (named_rules names.now rules.now) entries.items)
         (λ e. IsRefusedIn order.now (named_rules names.now rules.now) limit e) }
+    ensures room { IfOk result (λ entries. (needed : ℕ) → IsLeastCost order.now (named_rules names.now rules.now) needed → needed ≤ limit) }
 {
     names.are_names();
     distinct_names_tell_apart();
+    one_least_cost();
     let mut store = Store::new(alloc);
     let root = build(alloc, &mut store, order, rules)?;
     store.same_answers();

@@ -35,7 +35,7 @@ impl<'a> Kept<'a> {
     ghost use Rattle.fdd_build.specs.Builders.{IsBuilderOf};
     ghost use Rattle.field_boxes.specs.Orders.{IsOrder};
     ghost use Rattle.redundancy.specs.Removal.{UnlessMemory};
-    ghost use Rattle.table_compose.specs.LeastCost.{IsLeastCost};
+    ghost use Rattle.table_compose.specs.Headline.LeastCost.{IsLeastCost};
     ghost use Rattle.rule_compilation.specs.Compiled.{IsCompiledIn, IsRefusedIn};
     ghost use Rattle.rule_compilation.specs.Entries.{AreTightOf};
     ghost use Rattle.rule_compilation.specs.Kept.{IsTrue};

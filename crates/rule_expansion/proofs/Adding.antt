@@ -5,10 +5,10 @@ use Rattle.std.specs.List.{flat_map}
 use Rattle.std.proofs.lemmas.List.{take_all, take_more, map-append}
 use Rattle.std.proofs.lemmas.Grind.{flat_map-append, take-set_at}
 use Rattle.field_boxes.specs.declared.prefix.Prefix.{Prefix}
-use Rattle.field_boxes.specs.Fields.{width, stated}
-use Rattle.field_boxes.specs.Prefix.{FitsWidth}
+use Rattle.field_boxes.specs.Headline.Fields.{width, stated}
+use Rattle.field_boxes.specs.Headline.Prefix.{FitsWidth}
 use Rattle.ternary_words.specs.Prefixes.{FitFields, fields_trits}
-use Rattle.ternary_words.specs.Word.{Trit}
+use Rattle.ternary_words.specs.Headline.Word.{Trit}
 use Rattle.rule_expansion.specs.Expansion.{combinations}
 use Rattle.rule_expansion.specs.Entries.{FitCovers, prefixes_of, with_words}
 use Rattle.rule_expansion.proofs.Combinations.{in_front}

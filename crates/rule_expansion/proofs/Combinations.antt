@@ -6,9 +6,9 @@ use Rattle.std.proofs.lemmas.List.{length-append, length-map}
 use Rattle.std.proofs.lemmas.List.Elements.{recursion_from_All}
 use Rattle.std.proofs.lemmas.List.Folds.{list_any-append}
 use Rattle.field_boxes.specs.declared.prefix.Prefix.{Prefix}
-use Rattle.field_boxes.specs.Fields.{width, AreValues}
-use Rattle.field_boxes.specs.Classifier.{Rule, set_holds, matches}
-use Rattle.field_boxes.specs.Prefix.{FitsWidth, prefix_holds}
+use Rattle.field_boxes.specs.Headline.Fields.{width, AreValues}
+use Rattle.field_boxes.specs.Headline.Classifier.{Rule, set_holds, matches}
+use Rattle.field_boxes.specs.Headline.Prefix.{FitsWidth, prefix_holds}
 use Rattle.range_prefix.specs.Cover.{IsShortestCover}
 use Rattle.range_prefix.specs.Shortest.{shortest_cover}
 use Rattle.ternary_words.specs.Prefixes.{FitFields, all_hold}

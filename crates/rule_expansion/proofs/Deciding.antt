@@ -6,11 +6,11 @@ use Rattle.std.proofs.lemmas.List.{length-map, length-append}
 use Rattle.std.proofs.lemmas.Simd.{map-map}
 use Rattle.std.proofs.lemmas.List.Sums.{sum_by-cons}
 use Rattle.field_boxes.specs.declared.prefix.Prefix.{Prefix}
-use Rattle.field_boxes.specs.Fields.{width, stated, IsHeader}
-use Rattle.field_boxes.specs.Classifier.{Rule, matches, source}
+use Rattle.field_boxes.specs.Headline.Fields.{width, stated, IsHeader}
+use Rattle.field_boxes.specs.Headline.Classifier.{Rule, matches, source}
 use Rattle.ternary_words.specs.Prefixes.{FitFields, fields_trits, all_hold}
-use Rattle.ternary_words.specs.Table.{Entry, entry_matches, answer}
-use Rattle.ternary_words.specs.Word.{agrees, header_bits}
+use Rattle.ternary_words.specs.Headline.Table.{Entry, entry_matches, answer}
+use Rattle.ternary_words.specs.Headline.Word.{agrees, header_bits}
 use Rattle.rule_expansion.specs.Expansion.{combinations, covers, product_of_lengths, rule_entries, rule_words, expansion, expanded_count}
 use Rattle.rule_expansion.proofs.Combinations.{HaveCovers, length-combinations, any_combination, fit_combinations}
 

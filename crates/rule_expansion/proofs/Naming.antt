@@ -8,14 +8,15 @@ use Rattle.std.proofs.lemmas.List.Sums.{sum_by-cons}
 use Rattle.std.proofs.lemmas.Simd.{map-map}
 use Rattle.std.proofs.lemmas.Option.{slice_get-get_or}
 use Rattle.field_boxes.specs.declared.rule.Rule as code
-use Rattle.field_boxes.specs.Classifier.{Rule}
-use Rattle.field_boxes.specs.Fields.{stated}
-use Rattle.field_boxes.specs.Names.{name_at, text_of}
+use Rattle.field_boxes.specs.Headline.Classifier.{Rule}
+use Rattle.field_boxes.specs.Headline.Fields.{stated}
+use Rattle.field_boxes.specs.Headline.Names.{text_of}
+use Rattle.field_boxes.specs.Names.{name_at}
 use Rattle.field_boxes.specs.NamedRules.{IsNumberedBy, named_rule, named_rules}
 use Rattle.field_boxes.specs.Rules.{rule_of}
 use Rattle.ternary_words.specs.declared.entry.Entry as code_entry
-use Rattle.ternary_words.specs.Table.{Entry}
-use Rattle.ternary_words.specs.Word.{Trit}
+use Rattle.ternary_words.specs.Headline.Table.{Entry}
+use Rattle.ternary_words.specs.Headline.Word.{Trit}
 use Rattle.rule_expansion.specs.Entries.{decided_of, AreEntriesOf}
 use Rattle.rule_expansion.specs.Expansion.{covers, decided_words, expansion, expanded_count, product_of_lengths, rule_entries, rule_words}
 use Rattle.rule_expansion.proofs.Deciding.{length-rule_words}

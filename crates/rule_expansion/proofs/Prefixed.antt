@@ -5,13 +5,13 @@ use Rattle.std.specs.List.{AllByRecursion}
 use Rattle.std.proofs.lemmas.List.Elements.{All-from_recursion}
 use Rattle.field_boxes.specs.declared.prefix.Prefix.{Prefix}
 use Rattle.field_boxes.specs.declared.rule.Rule as code
-use Rattle.field_boxes.specs.Classifier.{Rule}
-use Rattle.field_boxes.specs.Fields.{stated}
+use Rattle.field_boxes.specs.Headline.Classifier.{Rule}
+use Rattle.field_boxes.specs.Headline.Fields.{stated}
 use Rattle.field_boxes.specs.Rules.{rule_of}
 use Rattle.ternary_words.specs.declared.entry.Entry as code_entry
 use Rattle.ternary_words.specs.Prefixes.{FitFields, IsPrefixInEach, fields_trits}
 use Rattle.ternary_words.specs.Views.{word_of}
-use Rattle.ternary_words.specs.Word.{Trit}
+use Rattle.ternary_words.specs.Headline.Word.{Trit}
 use Rattle.rule_expansion.specs.Entries.{decided_of}
 use Rattle.rule_expansion.specs.Expansion.{combinations, covers, decided_words, rule_words}
 use Rattle.rule_expansion.proofs.Combinations.{AllByRecursion-append, HaveCovers, fit_combinations, long_combinations}

@@ -6,12 +6,12 @@ use Rattle.field_boxes.specs.Rules.{rule_of}
 use Rattle.ternary_words.specs.Limits.{AreNumbered}
 use Rattle.rule_expansion.specs.Expansion.{expansion, expanded_count}
 use Rattle.field_boxes.specs.declared.prefix.Prefix.{Prefix}
-use Rattle.field_boxes.specs.Fields.{width, stated}
-use Rattle.field_boxes.specs.Prefix.{FitsWidth}
+use Rattle.field_boxes.specs.Headline.Fields.{width, stated}
+use Rattle.field_boxes.specs.Headline.Prefix.{FitsWidth}
 use Rattle.ternary_words.specs.declared.entry.Entry.{Entry}
 use Rattle.ternary_words.specs.Prefixes.{fields_trits}
 use Rattle.ternary_words.specs.Views.{word_of, entry_of}
-use Rattle.ternary_words.specs.Word.{Trit}
+use Rattle.ternary_words.specs.Headline.Word.{Trit}
 
 -- an entry's word, and the number of its decision
 abbrev pub decided_of : Entry → List Trit × ℕ

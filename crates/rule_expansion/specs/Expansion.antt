@@ -3,12 +3,12 @@
 use Rattle.std.specs.Prelude.{ℕ, ◌*◌, List, [], ◌∷◌, Some, map, length}
 use Rattle.std.specs.List.{flat_map, sum_by}
 use Rattle.field_boxes.specs.declared.prefix.Prefix.{Prefix}
-use Rattle.field_boxes.specs.Fields.{width, stated}
-use Rattle.field_boxes.specs.Classifier.{Rule, set_holds}
+use Rattle.field_boxes.specs.Headline.Fields.{width, stated}
+use Rattle.field_boxes.specs.Headline.Classifier.{Rule, set_holds}
 use Rattle.range_prefix.specs.Shortest.{shortest_cover}
 use Rattle.ternary_words.specs.Prefixes.{fields_trits}
-use Rattle.ternary_words.specs.Table.{Entry}
-use Rattle.ternary_words.specs.Word.{Trit}
+use Rattle.ternary_words.specs.Headline.Table.{Entry}
+use Rattle.ternary_words.specs.Headline.Word.{Trit}
 
 -- the lists of one item of each of these lists, like the readings of an odometer: the first item changes slowest
 abbrev pub combinations : {A : Type 0} → List (List A) → List (List A)

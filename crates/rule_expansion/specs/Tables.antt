@@ -1,8 +1,8 @@
 -- The table of an expansion, and why there is none.
 use Rattle.std.specs.Prelude.{◌≡◌, ℕ, ◌<◌, List}
-use Rattle.field_boxes.specs.Classifier.{Rule, source}
-use Rattle.field_boxes.specs.Fields.{IsHeader, stated}
-use Rattle.ternary_words.specs.Table.{Table, answer}
+use Rattle.field_boxes.specs.Headline.Classifier.{Rule, source}
+use Rattle.field_boxes.specs.Headline.Fields.{IsHeader, stated}
+use Rattle.ternary_words.specs.Headline.Table.{Table, answer}
 use Rattle.rule_expansion.specs.declared.expanding.ExpandError.{ExpandError}
 use Rattle.rule_expansion.specs.declared.expanding.ExpandError.TheVariants.{TooMany, Memory}
 use Rattle.rule_expansion.specs.Expansion.{expansion, expanded_count}

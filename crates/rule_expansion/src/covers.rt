@@ -1,6 +1,6 @@
 //! The covers of a rule's five sets.
 ghost use Rattle.std.specs.Prelude.{◌≡◌, OnOk};
-ghost use Rattle.field_boxes.specs.Fields.{stated};
+ghost use Rattle.field_boxes.specs.Headline.Fields.{stated};
 ghost use Rattle.field_boxes.specs.Rules.{rule_of};
 ghost use Rattle.rule_expansion.specs.Entries.{FitCovers, prefixes_of};
 ghost use Rattle.rule_expansion.specs.Expansion.{covers};

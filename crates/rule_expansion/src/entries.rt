@@ -1,6 +1,6 @@
 //! The entries of rules that are expanded directly.
 ghost use Rattle.std.specs.Prelude.{◌≡◌, ◌≤◌, ◌-◌, ◌∷◌, [], ◌++◌, IfOk, OnOk, length, map, drop, take};
-ghost use Rattle.field_boxes.specs.Fields.{stated};
+ghost use Rattle.field_boxes.specs.Headline.Fields.{stated};
 ghost use Rattle.field_boxes.specs.Rules.{rule_of};
 ghost use Rattle.ternary_words.specs.Prefixes.{FitFields, fields_trits};
 ghost use Rattle.rule_expansion.specs.Expansion.{combinations, decided_words};

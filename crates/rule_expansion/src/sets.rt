@@ -1,8 +1,8 @@
 //! The cover of one set of a rule.
 ghost use Rattle.std.specs.Prelude.{◌≡◌, ◌<◌, ◌≤◌, length, All, OnOk};
-ghost use Rattle.field_boxes.specs.Classifier.{set_holds};
-ghost use Rattle.field_boxes.specs.Fields.{width};
-ghost use Rattle.field_boxes.specs.Prefix.{FitsWidth};
+ghost use Rattle.field_boxes.specs.Headline.Classifier.{set_holds};
+ghost use Rattle.field_boxes.specs.Headline.Fields.{width};
+ghost use Rattle.field_boxes.specs.Headline.Prefix.{FitsWidth};
 ghost use Rattle.field_boxes.specs.Rules.{rule_of};
 ghost use Rattle.range_prefix.specs.Shortest.{shortest_cover};
 

@@ -5,7 +5,7 @@ use Rattle.std.proofs.lemmas.List.{drop-drop, drop_all, length-append, map-appen
 use Rattle.std.proofs.lemmas.List.Elements.{All-append}
 use Rattle.field_boxes.specs.declared.rule.Rule as code
 use Rattle.field_boxes.specs.Alike.{AreAlike}
-use Rattle.field_boxes.specs.Classifier.{Rule}
+use Rattle.field_boxes.specs.Headline.Classifier.{Rule}
 use Rattle.field_boxes.specs.Rules.{rule_of}
 use Rattle.ternary_words.specs.declared.entry.Entry.{Entry}
 use Rattle.ternary_words.specs.Entries.{IsPart, answer, entry_matches}

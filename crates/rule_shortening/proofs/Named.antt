@@ -3,12 +3,12 @@ use Rattle.std.proofs.Common.{◌≡◌, ◌≤◌, ◌∙◌, ℕ, List, length
 use Rattle.std.proofs.lemmas.List.{length-map}
 use Rattle.field_boxes.specs.declared.rule.Rule as code
 use Rattle.field_boxes.specs.Alike.{AreAlike, source_of}
-use Rattle.field_boxes.specs.Classifier.{Rule, source}
-use Rattle.field_boxes.specs.Fields.{IsHeader, stated}
+use Rattle.field_boxes.specs.Headline.Classifier.{Rule, source}
+use Rattle.field_boxes.specs.Headline.Fields.{IsHeader, stated}
 use Rattle.field_boxes.specs.Names.{AreDistinct, name_at}
 use Rattle.field_boxes.specs.NamedRules.{named_rules}
 use Rattle.ternary_words.specs.declared.entry.Entry.{Entry}
-use Rattle.ternary_words.specs.Table as tables
+use Rattle.ternary_words.specs.Headline.Table as tables
 use Rattle.ternary_words.specs.Views.{entry_of}
 use Rattle.rule_compilation.proofs.Prefixed.{named_prefixes}
 use Rattle.rule_compilation.proofs.Removed.{answer_named, tight_named}

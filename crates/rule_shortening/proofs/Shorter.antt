@@ -1,8 +1,8 @@
 -- The shorter of two tables.
 use Rattle.std.proofs.Common.{◌≡◌, ◌≤◌, ◌<◌, ℕ, List, length, arith, refl, subst, sym}
-use Rattle.field_boxes.specs.Classifier.{Rule}
-use Rattle.ternary_words.specs.Table.{Table}
-use Rattle.table_compose.specs.LeastCost.{IsLeastCost}
+use Rattle.field_boxes.specs.Headline.Classifier.{Rule}
+use Rattle.ternary_words.specs.Headline.Table.{Table}
+use Rattle.table_compose.specs.Headline.LeastCost.{IsLeastCost}
 use Rattle.rule_compilation.specs.Compiled.{IsCompiledIn}
 use Rattle.rule_expansion.specs.Expansion.{expanded_count}
 use Rattle.rule_shortening.specs.Shortened.{IsShortTable, IsShortTableIn}

@@ -1,11 +1,11 @@
 -- The short table of a rule list, and why there is none.
 use Rattle.std.specs.Prelude.{◌≡◌, ℕ, ◌<◌, ◌≤◌, min, List, All, length}
 use Rattle.field_boxes.specs.Alike.{AreAlike, IsTight, source_of}
-use Rattle.field_boxes.specs.Classifier.{Rule}
+use Rattle.field_boxes.specs.Headline.Classifier.{Rule}
 use Rattle.ternary_words.specs.Prefixes.{IsPrefixInEach}
-use Rattle.ternary_words.specs.Table.{Table, answer}
+use Rattle.ternary_words.specs.Headline.Table.{Table, answer}
 use Rattle.rule_expansion.specs.Expansion.{expanded_count}
-use Rattle.table_compose.specs.LeastCost.{IsLeastCost}
+use Rattle.table_compose.specs.Headline.LeastCost.{IsLeastCost}
 use Rattle.rule_shortening.specs.declared.refusal.ShortenError.{ShortenError}
 use Rattle.rule_shortening.specs.declared.refusal.ShortenError.TheVariants.{TooMany, Memory}
 

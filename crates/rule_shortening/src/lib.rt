@@ -1,18 +1,34 @@
 //! Short tables of rule lists, by a search whose results are checked.
 //!
 //! [`shorten`] makes a table that decides every header as the rules do. It begins with the direct expansion, and has a
-//! search make it shorter (`table_search`), of which nothing is promised: a table that the search finds is taken only where covers
-//! show that it answers every header as the one before (`table_steps`). At the end [`trim`] takes out what is redundant, so that
-//! each entry is needed.
+//! search make it shorter (`table_search`), of which nothing is promised: a table that the search finds is taken only
+//! where covers show that it answers every header as the one before (`table_steps`). At the end [`trim`] takes out what
+//! is redundant, so that each entry is needed.
 //!
 //! ```text
 //! let table = shorten(alloc, &list.rules, &list.names, 262_144, 144)?;
 //! ```
 //!
-//! [`shorten_in`] also compiles the rules in an order of the fields, and gives the shorter table of both.
+//! What is promised, whatever the search finds:
 //!
-//! A rule with many entries (a wide range on both ports has 900) is shortened at once, in front of the entries of the rules
-//! behind it. So a list whose direct expansion is far above the limit mostly gets its table all the same.
+//! - [`shorten`]: the table's first matching entry gives every header the decision of the first matching rule, by name,
+//!   or none where none matches. Its words are prefixes in each field, none of its entries can be left out alone, it
+//!   has at most as many as the direct expansion and as the limit, and `composed` is their number. It is refused only
+//!   where the expansion is above the limit, and says how many entries that has, or where it runs out of memory.
+//! - [`shorten_in`] also compiles the rules in an order of the fields, and gives the shorter table of both: it has at
+//!   most as many entries as the rules cost in that order, too. It is refused only where both are above the limit, and
+//!   says the lesser number.
+//! - [`trim`] gives a part of a table that answers every header alike and is irredundant.
+//!
+//! Left free: how short the table is. A rule with many entries (a wide range on both ports has 900) is shortened at
+//! once, in front of the entries of the rules behind it, so a list whose direct expansion is far above the limit mostly
+//! gets its table all the same; that is measured, and not proved.
+//!
+//! | Room | Holds |
+//! |---|---|
+//! | `shortening`, `ordered`, `refusal` | the calls, and why rules have no short table |
+//! | `draft`, `searching`, `checked` | entries for the last rules of a list, the search, and what it found, compared |
+//! | `trimming` | tables without their redundant entries |
 #![tactic(auto)]
 
 mod checked;

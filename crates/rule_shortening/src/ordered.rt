@@ -1,6 +1,6 @@
 //! The shorter of two tables: the one that is searched for, and the one that is composed in an order of the fields.
 ghost use Rattle.std.specs.Prelude.{◌≡◌, ◌≤◌, ◌<◌, ℕ, List, All, IfOk, MatchResult, length};
-ghost use Rattle.field_boxes.specs.Classifier as classifiers;
+ghost use Rattle.field_boxes.specs.Headline.Classifier as classifiers;
 ghost use Rattle.field_boxes.specs.NamedRules.{IsNumberedBy, named_rules};
 ghost use Rattle.field_boxes.specs.Orders.{IsOrder};
 ghost use Rattle.razor_base.specs.declared.limits.TheConstants.{MOST_ENTRIES, MOST_RULES};
@@ -8,7 +8,7 @@ ghost use Rattle.ternary_words.specs.Limits.{IsSlotWidth};
 ghost use Rattle.ternary_words.specs.Views.{table_of};
 ghost use Rattle.rule_compilation.specs.Compiled.{IsCompiledIn};
 ghost use Rattle.rule_shortening.specs.Shortened.{IsRefused, IsRefusedIn, IsShortTable, IsShortTableIn};
-ghost use Rattle.table_compose.specs.LeastCost.{IsLeastCost};
+ghost use Rattle.table_compose.specs.Headline.LeastCost.{IsLeastCost};
 
 use crate::refusal::ShortenError;
 use crate::shortening::shorten;

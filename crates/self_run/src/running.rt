@@ -3,11 +3,11 @@ ghost use Rattle.std.specs.Prelude.{◌≡◌, ◌≤◌, ◌<◌, ◌^◌, ℕ,
 ghost use Rattle.std.specs.List.{count_by};
 ghost use Rattle.std.specs.Str.{bytes_eq};
 ghost use Rattle.razor_base.specs.declared.limits.TheConstants.{MOST_RULES, MOST_ENTRIES};
-ghost use Rattle.field_boxes.specs.Fields.{stated};
-ghost use Rattle.field_boxes.specs.Names.{text_of};
+ghost use Rattle.field_boxes.specs.Headline.Fields.{stated};
+ghost use Rattle.field_boxes.specs.Headline.Names.{text_of};
 ghost use Rattle.list_generator.specs.DrawnRules.{generated};
 ghost use Rattle.rule_compilation.specs.Compiled.{IsRefused};
-ghost use Rattle.table_compose.specs.LeastCost.{IsLeastCost};
+ghost use Rattle.table_compose.specs.Headline.LeastCost.{IsLeastCost};
 ghost use Rattle.trace_run.specs.Answers.{HaveNames, answer_in};
 ghost use Rattle.self_run.specs.Counted.{AreCounts};
 ghost use Rattle.self_run.specs.Summaries.{IsSummary};

@@ -4,10 +4,11 @@ use Rattle.std.specs.Prelude.{IfSome}
 use Rattle.std.proofs.lemmas.Bool.{cases_eq}
 use Rattle.std.proofs.lemmas.Option.{slice_get-map}
 use Rattle.std.proofs.lemmas.List.Elements.{All-head, All-tail, All-nil, All-cons}
-use Rattle.field_boxes.specs.Names.{name_at, with_name, is_known, miss, text_of}
+use Rattle.field_boxes.specs.Headline.Names.{miss, text_of}
+use Rattle.field_boxes.specs.Names.{name_at, with_name, is_known}
 use Rattle.ternary_words.specs.Limits.{AreNumbered}
 use Rattle.ternary_words.specs.Views.{entry_of, word_of}
-use Rattle.ternary_words.specs.Table as words
+use Rattle.ternary_words.specs.Headline.Table as words
 use Rattle.ternary_words.specs.declared.entry.Entry.{Entry}
 use Rattle.ternary_words.specs.declared.word.Word.{Word}
 use Rattle.slot_patch.specs.Banks.{Bank, bank_of, table_in}

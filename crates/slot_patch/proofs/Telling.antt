@@ -2,10 +2,9 @@
 use Rattle.std.proofs.Common.{◌≡◌, ◌<◌, ◌^◌, ◌&&◌, nat_eq, ℕ, true, map, ap, sym, ◌∙◌, arith, eq-eqb}
 use Rattle.std.proofs.lemmas.Bool.{and_from, and_parts, eqb-true}
 use Rattle.std.proofs.lemmas.Nat.{and_le_r}
-use Rattle.field_boxes.specs.Bits.{bits}
-use Rattle.ternary_words.specs.TableText.{mask_bit, value_bit}
+use Rattle.field_boxes.specs.Headline.Bits.{bits}
 use Rattle.ternary_words.specs.Views.{word_of}
-use Rattle.ternary_words.specs.Word.{trits}
+use Rattle.ternary_words.specs.Word.{trits, mask_bit, value_bit}
 use Rattle.ternary_words.specs.declared.entry.Entry.{Entry}
 use Rattle.ternary_words.specs.declared.word.Word.{Word}
 use Rattle.ternary_words.proofs.Columns.{mask-bits, value-bits}

@@ -2,9 +2,9 @@
 use Rattle.std.specs.Prelude.{◌≡◌, ◌≢◌, ◌⊎◌, ℕ, suc, ◌+◌, ◌*◌, ◌≤◌, ◌<◌, ◌++◌, List, length, map, slice_index, Option, Some, None, IfSome}
 use Rattle.std.specs.List.{AllZip}
 use Rattle.field_boxes.specs.Names.{name_at}
-use Rattle.field_boxes.specs.Names.{text_of}
+use Rattle.field_boxes.specs.Headline.Names.{text_of}
 use Rattle.ternary_words.specs.Limits.{AreNumbered}
-use Rattle.ternary_words.specs.Table.{answer}
+use Rattle.ternary_words.specs.Headline.Table.{answer}
 use Rattle.ternary_words.specs.Views.{entry_of}
 use Rattle.ternary_words.specs.declared.entry.Entry.{Entry}
 use Rattle.ternary_words.specs.declared.table.Table.{Table}

@@ -12,7 +12,7 @@ use ternary_words::{Entry, Table};
 
 /// The names of decisions, numbered from 1 in the order in which they were first seen; 0 is no decision.
 #[derive(Drop)]
-pub(crate) struct Names {
+pub struct Names {
     alloc: Global,
     names: IndexSet<String>,
 }
@@ -32,11 +32,12 @@ impl Names {
     ghost use Rattle.std.specs.Prelude.{◌≡◌, ◌≤◌, [], Some, length, map, IfOk, OnOk, OnErr};
     ghost use Rattle.ternary_words.specs.Limits.{AreNumbered};
     ghost use Rattle.ternary_words.specs.Views.{entry_of};
-    ghost use Rattle.field_boxes.specs.Names.{name_at, text_of, with_name};
+    ghost use Rattle.field_boxes.specs.Headline.Names.{text_of};
+    ghost use Rattle.field_boxes.specs.Names.{name_at, with_name};
     ghost use Rattle.slot_patch.specs.Naming.{AreNumbersOf, Grow, HaveWordsOf};
 
     /// No name.
-    pub(crate) fn new(alloc: Global) -> Names
+    pub fn new(alloc: Global) -> Names
         ensures { result ≡ [] }
     {
         Names {
@@ -46,7 +47,7 @@ impl Names {
     }
 
     /// The number of the name: its own where it is there, and the next one for a new name. There is no memory for 2^32 names.
-    fn number(&mut self, name: &str) -> Result<u32, Memory>
+    pub fn number(&mut self, name: &str) -> Result<u32, Memory>
         ensures names { OnOk result (self.new ≡ with_name self.old name.now) }
         ensures number { IfOk result (λ n. name_at self.new n ≡ Some name.now) }
         ensures within { IfOk result (λ n. n ≤ length self.new) }
@@ -89,7 +90,7 @@ impl Names {
     }
 
     /// The text of the decision with the number: `miss` where it has none.
-    pub(crate) fn name(&self, number: u32) -> &str
+    pub fn name(&self, number: u32) -> &str
         ensures { result.now ≡ text_of (name_at self.now number) }
     {
         if number == 0 {

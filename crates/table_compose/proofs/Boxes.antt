@@ -7,9 +7,9 @@ use Rattle.std.proofs.lemmas.List.{length-append, length-map}
 use Rattle.std.proofs.lemmas.List.Elements.{All-nil, All-cons, All-append, All-map, All-head, All-tail}
 use Rattle.std.proofs.lemmas.List.Sums.{sum_by-cons}
 use Rattle.field_boxes.specs.declared.prefix.Prefix.{Prefix}
-use Rattle.field_boxes.specs.Fields.{width, AreValues}
+use Rattle.field_boxes.specs.Headline.Fields.{width, AreValues}
 use Rattle.node_store.specs.Levels.{HasField, IsLevel, next}
-use Rattle.field_boxes.specs.Prefix.{prefix_holds}
+use Rattle.field_boxes.specs.Headline.Prefix.{prefix_holds}
 use Rattle.ternary_words.specs.Prefixes.{all_hold}
 use Rattle.node_store.specs.Edges.{child_of}
 use Rattle.node_store.specs.Diagram.{Node, level_of, edges_of, answer}

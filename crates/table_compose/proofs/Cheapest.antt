@@ -2,11 +2,12 @@
 use Rattle.std.proofs.Common.{◌≡◌, ◌∷◌, ℕ, List, ◌<◌, ◌≤◌, ◌^◌, ap, sym, ◌∙◌, subst}
 use Rattle.std.specs.Prelude.{slice_index, slice_index_or}
 use Rattle.std.specs.List.{All}
-use Rattle.field_boxes.specs.Fields.{width}
-use Rattle.field_boxes.specs.Classifier.{Rule, residue}
+use Rattle.field_boxes.specs.Headline.Fields.{width}
+use Rattle.field_boxes.specs.Headline.Classifier.{Rule, residue}
 use Rattle.prefix_min.specs.declared.row.PrefixRow.{PrefixRow}
 use Rattle.prefix_min.specs.PrefixList.{IsRight, weight}
-use Rattle.table_compose.specs.LeastCost.{Choice, IsPlan, IsLeastCost, plan_cost}
+use Rattle.table_compose.specs.Headline.LeastCost.{Choice, IsPlan, IsLeastCost}
+use Rattle.table_compose.specs.Choices.{plan_cost}
 use Rattle.table_compose.proofs.OneCost.{cost-unique}
 use Rattle.table_compose.proofs.Choices.{LabelsResidues, IsTaken, rows_of, weight-rows, right-rows, plan-rows, planned}
 

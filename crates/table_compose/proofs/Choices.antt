@@ -5,12 +5,13 @@ use Rattle.std.specs.List.{All}
 use Rattle.std.proofs.lemmas.Option.{none-some, same_Some}
 use Rattle.std.proofs.lemmas.List.Elements.{All-nil, All-cons, All-head, All-tail, All-map}
 use Rattle.std.proofs.lemmas.List.Sums.{sum_by-cons}
-use Rattle.field_boxes.specs.Fields.{width}
-use Rattle.field_boxes.specs.Prefix.{FitsWidth, prefix_holds}
-use Rattle.field_boxes.specs.Classifier.{Rule, residue}
+use Rattle.field_boxes.specs.Headline.Fields.{width}
+use Rattle.field_boxes.specs.Headline.Prefix.{FitsWidth, prefix_holds}
+use Rattle.field_boxes.specs.Headline.Classifier.{Rule, residue}
 use Rattle.prefix_min.specs.declared.row.PrefixRow.{PrefixRow}
 use Rattle.prefix_min.specs.PrefixList.{front, IsRight, weight}
-use Rattle.table_compose.specs.LeastCost.{AreAlike, Choice, first_choice, IsPlan, plan_cost}
+use Rattle.table_compose.specs.Headline.LeastCost.{Choice, IsPlan}
+use Rattle.table_compose.specs.Choices.{AreAlike, first_choice, plan_cost}
 
 found_step : {X : Type 0} (P : X → Type 0) (t : Bool) (x y : X) (rest : Option X) → P y → (rest ≡ Some x → P x) → cond t (Some y) rest ≡ Some x → P x
 found_step P true x y rest p k e = subst P (same_Some y x e) p

@@ -2,10 +2,11 @@
 use Rattle.std.proofs.Common.{◌≡◌, ◌∷◌, ℕ, zero, suc, List, [], ◌<◌, ◌≤◌, ◌^◌, arith, refl, sym, subst}
 use Rattle.std.specs.List.{All}
 use Rattle.std.proofs.lemmas.Nat.{pow-add}
-use Rattle.field_boxes.specs.Fields.{width}
-use Rattle.field_boxes.specs.Prefix.{prefix_holds}
-use Rattle.field_boxes.specs.Classifier.{Rule, residue}
-use Rattle.table_compose.specs.LeastCost.{Choice, IsPlan, IsLeastCost, AreAlike}
+use Rattle.field_boxes.specs.Headline.Fields.{width}
+use Rattle.field_boxes.specs.Headline.Prefix.{prefix_holds}
+use Rattle.field_boxes.specs.Headline.Classifier.{Rule, residue}
+use Rattle.table_compose.specs.Headline.LeastCost.{Choice, IsPlan, IsLeastCost}
+use Rattle.table_compose.specs.Choices.{AreAlike}
 use Rattle.node_store.specs.Levels.{bits_of}
 use Rattle.table_compose.proofs.OneCost.{alike-cost, alike-sym}
 use Rattle.table_compose.proofs.Choices.{All-found}

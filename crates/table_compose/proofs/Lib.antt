@@ -3,6 +3,10 @@ pub mod Choices
 pub mod Singles
 pub mod FewHeaders
 pub mod Cheapest
+pub mod Told
+pub mod ClassLabels
+pub mod PartLists
+pub mod Existing
 pub mod Labelled
 pub mod Children
 pub mod NodeCost

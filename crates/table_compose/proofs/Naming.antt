@@ -4,8 +4,8 @@ use Rattle.std.specs.Prelude.{cond, find, Option, Some, option_and_then, option_
 use Rattle.std.proofs.lemmas.Option.{none-some, same_Some}
 use Rattle.field_boxes.specs.Names.{name_at}
 use Rattle.ternary_words.specs.declared.entry.Entry as code
-use Rattle.ternary_words.specs.Word.{agrees, header_bits}
-use Rattle.ternary_words.specs.Table.{Entry, answer, entry_matches}
+use Rattle.ternary_words.specs.Headline.Word.{agrees, header_bits}
+use Rattle.ternary_words.specs.Headline.Table.{Entry, answer, entry_matches}
 use Rattle.ternary_words.specs.Views.{word_of, entry_of}
 use Rattle.table_compose.specs.Composed.{decided}
 

@@ -6,9 +6,10 @@ use Rattle.std.specs.List.{All}
 use Rattle.std.proofs.lemmas.Option.{none-some, same_Some, slice_get-get_or}
 use Rattle.std.proofs.lemmas.List.Elements.{All-weaker}
 use Rattle.std.proofs.lemmas.List.{length-map}
-use Rattle.field_boxes.specs.Fields.{width, greatest_of}
+use Rattle.field_boxes.specs.Headline.Fields.{width}
+use Rattle.field_boxes.specs.Fields.{greatest_of}
 use Rattle.node_store.specs.Levels.{HasField, next, top_of}
-use Rattle.field_boxes.specs.Classifier.{Rule, residue}
+use Rattle.field_boxes.specs.Headline.Classifier.{Rule, residue}
 use Rattle.field_boxes.proofs.Residues.{source-residue}
 use Rattle.node_store.specs.declared.edge.NodeId.{NodeId}
 use Rattle.node_store.specs.Edges.{AreFull, child_of}
@@ -20,7 +21,8 @@ use Rattle.prefix_min.specs.declared.piece.Piece.{Piece}
 use Rattle.prefix_min.specs.declared.row.PrefixRow.{PrefixRow}
 use Rattle.prefix_min.specs.Pieces.{label_at}
 use Rattle.prefix_min.specs.PrefixList.{IsRight, weight}
-use Rattle.table_compose.specs.LeastCost.{AreAlike, IsLeastCost}
+use Rattle.table_compose.specs.Headline.LeastCost.{IsLeastCost}
+use Rattle.table_compose.specs.Choices.{AreAlike}
 use Rattle.table_compose.specs.Diagrams.{DecideAs, NamesApart, IsCostOf}
 use Rattle.table_compose.specs.Labels.{children_of, ArePieces}
 use Rattle.table_compose.proofs.Choices.{LabelsResidues, IsTaken}

@@ -1,10 +1,11 @@
 -- A list has one least cost, and lists that decide alike have the same.
 use Rattle.std.proofs.Common.{◌≡◌, ◌∷◌, ℕ, List, [], ◌<◌, ◌^◌, sym, ◌∙◌, arith}
 use Rattle.std.specs.Prelude.{slice_index_or}
-use Rattle.field_boxes.specs.Fields.{width}
-use Rattle.field_boxes.specs.Classifier.{Rule, residue}
+use Rattle.field_boxes.specs.Headline.Fields.{width}
+use Rattle.field_boxes.specs.Headline.Classifier.{Rule, residue}
 use Rattle.field_boxes.proofs.Residues.{source-residue}
-use Rattle.table_compose.specs.LeastCost.{AreAlike, IsPlan, IsLeastCost}
+use Rattle.table_compose.specs.Headline.LeastCost.{IsPlan, IsLeastCost}
+use Rattle.table_compose.specs.Choices.{AreAlike}
 
 pub cost-unique : {A : Type 0} (fields : List ℕ) (R : List (Rule A)) (m n : ℕ) → IsLeastCost fields R m → IsLeastCost fields R n → m ≡ n
 unfolding IsLeastCost
@@ -15,11 +16,11 @@ cost-unique (f ∷ fields) R m n c d =
 pub alike-sym : {A : Type 0} (fields : List ℕ) (R S : List (Rule A)) → AreAlike fields R S → AreAlike fields S R
 alike-sym fields R S h values ok = sym (h values ok)
 
-alike-trans : {A : Type 0} (fields : List ℕ) (R S T : List (Rule A)) → AreAlike fields R S → AreAlike fields S T → AreAlike fields R T
+pub alike-trans : {A : Type 0} (fields : List ℕ) (R S T : List (Rule A)) → AreAlike fields R S → AreAlike fields S T → AreAlike fields R T
 alike-trans fields R S T h k values ok = h values ok ∙ k values ok
 
 -- residues of alike lists at one value are alike over the fields that are left
-alike-residue : {A : Type 0} (f : ℕ) (fields : List ℕ) (R S : List (Rule A)) → AreAlike (f ∷ fields) R S →
+pub alike-residue : {A : Type 0} (f : ℕ) (fields : List ℕ) (R S : List (Rule A)) → AreAlike (f ∷ fields) R S →
     (v : ℕ) → v < 2 ^ width f → AreAlike fields (residue f v R) (residue f v S)
 alike-residue f fields R S h v small values ok =
     sym (source-residue f v fields values R) ∙ h (v ∷ values) (small, ok) ∙ source-residue f v fields values S

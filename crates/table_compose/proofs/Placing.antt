@@ -8,8 +8,8 @@ use Rattle.std.proofs.Math.Bool.{and-true}
 use Rattle.std.proofs.Math.Nat.{div-eq_of_lt}
 use Rattle.node_store.proofs.Values.{count}
 use Rattle.field_boxes.specs.declared.prefix.Prefix.{Prefix}
-use Rattle.field_boxes.specs.Fields.{width, stated, AreValues, IsHeader}
-use Rattle.field_boxes.specs.Prefix.{prefix_holds}
+use Rattle.field_boxes.specs.Headline.Fields.{width, stated, AreValues, IsHeader}
+use Rattle.field_boxes.specs.Headline.Prefix.{prefix_holds}
 use Rattle.ternary_words.specs.Prefixes.{all_hold}
 use Rattle.node_store.specs.Levels.{IsLevel}
 use Rattle.table_compose.specs.Composed.{placed, open_all}

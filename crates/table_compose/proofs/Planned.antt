@@ -11,8 +11,9 @@ use Rattle.std.proofs.Math.Seq.{take-suc}
 use Rattle.std.proofs.lemmas.List.Elements.{All-head, All-tail, All-map, All-weaker}
 use Rattle.std.proofs.lemmas.List.Sums.{sum_by-cons}
 use Rattle.std.proofs.Math.Pow.{pow_mono}
-use Rattle.field_boxes.specs.Fields.{width, greatest_of}
-use Rattle.field_boxes.specs.Prefix.{FitsWidth, prefix_holds}
+use Rattle.field_boxes.specs.Headline.Fields.{width}
+use Rattle.field_boxes.specs.Fields.{greatest_of}
+use Rattle.field_boxes.specs.Headline.Prefix.{FitsWidth, prefix_holds}
 use Rattle.node_store.specs.declared.edge.NodeId.{NodeId}
 use Rattle.node_store.specs.declared.edge.Edge.{Edge}
 use Rattle.node_store.specs.Edges.{AreFull, child_of}
@@ -24,7 +25,7 @@ use Rattle.prefix_min.specs.declared.row.PrefixRow.{PrefixRow}
 use Rattle.prefix_min.specs.Pieces.{Follow, reach, label_at, weight_from}
 use Rattle.prefix_min.specs.PrefixList.{IsRight, front, weight}
 use Rattle.prefix_min.specs.Order.{ComesBefore, InOrder}
-use Rattle.table_compose.specs.LeastCost.{Choice}
+use Rattle.table_compose.specs.Headline.LeastCost.{Choice}
 use Rattle.node_store.specs.Levels.{HasField, next, top_of, bits_of}
 use Rattle.table_compose.specs.Diagrams.{IsCostOf}
 use Rattle.table_compose.specs.Labels.{children_of, ArePieces}

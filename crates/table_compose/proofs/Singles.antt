@@ -6,8 +6,9 @@ use Rattle.std.specs.List.{All}
 use Rattle.std.proofs.lemmas.Bool.Decides.{eqb_tells}
 use Rattle.std.proofs.lemmas.List.Elements.{All-nil, All-cons}
 use Rattle.std.proofs.lemmas.List.Sums.{sum_by-cons}
-use Rattle.field_boxes.specs.Prefix.{FitsWidth, prefix_holds}
-use Rattle.table_compose.specs.LeastCost.{Choice, first_choice, plan_cost}
+use Rattle.field_boxes.specs.Headline.Prefix.{FitsWidth, prefix_holds}
+use Rattle.table_compose.specs.Headline.LeastCost.{Choice}
+use Rattle.table_compose.specs.Choices.{first_choice, plan_cost}
 
 single : ℕ → ℕ → ℕ → Choice
 single w v cost = record { prefix = record { value = v; len = w }; value = v; cost = cost }

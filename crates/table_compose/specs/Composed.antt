@@ -2,10 +2,10 @@
 use Rattle.std.specs.Prelude.{◌≡◌, ℕ, ◌<◌, List, [], ◌∷◌, ◌++◌, Option, All, find, length, map, option_map, slice_set, slice_index, ◌≢◌}
 use Rattle.std.specs.List.{AllZip, flat_map}
 use Rattle.field_boxes.specs.declared.prefix.Prefix.{Prefix}
-use Rattle.field_boxes.specs.Fields.{stated, AreValues, IsHeader}
+use Rattle.field_boxes.specs.Headline.Fields.{stated, AreValues, IsHeader}
 use Rattle.ternary_words.specs.declared.entry.Entry.{Entry}
 use Rattle.ternary_words.specs.declared.word.Word.{Word}
-use Rattle.ternary_words.specs.Word.{agrees, header_bits}
+use Rattle.ternary_words.specs.Headline.Word.{agrees, header_bits}
 use Rattle.ternary_words.specs.Prefixes.{FitFields, all_hold, fields_trits}
 use Rattle.ternary_words.specs.Views.{word_of}
 use Rattle.node_store.specs.Diagram.{Node, answer}

@@ -1,9 +1,9 @@
 -- What it takes to answer as a diagram: the least cost of the rule lists that do.
 use Rattle.std.specs.Prelude.{◌≡◌, ℕ, List, Option}
-use Rattle.field_boxes.specs.Fields.{AreValues}
-use Rattle.field_boxes.specs.Classifier.{Rule, source}
+use Rattle.field_boxes.specs.Headline.Fields.{AreValues}
+use Rattle.field_boxes.specs.Headline.Classifier.{Rule, source}
 use Rattle.node_store.specs.Diagram.{Node, answer}
-use Rattle.table_compose.specs.LeastCost.{IsLeastCost}
+use Rattle.table_compose.specs.Headline.LeastCost.{IsLeastCost}
 
 -- the rules decide at all values of these fields what the node answers, by name
 abbrev pub DecideAs : List Node → List ℕ → ℕ → (ℕ → Option (List ℕ)) → List (Rule (List ℕ)) → Type 0

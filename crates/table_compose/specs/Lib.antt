@@ -1,4 +1,5 @@
-pub mod LeastCost
+pub mod Headline
+pub mod Choices
 pub mod Diagrams
 pub mod Labels
 pub mod Plans

@@ -1,7 +1,7 @@
 -- What is worked out of each node: its least cost, and the cheapest prefix list of its field.
 use Rattle.std.specs.Prelude.{◌≡◌, ℕ, ◌<◌, ◌≤◌, ◌^◌, ◌+◌, Bool, true, false, List, [], ◌∷◌, Some, All, length, slice_get, slice_index}
 use Rattle.std.specs.Global.{Vec}
-use Rattle.field_boxes.specs.Fields.{width}
+use Rattle.field_boxes.specs.Headline.Fields.{width}
 use Rattle.node_store.specs.Edges.{child_of}
 use Rattle.node_store.specs.Diagram.{Node, level_of, edges_of}
 use Rattle.prefix_min.specs.declared.row.PrefixRow.{PrefixRow}

@@ -1,7 +1,7 @@
 //! The composed table of a diagram.
 ghost use Rattle.std.specs.Prelude.{◌≡◌, ◌≤◌, ◌<◌, ℕ, List, Some, All, length, slice_index, vec_len, IfOk, IfErr};
 ghost use Rattle.std.specs.List.{AllZip};
-ghost use Rattle.field_boxes.specs.Fields.{IsHeader};
+ghost use Rattle.field_boxes.specs.Headline.Fields.{IsHeader};
 ghost use Rattle.node_store.specs.Levels.{IsLevel};
 ghost use Rattle.node_store.specs.Diagram.{level_of, answer};
 ghost use Rattle.table_compose.specs.declared.composition.ComposeError.TheVariants.{Memory as OutOfMemory};

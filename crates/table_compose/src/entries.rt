@@ -1,6 +1,6 @@
 //! The entries of a diagram's table.
 ghost use Rattle.std.specs.Prelude.{◌≡◌, ◌∷◌, [], OnOk};
-ghost use Rattle.field_boxes.specs.Fields.{stated};
+ghost use Rattle.field_boxes.specs.Headline.Fields.{stated};
 ghost use Rattle.node_store.specs.Levels.{IsLevel};
 ghost use Rattle.node_store.specs.Diagram.{level_of, answer};
 ghost use Rattle.ternary_words.specs.Prefixes.{FitFields};

@@ -1,14 +1,15 @@
 //! Laws of the definitions, for whoever relies on them. The functions do nothing.
 ghost use Rattle.std.specs.Prelude.{◌≡◌, ◌≤◌, ◌^◌, ℕ, List, Some, length, map};
-ghost use Rattle.field_boxes.specs.Classifier.{Rule};
-ghost use Rattle.field_boxes.specs.Fields.{AreValues};
+ghost use Rattle.field_boxes.specs.Headline.Classifier.{Rule};
+ghost use Rattle.field_boxes.specs.Headline.Fields.{AreValues};
 ghost use Rattle.field_boxes.specs.Names.{AreDistinct, name_at};
 ghost use Rattle.node_store.specs.Levels.{bits_of};
 ghost use Rattle.node_store.specs.Diagram.{Node, answer};
 ghost use Rattle.ternary_words.specs.declared.entry.Entry.{Entry};
-ghost use Rattle.ternary_words.specs.Table.{answer as table_answer};
+ghost use Rattle.ternary_words.specs.Headline.Table.{answer as table_answer};
 ghost use Rattle.ternary_words.specs.Views.{entry_of};
-ghost use Rattle.table_compose.specs.LeastCost.{AreAlike, IsLeastCost};
+ghost use Rattle.table_compose.specs.Headline.LeastCost.{IsLeastCost};
+ghost use Rattle.table_compose.specs.Choices.{AreAlike};
 ghost use Rattle.table_compose.specs.Diagrams.{NamesApart};
 ghost use Rattle.table_compose.specs.Composed.{decided};
 ghost use Rattle.table_compose.specs.Plans.{ArePlansOf};
@@ -19,6 +20,11 @@ ghost use Rattle.node_store.specs.Store.{Grows};
 pub fn one_least_cost()
     ensures { (fields : List ℕ) (R : List (Rule (List ℕ))) (m n : ℕ) →
         IsLeastCost fields R m → IsLeastCost fields R n → m ≡ n }
+{}
+
+/// Each list has a least cost over any fields, and so in every order of them.
+pub fn every_list_has_a_least_cost()
+    ensures { (fields : List ℕ) (R : List (Rule (List ℕ))) → (n : ℕ) × IsLeastCost fields R n }
 {}
 
 /// Lists that decide alike have one least cost.

@@ -5,9 +5,6 @@
 //! widened freely, the entries of small windows are arranged anew, and all are narrowed again. [`shorten_front`]
 //! shortens entries in front of others that stay as they are.
 //!
-//! Nothing is promised of what comes out: whoever uses it checks that it answers as the entries before did. It is
-//! the same each time, and every call ends.
-//!
 //! ```text
 //! let mut shortening = Shortening::new(alloc, &entries)?;
 //! for _ in 0..40 {
@@ -17,6 +14,18 @@
 //! }
 //! let shorter = shortening.entries()?;
 //! ```
+//!
+//! What is promised: that every call is safe and returns. Nothing is promised of what comes out: whoever uses it checks
+//! that it answers as the entries before did. No clause says how short the tables are, which is measured, or that the
+//! same entries give the same table each time, though nothing but the entries goes in.
+//!
+//! | Room | Holds |
+//! |---|---|
+//! | `rounds`, `front`, `search` | the search over a table, and in front of other entries |
+//! | `widening`, `candidates`, `judging`, `gaining`, `groups` | entries that are widened, and what is gained |
+//! | `exceptions`, `against`, `lifting` | what must stand in front of a wider cube |
+//! | `windows`, `hashes`, `known` | small windows arranged anew, and what was tried before |
+//! | `effort`, `draws`, `rows` | how much is tried, the numbers that are drawn, and rows of entries |
 #![tactic(auto)]
 
 mod against;

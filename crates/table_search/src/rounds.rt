@@ -43,8 +43,9 @@ impl Shortening {
         })
     }
 
-    /// One round: widens, and where that gains little primes, tries windows and narrows. Whether another may gain;
-    /// at most 40 do.
+    /// One round: widens, and in every second round, or where the first one gains little, primes, tries windows and narrows
+    /// all entries; so what is known of entries that were tried in vain holds through the round between. Whether another
+    /// may gain; at most 40 do.
     pub fn round(&mut self) -> Result<bool, Memory> {
         if self.round >= ROUNDS {
             return Ok(false);
@@ -52,12 +53,12 @@ impl Shortening {
         let before = self.table.len();
         self.widen()?;
         let widened = before.saturating_sub(self.table.len());
-        let quiet = self.round > 0 || widened <= before / 100;
-        if quiet {
+        let thorough = self.search.flat || self.round == 0 && widened <= before / 100;
+        if thorough {
             self.prime()?;
             self.search.windows(&mut self.table)?;
         }
-        self.narrow(quiet)?;
+        self.narrow(thorough)?;
         Ok(self.goes_on(before))
     }
 

@@ -5,10 +5,11 @@ use Rattle.std.proofs.Math.Seq.{drop-cons}
 use Rattle.std.proofs.lemmas.Bool.{eqb-true}
 use Rattle.std.proofs.lemmas.List.{drop_all, take-append-drop}
 use Rattle.field_boxes.specs.Alike.{AreAlike}
-use Rattle.field_boxes.specs.Bits.{bits}
+use Rattle.field_boxes.specs.Headline.Bits.{bits}
 use Rattle.ternary_words.specs.declared.entry.Entry.{Entry}
 use Rattle.ternary_words.specs.Entries.{matches, answer}
-use Rattle.ternary_words.specs.Word.{agrees, header_bits, trits}
+use Rattle.ternary_words.specs.Headline.Word.{agrees, header_bits}
+use Rattle.ternary_words.specs.Word.{trits}
 use Rattle.table_steps.specs.Exchange.{AreSame, IsCommonEnd}
 
 -- the same entry
@@ -58,7 +59,7 @@ end-next table new k one other in_table in_new is too same so = record {
 }
 
 -- the new table is what stands before the end, and the end
-answer_behind : (xs ys zs : List Entry) (h : List ℕ) → answer ys h ≡ answer zs h → answer (xs ++ ys) h ≡ answer (xs ++ zs) h
+pub answer_behind : (xs ys zs : List Entry) (h : List ℕ) → answer ys h ≡ answer zs h → answer (xs ++ ys) h ≡ answer (xs ++ zs) h
 answer_behind [] ys zs h same = same
 answer_behind (x ∷ xs) ys zs h same = ap (λ d. cond (matches h x.word) x.decision d) (answer_behind xs ys zs h same)
 

@@ -3,7 +3,7 @@ use Rattle.std.proofs.Common.{◌≡◌, ◌∷◌, ℕ, List, [], true, false, 
 use Rattle.std.specs.List.{list_any, remove}
 use Rattle.std.proofs.lemmas.List.{take_rest}
 use Rattle.std.proofs.lemmas.Bool.{cases_lt}
-use Rattle.field_boxes.specs.Fields.{IsHeader}
+use Rattle.field_boxes.specs.Headline.Fields.{IsHeader}
 use Rattle.ternary_words.specs.declared.entry.Entry.{Entry}
 use Rattle.ternary_words.specs.Entries.{entry_matches, answer}
 use Rattle.table_steps.specs.Needs.{IsWanted}

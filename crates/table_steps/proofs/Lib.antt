@@ -7,3 +7,4 @@ pub mod Parted
 pub mod Kept
 pub mod Exchanged
 pub mod Ends
+pub mod Behind

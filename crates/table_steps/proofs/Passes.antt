@@ -2,7 +2,7 @@
 use Rattle.std.proofs.Common.{◌≡◌, ◌⊎◌, ◌∷◌, ◌++◌, ℕ, List, [], Bool, true, false, ◌+◌, ◌<◌, ◌≤◌, ap, sym, subst, ◌∙◌, length, get_or, drop, inl, inr, cond}
 use Rattle.std.specs.List.{list_any}
 use Rattle.std.proofs.lemmas.List.{at_drop_more, at_drop_all}
-use Rattle.field_boxes.specs.Fields.{IsHeader}
+use Rattle.field_boxes.specs.Headline.Fields.{IsHeader}
 use Rattle.ternary_words.specs.declared.word.Word.{Word}
 use Rattle.ternary_words.specs.declared.entry.Entry.{Entry}
 use Rattle.ternary_words.specs.Entries.{matches, answer}
@@ -13,7 +13,7 @@ use Rattle.table_steps.proofs.Outcomes.{not_both, apart_from, by_case, only_one,
 use Rattle.table_steps.proofs.Among.{none_with}
 
 -- what the entries from a place on answer
-answer_here : (entries : List Entry) (e : Entry) (k : ℕ) (h : List ℕ) → k < length entries → e ≡ get_or entries k e →
+pub answer_here : (entries : List Entry) (e : Entry) (k : ℕ) (h : List ℕ) → k < length entries → e ≡ get_or entries k e →
     answer (drop k entries) h ≡ cond (matches h e.word) e.decision (answer (drop (k + 1) entries) h)
 answer_here entries e k h less is =
     at_drop_more (λ es. answer es h) entries k e less ∙ ap (λ (x : Entry). cond (matches h x.word) x.decision (answer (drop (k + 1) entries) h)) (sym is)

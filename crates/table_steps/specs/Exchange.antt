@@ -1,7 +1,7 @@
 -- The exchange of a table's first entries for others.
 use Rattle.std.specs.Prelude.{◌≡◌, ◌≤◌, ◌-◌, ℕ, true, false, List, length, drop}
 use Rattle.std.specs.List.{list_any}
-use Rattle.field_boxes.specs.Fields.{IsHeader}
+use Rattle.field_boxes.specs.Headline.Fields.{IsHeader}
 use Rattle.field_boxes.specs.Alike.{AreAlike}
 use Rattle.ternary_words.specs.declared.word.Word.{Word}
 use Rattle.ternary_words.specs.declared.entry.Entry.{Entry}

@@ -3,3 +3,4 @@ pub mod Passing
 pub mod Shortened
 pub mod Needs
 pub mod Exchange
+pub mod Answering

@@ -2,7 +2,7 @@
 use Rattle.std.specs.Prelude.{◌≡◌, ◌≢◌, ℕ, true, false, List}
 use Rattle.std.specs.List.{list_any, remove}
 use Rattle.field_boxes.specs.Alike.{AreAlike}
-use Rattle.field_boxes.specs.Fields.{IsHeader}
+use Rattle.field_boxes.specs.Headline.Fields.{IsHeader}
 use Rattle.ternary_words.specs.declared.entry.Entry.{Entry}
 use Rattle.ternary_words.specs.Entries.{answer, entry_matches}
 use Rattle.table_steps.specs.declared.need.Need.{Need}

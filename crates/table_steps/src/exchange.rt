@@ -10,8 +10,10 @@ ghost use Rattle.ternary_words.specs.Entries.{answer};
 ghost use Rattle.table_steps.specs.Free.{IsFree, words_of};
 ghost use Rattle.table_steps.specs.Exchange.{AnswerAs, LeaveRest};
 
+use crate::answering::answering;
 use crate::free::free_for;
 use crate::gathering::push_entries;
+use crate::holding::{holders, is_held};
 use razor_base::Memory;
 use std::alloc::Global;
 use ternary_words::{Entry, Word};
@@ -21,7 +23,8 @@ use word_cover::covered;
 /// that isn't seen.
 ///
 /// It tests the word of each new entry against those of the table and the new ones before it, and the word of each old entry
-/// against those of the new ones, and for those that these don't cover against the table's too.
+/// against those of the new ones, and for those that these don't cover against the table's too. Where one new entry holds an
+/// old one, that is seen first and asked for no more.
 pub fn can_exchange(
     alloc: Global,
     table: &[Entry],
@@ -32,18 +35,25 @@ pub fn can_exchange(
     requires { count ≤ length table.now }
     ensures { IfOk result (λ yes. OnTrue yes (AreAlike (answer (new.now ++ drop count table.now)) (answer table.now))) }
 {
-    if !answer_as(alloc, table, new, budget)? {
+    let holders = holders(alloc, &table[..count], new)?;
+    if !answer_as(alloc, table, new, holders.as_slice(), budget)? {
         return Ok(false);
     }
-    leave_rest(alloc, table, count, new, budget)
+    leave_rest(alloc, table, count, new, holders.as_slice(), budget)
 }
 
 /// Whether the new entries answer what they match as the table does.
-fn answer_as(alloc: Global, table: &[Entry], new: &[Entry], budget: u32) -> Result<bool, Memory>
+fn answer_as(
+    alloc: Global,
+    table: &[Entry],
+    new: &[Entry],
+    holders: &[usize],
+    budget: u32,
+) -> Result<bool, Memory>
     ensures { IfOk result (λ yes. OnTrue yes (AnswerAs new.now table.now)) }
 {
     for (place, entry) in new.iter().enumerate() {
-        if !is_answered(alloc, table, &new[..place], entry, budget)? {
+        if !is_answered(alloc, table, &new[..place], holders, entry, budget)? {
             return Ok(false);
         }
     }
@@ -55,16 +65,18 @@ fn is_answered(
     alloc: Global,
     table: &[Entry],
     before: &[Entry],
+    holders: &[usize],
     entry: &Entry,
     budget: u32,
 ) -> Result<bool, Memory>
     ensures { IfOk result (λ yes. OnTrue yes (IsFree (words_of before.now) table.now entry.now.word entry.now.decision)) }
 {
+    let some = answering(alloc, before, table, holders, &entry.word)?;
     free_for(
         alloc,
         &[],
         before,
-        table,
+        some.as_slice(),
         &entry.word,
         entry.decision,
         budget,
@@ -77,6 +89,7 @@ fn leave_rest(
     table: &[Entry],
     count: usize,
     new: &[Entry],
+    holders: &[usize],
     budget: u32,
 ) -> Result<bool, Memory>
     requires { count ≤ length table.now }
@@ -89,6 +102,7 @@ fn leave_rest(
             &table[place],
             &table[count..],
             new,
+            holders.get(place).copied(),
             budget,
         )? {
             return Ok(false);
@@ -104,10 +118,14 @@ fn is_replaced(
     entry: &Entry,
     rest: &[Entry],
     new: &[Entry],
+    holder: Option<usize>,
     budget: u32,
 ) -> Result<bool, Memory>
     ensures { IfOk result (λ yes. OnTrue yes (IsFree (words_of new.now ++ words_of before.now) rest.now entry.now.word entry.now.decision)) }
 {
+    if is_held(new, holder, &entry.word) {
+        return Ok(true);
+    }
     let mut words: Vec<Word> = Vec::new(alloc);
     push_entries(&mut words, new, &entry.word)?;
     if covered(alloc, &entry.word, words.as_slice(), budget)? {

@@ -1,16 +1,34 @@
 //! Steps that change a table and keep its answers, and tests of such changes.
 //!
-//! A word is free to stand in front of entries where these answer each of its headers as it decides ([`free_for`]). By this
-//! one question an entry is redundant or not ([`redundant`]), entries are taken out and put in ([`tight`], [`take_out`],
-//! [`put_in`]), and entries are exchanged for others ([`can_exchange`], [`answers_alike`]). [`needs`] has a header to show for an
-//! entry that is needed, and [`is_tight`] one for each.
+//! A word is free to stand in front of entries where these answer each of its headers as it decides ([`free_for`]). By
+//! this one question an entry is redundant or needed, entries are taken out and put in, and entries are exchanged for
+//! others.
 //!
-//! A `budget` is how many steps each question about words that cover a word may take, as in `word_cover`.
+//! What is promised, of any ternary words:
+//!
+//! - [`take_out`], [`tight`] and [`put_in`] change the table only so that every header keeps its answer.
+//! - A yes of [`redundant`] says that the entry can be left out, a yes of [`can_exchange`] that the new entries can
+//!   stand in the place of the table's first ones, and a yes of [`answers_alike`] that two tables answer every header
+//!   alike.
+//! - A yes of [`is_tight`] says that the table is irredundant: each entry, left out alone, changes some answer.
+//!   [`needs`] shows a header that is answered otherwise without the entry, or says that it is redundant, or neither.
+//!
+//! Left free: every no, and whether anything is taken out. A `budget` is how many steps each question about words that
+//! cover a word may take, as in `word_cover`.
+//!
+//! | Room | Holds |
+//! |---|---|
+//! | `steps`, `exchange`, `tables` | steps, exchanges, and two tables compared |
+//! | `free`, `passing`, `gathering` | where a word may stand, and past which entries |
+//! | `need`, `wanted` | whether an entry is needed, with a header to show for it |
+//! | `numbers`, `laws` | the numbers that entries decide, and laws of parts of a table |
 #![tactic(auto)]
 
+mod answering;
 mod exchange;
 mod free;
 mod gathering;
+mod holding;
 pub mod laws;
 mod need;
 mod numbers;

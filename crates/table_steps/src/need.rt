@@ -4,7 +4,7 @@ ghost use Rattle.std.specs.Prelude.{◌<◌, ◌≢◌, IfOk, IfSome, length};
 ghost use Rattle.std.specs.Bool.{OnTrue};
 ghost use Rattle.std.specs.List.{remove};
 ghost use Rattle.field_boxes.specs.Alike.{AreApart, IsTight};
-ghost use Rattle.field_boxes.specs.Fields.{IsHeader};
+ghost use Rattle.field_boxes.specs.Headline.Fields.{IsHeader};
 ghost use Rattle.ternary_words.specs.Entries.{answer};
 ghost use Rattle.table_steps.specs.Needs.{IsNeed};
 

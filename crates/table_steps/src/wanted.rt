@@ -3,7 +3,7 @@
 ghost use Rattle.std.specs.Prelude.{◌≡◌, IfOk, IfSome};
 ghost use Rattle.std.specs.Bool.{OnTrue};
 ghost use Rattle.std.specs.List.{list_any};
-ghost use Rattle.field_boxes.specs.Fields.{IsHeader};
+ghost use Rattle.field_boxes.specs.Headline.Fields.{IsHeader};
 ghost use Rattle.ternary_words.specs.Entries.{answer, entry_matches};
 ghost use Rattle.table_steps.specs.Needs.{IsWanted};
 

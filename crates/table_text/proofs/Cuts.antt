@@ -2,7 +2,7 @@
 use Rattle.std.proofs.Common.{◌≡◌, ◌≢◌, ◌∷◌, ◌++◌, ℕ, List, Bool, true, false, cond, [], ap, refl, Some, None, Option, option_map, nat_eq, ◌==◌, MatchOption}
 use Rattle.std.specs.List.{list_all}
 use Rattle.std.proofs.lemmas.Bool.{and_parts, not-true}
-use Rattle.text_lines.specs.Cuts.{split_once}
+use Rattle.text_lines.specs.Headline.Cuts.{split_once}
 use Rattle.text_lines.proofs.Cuts.{split_once-cons}
 use Rattle.text_lines.proofs.Joins.{is_other}
 use Rattle.table_text.specs.Lines.{Line, lines_of, onto_first}

@@ -3,23 +3,24 @@ use Rattle.std.proofs.Common.{◌≡◌, ◌∷◌, ◌++◌, ℕ, List, Bool, t
 use Rattle.std.proofs.lemmas.Bool.{and_parts, eqb-true, cond_both}
 use Rattle.std.proofs.lemmas.Option.{option_and_then_some}
 use Rattle.std.proofs.lemmas.Slice.Eq.{bytes_eq-Decides}
-use Rattle.field_boxes.specs.Bits.{bits}
-use Rattle.field_boxes.specs.Fields.{stated, width}
-use Rattle.field_boxes.specs.Names.{miss, text_of}
+use Rattle.field_boxes.specs.Headline.Bits.{bits}
+use Rattle.field_boxes.specs.Headline.Fields.{stated, width}
+use Rattle.field_boxes.specs.Headline.Names.{miss, text_of}
 use Rattle.field_boxes.proofs.Bits.{length-bits}
-use Rattle.ternary_words.specs.Hexadecimal.{hex_digits}
-use Rattle.ternary_words.specs.Table.{Entry}
-use Rattle.ternary_words.specs.TableText.{column_text, columns_text, entry_line, mask_bit}
-use Rattle.ternary_words.specs.Word.{field_bits, trits}
+use Rattle.ternary_words.specs.Headline.Hexadecimal.{hex_digits}
+use Rattle.ternary_words.specs.Headline.Table.{Entry}
+use Rattle.ternary_words.specs.Headline.TableText.{column_text, columns_text, entry_line}
+use Rattle.ternary_words.specs.Headline.Word.{field_bits}
+use Rattle.ternary_words.specs.Word.{trits, mask_bit}
 use Rattle.ternary_words.proofs.Columns.{column_of, length-trits, mask-bits, trits-append, value-bits}
 use Rattle.table_text.specs.declared.error.TableReason.TheVariants.{Decision, OutsideMask}
 use Rattle.table_text.specs.Columns.{Fields, LineColumns, Masked, are_within, columns_of, fields_of, is_within, masked_of, word_of_fields}
 use Rattle.table_text.specs.Lines.{Line}
 use Rattle.table_text.specs.Names.{decided, is_decision}
 use Rattle.table_text.specs.Reading.{columns_entry, read_columns, read_fields, with_decision}
-use Rattle.text_lines.specs.Cuts.{cut_parts, split_once}
+use Rattle.text_lines.specs.Headline.Cuts.{split_once}
 use Rattle.table_text.specs.UpperCase.{are_upper, is_upper, is_upper_line}
-use Rattle.text_lines.proofs.Joins.{split_back}
+use Rattle.text_lines.proofs.Joins.{cut_parts, split_back}
 use Rattle.table_text.proofs.CutBack.{line_bytes}
 use Rattle.table_text.proofs.EntryTexts.{before, column, column-hex, behind}
 use Rattle.table_text.proofs.HexBack.{masked_back}

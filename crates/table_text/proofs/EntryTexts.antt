@@ -2,12 +2,12 @@
 use Rattle.std.proofs.Common.{◌≡◌, ◌∷◌, ◌++◌, ℕ, ◌*◌, ◌/◌, ◌%◌, ◌^◌, List, Bool, true, [], ap, refl, sym, ◌∙◌, arith, append_assoc, Some, Option, Ok, ◌&&◌, bit_and}
 use Rattle.std.specs.List.{list_all}
 use Rattle.std.proofs.lemmas.Bool.{and_from, eq-eqb}
-use Rattle.field_boxes.specs.Bits.{bits}
-use Rattle.field_boxes.specs.Fields.{stated}
-use Rattle.field_boxes.specs.Names.{text_of}
+use Rattle.field_boxes.specs.Headline.Bits.{bits}
+use Rattle.field_boxes.specs.Headline.Fields.{stated}
+use Rattle.field_boxes.specs.Headline.Names.{text_of}
 use Rattle.ternary_words.specs.declared.word.Word as code_word
-use Rattle.ternary_words.specs.Hexadecimal.{hex_digits}
-use Rattle.ternary_words.specs.TableText.{columns_text}
+use Rattle.ternary_words.specs.Headline.Hexadecimal.{hex_digits}
+use Rattle.ternary_words.specs.Headline.TableText.{columns_text}
 use Rattle.ternary_words.specs.Views.{word_of}
 use Rattle.ternary_words.proofs.Columns.{column_of, columns-wide, hex_of, hex-number}
 use Rattle.ternary_words.proofs.Parted.{part_within, word-parts}
@@ -17,7 +17,7 @@ use Rattle.table_text.specs.Reading.{columns_entry}
 use Rattle.table_text.proofs.Cuts.{whole_line}
 use Rattle.table_text.proofs.HexTexts.{hex_all, masked-read}
 use Rattle.text_lines.proofs.Joins.{all_joined, is_other, split_once-joined}
-use Rattle.table_text.proofs.Spelled.{columns-is, decided-ok}
+use Rattle.table_text.proofs.SpelledLines.{columns-is, decided-ok}
 
 -- five columns, and then what stands behind them
 abbrev pub before : List ℕ → List ℕ → List ℕ → List ℕ → List ℕ → List ℕ → List ℕ

@@ -5,7 +5,7 @@ use Rattle.std.proofs.lemmas.Option.{cond_some, option_and_then_some}
 use Rattle.std.proofs.lemmas.Slice.Eq.{bytes_eq-Decides}
 use Rattle.table_text.specs.declared.heading.Version.TheVariants.{Trits, Columns}
 use Rattle.table_text.specs.Heading.{Heading, Words, heading_of, is_labelled, slot_of, version_of, words_of}
-use Rattle.text_lines.specs.Cuts.{split_once}
+use Rattle.text_lines.specs.Headline.Cuts.{split_once}
 use Rattle.text_lines.specs.Numbers.{plain_number}
 use Rattle.text_lines.proofs.Joins.{split_back}
 use Rattle.table_text.proofs.HeadingTexts.{first_text, three_digits}

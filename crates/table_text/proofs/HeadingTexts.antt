@@ -5,10 +5,10 @@ use Rattle.std.proofs.Math.Logic.{∥∥₁_elim}
 use Rattle.std.proofs.lemmas.Bool.{eqb-true, or_cases}
 use Rattle.std.proofs.lemmas.Fmt.{decimal_digit, decimal_step}
 use Rattle.std.proofs.Math.Nat.{ℕ_set}
-use Rattle.ternary_words.specs.Hexadecimal.{bit_number}
+use Rattle.ternary_words.specs.Headline.Hexadecimal.{bit_number}
 use Rattle.ternary_words.specs.Limits.{IsSlotWidth}
-use Rattle.ternary_words.specs.Table.{Table}
-use Rattle.ternary_words.specs.TableText.{first_line}
+use Rattle.ternary_words.specs.Headline.Table.{Table}
+use Rattle.ternary_words.specs.Headline.TableText.{first_line}
 use Rattle.table_text.specs.declared.heading.Version.TheVariants.{Columns}
 use Rattle.table_text.specs.Heading.{Words, heading_of, slot_of, words_of}
 use Rattle.table_text.proofs.EntryTexts.{front_all}
@@ -52,7 +52,7 @@ three_digits n a b c e some ha hb hc =
     ∙ ap (λ k. decimal k ++ (48 + n % 10) ∷ []) tens ∙ ap (λ k. decimal (a * 10 + b) ++ (48 + k) ∷ []) last
     ∙ ap (λ t. t ++ (48 + c) ∷ []) (decimal_step (a * 10 + b) (omega arith) (omega arith) ∙ ap (λ k. decimal k ++ (48 + (a * 10 + b) % 10) ∷ []) front ∙ ap (λ k. decimal a ++ (48 + k) ∷ []) middle ∙ ap (λ t. t ++ (48 + b) ∷ []) (decimal_digit a ha))
 
-width_is : (slot : ℕ) → IsSlotWidth slot → slot_of (decimal slot) ≡ Some slot
+pub width_is : (slot : ℕ) → IsSlotWidth slot → slot_of (decimal slot) ≡ Some slot
 width_is slot (inl e) = ap (λ n. slot_of (decimal n)) e ∙ ap slot_of (three_digits 104 1 0 4 refl (omega arith) (omega arith) (omega arith) (omega arith)) ∙ ap (λ n. Some n) (sym e)
 width_is slot (inr (inl e)) = ap (λ n. slot_of (decimal n)) e ∙ ap slot_of (three_digits 144 1 4 4 refl (omega arith) (omega arith) (omega arith) (omega arith)) ∙ ap (λ n. Some n) (sym e)
 width_is slot (inr (inr e)) = ap (λ n. slot_of (decimal n)) e ∙ ap slot_of (three_digits 288 2 8 8 refl (omega arith) (omega arith) (omega arith) (omega arith)) ∙ ap (λ n. Some n) (sym e)
@@ -80,10 +80,10 @@ tested slot h =
       | inr c ↦ inr (inr (eqb-true slot 288 c))
     ]
 
-width_of : (slot : ℕ) → ∥ IsSlotWidth slot ∥₁ → IsSlotWidth slot
+pub width_of : (slot : ℕ) → ∥ IsSlotWidth slot ∥₁ → IsSlotWidth slot
 width_of slot h = tested slot (test_true (is_width slot) (∥∥₁_elim h (test_prop (is_width slot)) (λ w. ap bit_number (test_width slot w))))
 
-small_width : (slot : ℕ) → IsSlotWidth slot → slot < 2 ^ 64
+pub small_width : (slot : ℕ) → IsSlotWidth slot → slot < 2 ^ 64
 small_width slot (inl e) = omega arith
 small_width slot (inr (inl e)) = omega arith
 small_width slot (inr (inr e)) = omega arith

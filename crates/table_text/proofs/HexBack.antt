@@ -8,11 +8,11 @@ use Rattle.std.proofs.lemmas.Nat.{div-mul-add, mod-mul-add, pow-add}
 use Rattle.std.proofs.lemmas.Option.{option_and_then_some}
 use Rattle.std.proofs.Math.Nat.{mul-le-mul_right}
 use Rattle.field_boxes.proofs.Bits.{bits-mod}
-use Rattle.ternary_words.specs.Hexadecimal.{hex_digit, hex_digits}
+use Rattle.ternary_words.specs.Headline.Hexadecimal.{hex_digit, hex_digits}
 use Rattle.ternary_words.proofs.Columns.{hex_of, hex-number}
 use Rattle.table_text.specs.Columns.{Masked, hex_number, masked_of}
-use Rattle.text_lines.specs.Cuts.{split_once}
-use Rattle.text_lines.specs.Numbers.{is_number, number_of, number_within}
+use Rattle.text_lines.specs.Headline.Cuts.{split_once}
+use Rattle.text_lines.specs.Headline.Numbers.{is_number, number_of, number_within}
 use Rattle.table_text.specs.UpperCase.{is_upper}
 use Rattle.text_lines.proofs.Joins.{split_back}
 use Rattle.table_text.proofs.EntryTexts.{column}

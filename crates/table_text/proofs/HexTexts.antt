@@ -4,9 +4,9 @@ use Rattle.std.specs.List.{list_all}
 use Rattle.std.specs.Char.{digit_value}
 use Rattle.std.proofs.lemmas.Bool.{agree_below, agree_below_at, and_from, eq-eqb, eqb-true, lt-ltb, le-leb}
 use Rattle.std.proofs.lemmas.Nat.{mod-pow-add, mod_below, pow-add, pow_pos}
-use Rattle.ternary_words.specs.Hexadecimal.{hex_digit}
+use Rattle.ternary_words.specs.Headline.Hexadecimal.{hex_digit}
 use Rattle.ternary_words.proofs.Columns.{hex_of}
-use Rattle.text_lines.specs.Numbers.{is_number, number_of, number_within}
+use Rattle.text_lines.specs.Headline.Numbers.{is_number, number_of, number_within}
 use Rattle.text_lines.proofs.Joins.{is_other, split_once-joined}
 use Rattle.table_text.specs.Columns.{hex_number, masked_of}
 

@@ -2,7 +2,7 @@ pub mod Cuts
 pub mod Pushed
 pub mod Resumed
 pub mod TritBits
-pub mod Spelled
+pub mod SpelledLines
 pub mod HexTexts
 pub mod EntryTexts
 pub mod NameTexts

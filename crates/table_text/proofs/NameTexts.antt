@@ -4,9 +4,11 @@ use Rattle.std.specs.List.{AllByRecursion, list_all}
 use Rattle.std.proofs.lemmas.List.Elements.{recursion_from_All}
 use Rattle.std.proofs.lemmas.Bool.{agree_below_at, and_parts, eqb-true, false≢true, not-true, not_from_true, or_cases}
 use Rattle.std.proofs.lemmas.Bool.Decides.{nat_tests}
-use Rattle.field_boxes.specs.Names.{has_word_form, is_decision_word, is_word_byte, miss, name_at}
+use Rattle.field_boxes.specs.Headline.Names.{has_word_form, is_word_byte, miss}
+use Rattle.field_boxes.specs.Names.{is_decision_word, name_at}
 use Rattle.table_text.specs.Names.{is_name, is_rule_name}
-use Rattle.text_lines.specs.Numbers.{has_leading_zero, is_number, number_of, number_within, plain_number}
+use Rattle.text_lines.specs.Headline.Numbers.{is_number, number_of, number_within}
+use Rattle.text_lines.specs.Numbers.{has_leading_zero, plain_number}
 use Rattle.text_lines.proofs.Decimals.{digit_other, is_digit}
 use Rattle.text_lines.proofs.Joins.{all_wider, is_other}
 use Rattle.table_text.proofs.EntryTexts.{IsSpelled}

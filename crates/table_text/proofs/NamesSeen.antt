@@ -3,7 +3,8 @@ use Rattle.std.proofs.Common.{◌≡◌, ◌∷◌, ◌++◌, ℕ, List, Bool, t
 use Rattle.std.proofs.lemmas.Bool.{cond_both}
 use Rattle.std.specs.List.{list_any}
 use Rattle.std.proofs.lemmas.List.Elements.{All-push}
-use Rattle.field_boxes.specs.Names.{is_decision_word, miss}
+use Rattle.field_boxes.specs.Headline.Names.{miss}
+use Rattle.field_boxes.specs.Names.{is_decision_word}
 use Rattle.table_text.specs.Names.{decided, is_decision, is_name, is_rule_name}
 use Rattle.table_text.specs.Seen.{with_decided}
 

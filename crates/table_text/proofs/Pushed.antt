@@ -6,7 +6,7 @@ use Rattle.std.proofs.lemmas.List.{map-append}
 use Rattle.std.proofs.lemmas.List.Elements.{All-push, recursion_from_All}
 use Rattle.std.proofs.lemmas.List.Sums.{fold-append}
 use Rattle.field_boxes.specs.Names.{name_at}
-use Rattle.ternary_words.specs.Table.{Entry}
+use Rattle.ternary_words.specs.Headline.Table.{Entry}
 use Rattle.ternary_words.specs.declared.entry.Entry as code_entry
 use Rattle.ternary_words.specs.Limits.{AreNumbered}
 use Rattle.ternary_words.specs.Views.{word_of, entry_of}

@@ -1,6 +1,6 @@
 -- The entries that were read so far, in front of what the lines that are left come to.
 use Rattle.std.proofs.Common.{◌≡◌, ◌∷◌, ◌++◌, ℕ, suc, ◌+◌, ◌-◌, ◌<◌, List, [], Ok, Err, take, refl, ap, sym, ◌∙◌, arith, append_assoc, append-nil, eq-eqb, Result}
-use Rattle.ternary_words.specs.Table.{Entry, Table}
+use Rattle.ternary_words.specs.Headline.Table.{Entry, Table}
 use Rattle.table_text.specs.declared.error.TableReason.{TableReason}
 use Rattle.table_text.specs.Lines.{Line}
 use Rattle.table_text.specs.Heading.{Heading}

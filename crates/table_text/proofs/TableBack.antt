@@ -2,8 +2,8 @@
 use Rattle.std.proofs.Common.{◌≡◌, ◌∷◌, ◌++◌, ℕ, suc, ◌+◌, List, Bool, true, false, cond, [], ap, refl, sym, ◌∙◌, arith, append_assoc, length, take, Some, None, Ok, Err, Option, Result, ◌==◌, min, decimal, take_all}
 use Rattle.std.specs.List.{flat_map, list_all}
 use Rattle.std.proofs.lemmas.Bool.{and_parts, eqb-true}
-use Rattle.ternary_words.specs.Table.{Entry, Table}
-use Rattle.ternary_words.specs.TableText.{entries_text, entry_line, table_text}
+use Rattle.ternary_words.specs.Headline.Table.{Entry, Table}
+use Rattle.ternary_words.specs.Headline.TableText.{entry_line, table_text}
 use Rattle.table_text.specs.declared.error.TableReason.{TableReason}
 use Rattle.table_text.specs.declared.error.TableReason.TheVariants.{Count}
 use Rattle.table_text.specs.declared.heading.Version.{Version}
@@ -54,7 +54,7 @@ whole_back line lines h entries first second size kept =
     let made : Table = record { slot = h.slot; composed = h.composed; entries = entries } in
     let parts = ended_step line h line.ended refl first in
     let text : first_text (decimal h.slot) (decimal h.composed) (decimal (length entries)) ≡ line.text = ap (λ n. first_text (decimal h.slot) (decimal h.composed) (decimal n)) size ∙ sym (heading_back line.text h parts.1 second) in
-    heading-written made (entries_text made)
+    heading-written made (flat_map entry_line made.entries)
     ∙ ap (λ t. t ++ 10 ∷ flat_map entry_line entries) text ∙ ap (λ t. line.text ++ 10 ∷ t) kept
     ∙ sym (append_assoc line.text (10 ∷ []) (flat_map line_bytes lines)) ∙ ap (λ t. t ++ flat_map line_bytes lines) (ended_line line.text line.ended parts.0)
 

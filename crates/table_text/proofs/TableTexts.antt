@@ -3,11 +3,12 @@ use Rattle.std.proofs.Common.{◌≡◌, ◌∷◌, ◌++◌, ℕ, ◌+◌, ◌�
 use Rattle.std.specs.List.{AllByRecursion, flat_map}
 use Rattle.std.proofs.lemmas.List.{length-map, take_all}
 use Rattle.std.proofs.lemmas.List.Elements.{recursion_from_All}
-use Rattle.field_boxes.specs.Names.{name_at, text_of}
+use Rattle.field_boxes.specs.Headline.Names.{text_of}
+use Rattle.field_boxes.specs.Names.{name_at}
 use Rattle.ternary_words.specs.declared.entry.Entry as code_entry
 use Rattle.ternary_words.specs.declared.table.Table as code_table
-use Rattle.ternary_words.specs.Table.{Entry}
-use Rattle.ternary_words.specs.TableText.{entries_text, entry_line, table_text}
+use Rattle.ternary_words.specs.Headline.Table.{Entry}
+use Rattle.ternary_words.specs.Headline.TableText.{entry_line, table_text}
 use Rattle.ternary_words.specs.Views.{table_of}
 use Rattle.ternary_words.specs.Views as words
 use Rattle.table_text.specs.declared.error.TableReason.{TableReason}
@@ -81,7 +82,7 @@ pub table-lines : (t : code_table.Table) → HasNames t → lines_of (table_text
 table-lines t named =
     let whole = table_of t in
     let few = few_entries t in
-    ap lines_of (heading-written whole (entries_text whole)) ∙ lines_of-line (first_of t) (entries_text whole) (heading-line t.slot t.composed (length whole.entries) t.width (omega (arith, t.counted)) (omega (arith, few)))
+    ap lines_of (heading-written whole (flat_map entry_line whole.entries)) ∙ lines_of-line (first_of t) (flat_map entry_line whole.entries) (heading-line t.slot t.composed (length whole.entries) t.width (omega (arith, t.counted)) (omega (arith, few)))
     ∙ ap (λ ls. whole_line (first_of t) true ∷ ls) (lines-cut t.names t.entries.items (all_spelled t.names named t.entries.items t.numbered))
 
 pub table-heading : (t : code_table.Table) → heading_of (first_of t) ≡ Some (heading_of_table t)

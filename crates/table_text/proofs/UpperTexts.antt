@@ -2,10 +2,11 @@
 use Rattle.std.proofs.Common.{◌≡◌, ◌∷◌, ℕ, ◌/◌, ◌^◌, List, true, [], ap, refl, ◌∙◌, map, nat_lt, ◌&&◌}
 use Rattle.std.specs.List.{list_all}
 use Rattle.std.proofs.lemmas.Bool.{and_from}
-use Rattle.field_boxes.specs.Names.{name_at, text_of}
+use Rattle.field_boxes.specs.Headline.Names.{text_of}
+use Rattle.field_boxes.specs.Names.{name_at}
 use Rattle.ternary_words.specs.declared.entry.Entry as code_entry
 use Rattle.ternary_words.specs.declared.table.Table as code_table
-use Rattle.ternary_words.specs.TableText.{table_text}
+use Rattle.ternary_words.specs.Headline.TableText.{table_text}
 use Rattle.ternary_words.specs.Views.{table_of}
 use Rattle.table_text.specs.Columns.{columns_of}
 use Rattle.table_text.specs.UpperCase.{are_upper, is_second, is_upper, is_upper_line, is_upper_table, is_upper_text}

@@ -1,10 +1,11 @@
 -- The word of an entry in the second version: a value and a mask for each field, in hexadecimal.
 use Rattle.std.specs.Prelude.{ℕ, ◌==◌, Bool, ◌&&◌, List, [], ◌∷◌, length, Option, Some, None, bit_and, if◌then◌else◌}
 use Rattle.razor_base.specs.declared.limits.TheConstants.{GREATEST_ADDRESS, GREATEST_PORT, GREATEST_PROTOCOL}
-use Rattle.ternary_words.specs.Word.{Trit, trits, header_bits}
-use Rattle.text_lines.specs.Cuts.{parts_at, split_once}
-use Rattle.text_lines.specs.Numbers.{number_within}
-use Rattle.text_lines.specs.Steps.{◌>>=◌}
+use Rattle.ternary_words.specs.Headline.Word.{Trit, header_bits}
+use Rattle.ternary_words.specs.Word.{trits}
+use Rattle.text_lines.specs.Headline.Cuts.{parts_at, split_once}
+use Rattle.text_lines.specs.Headline.Numbers.{number_within}
+use Rattle.text_lines.specs.Headline.Steps.{◌>>=◌}
 
 -- the five columns of a line, and the decision, where a fifth space stands before it
 pub record LineColumns : Type 0 where

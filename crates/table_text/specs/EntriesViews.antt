@@ -1,6 +1,6 @@
 -- The entries that the code has read.
 use Rattle.std.specs.Prelude.{List, map}
-use Rattle.ternary_words.specs.Table.{Entry}
+use Rattle.ternary_words.specs.Headline.Table.{Entry}
 use Rattle.ternary_words.specs.Views as words
 use Rattle.table_text.specs.declared.entries.Entries.{Entries}
 

@@ -1,6 +1,6 @@
 -- The lines and entries of the code.
 use Rattle.std.specs.Prelude.{ℕ, Bool, List}
-use Rattle.ternary_words.specs.Table.{Entry}
+use Rattle.ternary_words.specs.Headline.Table.{Entry}
 use Rattle.ternary_words.specs.Views.{word_of}
 use Rattle.table_text.specs.declared.spelling.Spelled.{Spelled}
 use Rattle.table_text.specs.Lines.{Line}

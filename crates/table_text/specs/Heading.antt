@@ -4,9 +4,9 @@ use Rattle.std.specs.Str.{bytes_eq}
 use Rattle.razor_base.specs.declared.limits.TheConstants.{MOST_ENTRIES}
 use Rattle.table_text.specs.declared.heading.Version.{Version}
 use Rattle.table_text.specs.declared.heading.Version.TheVariants.{Trits, Columns}
-use Rattle.text_lines.specs.Cuts.{split_once}
+use Rattle.text_lines.specs.Headline.Cuts.{split_once}
 use Rattle.text_lines.specs.Numbers.{plain_number}
-use Rattle.text_lines.specs.Steps.{◌>>=◌}
+use Rattle.text_lines.specs.Headline.Steps.{◌>>=◌}
 
 -- the version of the text, the slot width, and the two counts
 pub record Heading : Type 0 where

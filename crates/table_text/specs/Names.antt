@@ -2,7 +2,8 @@
 use Rattle.std.specs.Prelude.{ℕ, ◌==◌, Bool, false, not, ◌&&◌, ◌||◌, List, [], ◌∷◌, Option, Some, None, is_some, if◌then◌else◌}
 use Rattle.std.specs.Str.{bytes_eq}
 use Rattle.razor_base.specs.declared.limits.TheConstants.{MOST_RULES}
-use Rattle.field_boxes.specs.Names.{miss, is_decision_word}
+use Rattle.field_boxes.specs.Headline.Names.{miss}
+use Rattle.field_boxes.specs.Names.{is_decision_word}
 use Rattle.text_lines.specs.Numbers.{plain_number}
 
 -- '#', and a number from 1 to 65,536 without leading zeros

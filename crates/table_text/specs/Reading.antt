@@ -1,14 +1,14 @@
 -- What the text of a table spells: the table, or the first bad line.
 use Rattle.std.specs.Prelude.{ℕ, ◌+◌, ◌==◌, Bool, not, ◌&&◌, List, [], ◌∷◌, length, take, min, Option, Some, None, Result, Ok, Err, if◌then◌else◌}
 use Rattle.std.specs.List.{list_all}
-use Rattle.ternary_words.specs.Word.{Trit}
-use Rattle.ternary_words.specs.Table.{Entry, Table}
+use Rattle.ternary_words.specs.Headline.Word.{Trit}
+use Rattle.ternary_words.specs.Headline.Table.{Entry, Table}
 use Rattle.table_text.specs.declared.heading.Version.{Version}
 use Rattle.table_text.specs.declared.heading.Version.TheVariants.{Trits, Columns}
 use Rattle.table_text.specs.declared.error.TableReason.{TableReason}
 use Rattle.table_text.specs.declared.error.TableReason.TheVariants.{FirstLine, WordLength, Trit as NoTrit, Padding, Decision, Count, FieldForm, OutsideMask}
 use Rattle.table_text.specs.Lines.{Line, lines_of}
-use Rattle.text_lines.specs.Cuts.{parts_at}
+use Rattle.text_lines.specs.Headline.Cuts.{parts_at}
 use Rattle.table_text.specs.Heading.{Heading, heading_of}
 use Rattle.table_text.specs.Names.{is_decision, decided}
 use Rattle.table_text.specs.Trits.{is_trit, is_padded, word_of_trits}

@@ -1,6 +1,6 @@
 -- Why the text of a table is refused.
 use Rattle.std.specs.Prelude.{◌≡◌, ◌++◌, ℕ, List, [], ◌∷◌, Result, Ok, Err}
-use Rattle.ternary_words.specs.Table.{Entry, Table}
+use Rattle.ternary_words.specs.Headline.Table.{Entry, Table}
 use Rattle.table_text.specs.declared.error.TableReason.{TableReason}
 use Rattle.table_text.specs.Heading.{Heading}
 use Rattle.table_text.specs.declared.error.TableError.{TableError}

@@ -1,7 +1,7 @@
 -- The names of decisions in the order in which entries have them.
 use Rattle.std.specs.Prelude.{ℕ, List, [], Option, Some, None, fold}
 use Rattle.field_boxes.specs.Names.{with_name}
-use Rattle.ternary_words.specs.Table.{Entry}
+use Rattle.ternary_words.specs.Headline.Table.{Entry}
 
 -- the names after an entry's decision is seen
 abbrev pub with_decided : List (List ℕ) → Option (List ℕ) → List (List ℕ)

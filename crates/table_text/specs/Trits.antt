@@ -1,7 +1,7 @@
 -- The word of an entry in the first version: a character for each trit of the slot.
 use Rattle.std.specs.Prelude.{ℕ, ◌==◌, Bool, ◌||◌, List, map, take, drop, Some, None, if◌then◌else◌}
 use Rattle.std.specs.List.{list_all}
-use Rattle.ternary_words.specs.Word.{Trit}
+use Rattle.ternary_words.specs.Headline.Word.{Trit}
 
 -- '*', '0' or '1'
 abbrev pub is_trit : ℕ → Bool

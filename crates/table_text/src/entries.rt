@@ -15,9 +15,9 @@ use ternary_words::{Entry, Word};
 
 /// The entries read so far, and the names of their decisions in first-seen order.
 #[derive(Drop)]
-pub(crate) struct Entries {
-    pub(crate) entries: Vec<Entry>,
-    pub(crate) names: Decisions,
+pub struct Entries {
+    pub entries: Vec<Entry>,
+    pub names: Decisions,
     pub ghost few: { vec_len entries ≤ MOST_ENTRIES },
     pub ghost fewer_names: { length names ≤ vec_len entries },
     pub ghost numbered: { AreNumbered (length names) entries.items },
@@ -32,7 +32,7 @@ impl Entries {
     ghost use Rattle.table_text.specs.Names.{decided};
 
     /// No entry.
-    pub(crate) fn new(alloc: Global) -> Self
+    pub fn new(alloc: Global) -> Self
         ensures entries { entries_view result ≡ [] }
         ensures none { vec_len result.entries ≡ 0 }
     {
@@ -43,7 +43,7 @@ impl Entries {
     }
 
     /// With an entry behind the others, and its decision among the names.
-    pub(crate) fn with_entry(self, word: Word, decision: &str) -> Result<Self, Memory>
+    pub fn with_entry(self, word: Word, decision: &str) -> Result<Self, Memory>
         requires room { vec_len self.entries < MOST_ENTRIES }
         requires named { IsTrue (is_decision decision.now) }
         ensures entries { IfOk result (λ entries. entries_view entries

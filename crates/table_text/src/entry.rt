@@ -57,7 +57,7 @@ fn trits_entry(line: &[u8], ended: bool, slot: u16) -> Result<Spelled<'_>, Table
 
 /// The entry that a line of the second version spells.
 #[tactic(auto, unfolding(crate::specs::Reading::columns_entry))]
-fn columns_entry(line: &[u8], ended: bool) -> Result<Spelled<'_>, TableReason>
+pub fn columns_entry(line: &[u8], ended: bool) -> Result<Spelled<'_>, TableReason>
     ensures { MatchResult result
         (λ spelled. columns_entry (line_of line.now ended) ≡ Ok (spelled_view spelled))
         (λ reason. columns_entry (line_of line.now ended) ≡ Err reason) }

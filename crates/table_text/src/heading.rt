@@ -30,20 +30,20 @@ pub(crate) struct Heading {
 
 /// The eight words of a first line, as they stand.
 #[derive(Clone, Copy)]
-pub(crate) struct Words<'a> {
-    pub(crate) table: &'a [u8],
-    pub(crate) version: &'a [u8],
-    pub(crate) slot: &'a [u8],
-    pub(crate) slot_number: &'a [u8],
-    pub(crate) composed: &'a [u8],
-    pub(crate) composed_number: &'a [u8],
-    pub(crate) entries: &'a [u8],
-    pub(crate) entries_number: &'a [u8],
+pub struct Words<'a> {
+    pub table: &'a [u8],
+    pub version: &'a [u8],
+    pub slot: &'a [u8],
+    pub slot_number: &'a [u8],
+    pub composed: &'a [u8],
+    pub composed_number: &'a [u8],
+    pub entries: &'a [u8],
+    pub entries_number: &'a [u8],
 }
 
 /// The eight words of a line, with a space between them.
 #[tactic(auto, unfolding(crate::specs::Heading::words_of))]
-fn cut_words(line: &[u8]) -> Option<Words<'_>>
+pub fn cut_words(line: &[u8]) -> Option<Words<'_>>
     ensures { option_map words_view result ≡ words_of line.now }
 {
     let (table, rest) = split_once(line, b' ')?;
@@ -85,7 +85,7 @@ fn read_version(text: &[u8]) -> Option<Version>
 }
 
 /// 104, 144 or 288.
-fn read_slot(text: &[u8]) -> Option<u16>
+pub fn read_slot(text: &[u8]) -> Option<u16>
     ensures value { result ≡ slot_of text.now }
     ensures width { IfSome result (λ slot. ∥ IsSlotWidth slot ∥₁) }
     ensures narrowest { IfSome result (λ slot. 104 ≤ slot) }

@@ -1,7 +1,7 @@
 //! Laws of the definitions, for whoever relies on them. The functions do nothing.
 ghost use Rattle.std.specs.Prelude.{◌≡◌, ℕ, List, All, IsTrue, Ok};
-ghost use Rattle.ternary_words.specs.Table.{Table as Spelled};
-ghost use Rattle.ternary_words.specs.TableText.{table_text};
+ghost use Rattle.ternary_words.specs.Headline.Table.{Table as Spelled};
+ghost use Rattle.ternary_words.specs.Headline.TableText.{table_text};
 ghost use Rattle.ternary_words.specs.Views.{table_of};
 ghost use Rattle.ternary_words.specs.declared.table.Table.{Table};
 ghost use Rattle.table_text.specs.Names.{is_name};

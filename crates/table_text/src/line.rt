@@ -6,7 +6,7 @@ use text_lines::split_once;
 
 /// The first line of the text without its line feed, whether a line feed ends it, and what stands after
 /// it; none where the text is empty.
-pub(crate) fn next_line(text: &[u8]) -> Option<(&[u8], bool, &[u8])>
+pub fn next_line(text: &[u8]) -> Option<(&[u8], bool, &[u8])>
     ensures line { IfSome result (λ parts. lines_of text.now ≡ record { text = parts.0.now; ended = parts.1 } ∷ lines_of parts.2.now) }
     ensures shorter { IfSome result (λ parts. length parts.2.now < length text.now) }
     ensures none { IfNone result (text.now ≡ []) }
@@ -21,7 +21,7 @@ pub(crate) fn next_line(text: &[u8]) -> Option<(&[u8], bool, &[u8])>
 }
 
 /// How many lines the text has.
-pub(crate) fn count_lines(text: &[u8]) -> u64
+pub fn count_lines(text: &[u8]) -> u64
     ensures lines { result ≡ length (lines_of text.now) }
     ensures within { result ≤ length text.now }
 {

@@ -3,7 +3,7 @@ ghost use Rattle.std.specs.Prelude.{◌≡◌, ◌∷◌, [], true, false, not, 
 ghost use Rattle.std.specs.Bool.{OnTrue};
 ghost use Rattle.std.specs.Str.{IsAscii, bytes_eq};
 ghost use Rattle.razor_base.specs.declared.limits.TheConstants.{MOST_RULES};
-ghost use Rattle.field_boxes.specs.Names.{miss};
+ghost use Rattle.field_boxes.specs.Headline.Names.{miss};
 ghost use Rattle.table_text.specs.Names.{is_decision, is_rule_name};
 ghost use Rattle.text_lines.specs.Numbers.{plain_number};
 
@@ -12,7 +12,7 @@ use razor_base::limits::MOST_RULES;
 use text_lines::plain_number;
 
 /// Whether the text is the word for no decision.
-pub(crate) fn is_miss(text: &[u8]) -> bool
+pub fn is_miss(text: &[u8]) -> bool
     ensures miss { result ≡ bytes_eq text.now miss }
     ensures ascii { OnTrue result (IsAscii text.now) }
 {

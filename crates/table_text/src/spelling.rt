@@ -6,8 +6,8 @@ use ternary_words::Word;
 
 /// A word, and the text of its decision.
 #[derive(Clone, Copy)]
-pub(crate) struct Spelled<'a> {
-    pub(crate) word: Word,
-    pub(crate) decision: &'a str,
+pub struct Spelled<'a> {
+    pub word: Word,
+    pub decision: &'a str,
     pub ghost named: { IsTrue (is_decision decision.now) },
 }

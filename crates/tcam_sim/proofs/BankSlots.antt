@@ -2,8 +2,9 @@
 use Rattle.std.proofs.Common.{◌≡◌, ℕ, ◌<◌, Bool, List, Option, length, get_or, Some, None, option_map, position, ap, sym, ◌∙◌, inl, inr, slice_index, if◌then◌else◌}
 use Rattle.std.proofs.lemmas.Bool.Decides.{eqb_tells}
 use Rattle.std.proofs.lemmas.List.FromFn.{length-map-range_with_len}
-use Rattle.field_boxes.specs.Bits.{bits}
-use Rattle.ternary_words.specs.Word.{trits, header_bits}
+use Rattle.field_boxes.specs.Headline.Bits.{bits}
+use Rattle.ternary_words.specs.Headline.Word.{header_bits}
+use Rattle.ternary_words.specs.Word.{trits}
 use Rattle.tcam_sim.specs.Slots.{Stored, decision_in, look_up, slot_agrees}
 use Rattle.tcam_sim.specs.Bank.{number_at, slot_at, slots_of}
 use Rattle.tcam_sim.specs.declared.bank.Bank.{Bank}

@@ -4,7 +4,7 @@ use Rattle.std.specs.Prelude.{nat_eq, ◌&&◌, bit_and, bit_or, bit_xor, if◌t
 use Rattle.std.proofs.lemmas.Nat.{xor_block, and_block, xor_lt, le_or_l, le_or_r}
 use Rattle.std.proofs.lemmas.Bool.{ne_eqb}
 use Rattle.std.proofs.lemmas.Bool.Decides.{eqb_tells}
-use Rattle.field_boxes.specs.Bits.{bits}
+use Rattle.field_boxes.specs.Headline.Bits.{bits}
 use Rattle.ternary_words.specs.Word.{trits}
 use Rattle.ternary_words.proofs.Matching.{agrees-mask}
 use Rattle.tcam_sim.specs.Bank.{slot_with}

@@ -1,7 +1,7 @@
 -- The slots of a bank, as its columns say them.
 use Rattle.std.specs.Prelude.{ℕ, ◌+◌, ◌*◌, ◌^◌, ◌==◌, List, Option, Some, None, length, map, slice_index, if◌then◌else◌}
 use Rattle.std.specs.List.{range_with_len}
-use Rattle.field_boxes.specs.Bits.{bits}
+use Rattle.field_boxes.specs.Headline.Bits.{bits}
 use Rattle.ternary_words.specs.Word.{trits}
 use Rattle.tcam_sim.specs.Slots.{Stored}
 use Rattle.tcam_sim.specs.declared.halves.Halves.{Halves}

@@ -1,6 +1,6 @@
 -- The bits of a key.
 use Rattle.std.specs.Prelude.{◌+◌, ◌*◌, ◌^◌, Bool, List}
-use Rattle.field_boxes.specs.Bits.{bits}
+use Rattle.field_boxes.specs.Headline.Bits.{bits}
 use Rattle.tcam_sim.specs.declared.key.Key.{Key}
 
 -- those of both numbers, one after another

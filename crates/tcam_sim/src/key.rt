@@ -22,7 +22,7 @@ fn joined(high: u64, width: u8, low: u32) -> u64
 
 impl Key {
     ghost use Rattle.std.specs.Prelude.{◌≡◌};
-    ghost use Rattle.ternary_words.specs.Word.{header_bits};
+    ghost use Rattle.ternary_words.specs.Headline.Word.{header_bits};
     ghost use Rattle.tcam_sim.specs.Keys.{key_bits};
 
     /// The key of a header.

@@ -3,12 +3,12 @@ use Rattle.std.proofs.Common.{◌≡◌, ◌∷◌, ◌++◌, ℕ, zero, suc, �
 use Rattle.std.specs.Prelude.{bit_and, nat_eq}
 use Rattle.std.proofs.lemmas.Nat.{and_shr, and_mod}
 use Rattle.std.proofs.lemmas.List.{take_at, drop_at}
-use Rattle.field_boxes.specs.Bits.{bits}
-use Rattle.field_boxes.specs.Fields.{width}
+use Rattle.field_boxes.specs.Headline.Bits.{bits}
+use Rattle.field_boxes.specs.Headline.Fields.{width}
 use Rattle.field_boxes.proofs.Bits.{length-bits, bits-add, bits-mod}
-use Rattle.ternary_words.specs.Word.{trit, trits}
-use Rattle.ternary_words.specs.Hexadecimal.{bit_number, hex_digit, hex_digits}
-use Rattle.ternary_words.specs.TableText.{value_bit, mask_bit, column_text, columns_text}
+use Rattle.ternary_words.specs.Word.{trit, trits, value_bit, mask_bit}
+use Rattle.ternary_words.specs.Headline.Hexadecimal.{bit_number, hex_digit, hex_digits}
+use Rattle.ternary_words.specs.Headline.TableText.{column_text, columns_text}
 
 -- the digits of a number, k of them
 abbrev pub hex_of : ℕ → ℕ → List ℕ

@@ -7,8 +7,8 @@ use Rattle.std.proofs.lemmas.Option.{slice_get_past}
 use Rattle.std.proofs.lemmas.Bool.{ltb-false}
 use Rattle.field_boxes.specs.Names.{name_at}
 use Rattle.ternary_words.specs.declared.entry.Entry as code
-use Rattle.ternary_words.specs.Word.{agrees, header_bits}
-use Rattle.ternary_words.specs.Table.{Entry, answer, entry_matches}
+use Rattle.ternary_words.specs.Headline.Word.{agrees, header_bits}
+use Rattle.ternary_words.specs.Headline.Table.{Entry, answer, entry_matches}
 use Rattle.ternary_words.specs.Views.{word_of, entry_of, first_match, decided_at}
 
 place_step : {A B : Type 0} (g : A → Option B) (xs : List A) (k : ℕ) (t : Bool) → nat_lt k (length xs) ≡ t →

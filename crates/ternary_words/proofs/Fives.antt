@@ -1,7 +1,7 @@
 -- Lists of five, one for each field.
 use Rattle.std.proofs.Common.{◌≡◌, ◌∷◌, ℕ, zero, suc, ◌^◌, ◌<◌, List, [], length, slice_index, get_or, map, ap, sym, refl, subst, arith}
-use Rattle.field_boxes.specs.Fields.{stated, width}
-use Rattle.field_boxes.specs.Prefix.{FitsWidth}
+use Rattle.field_boxes.specs.Headline.Fields.{stated, width}
+use Rattle.field_boxes.specs.Headline.Prefix.{FitsWidth}
 use Rattle.field_boxes.specs.declared.prefix.Prefix.{Prefix}
 use Rattle.ternary_words.specs.Prefixes.{FitFields, mask_of, masks_of}
 use Rattle.ternary_words.proofs.PrefixMasks.{mask_small}

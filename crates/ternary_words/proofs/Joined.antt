@@ -2,8 +2,8 @@
 use Rattle.std.proofs.Common.{◌≡◌, ◌++◌, ℕ, ◌+◌, ◌*◌, ◌%◌, ◌^◌, length, slice_index, ◌<◌, ◌≤◌, List, [], append_assoc, append-nil, ap, sym, ◌∙◌, arith}
 use Rattle.std.specs.Prelude.{bit_or}
 use Rattle.std.proofs.lemmas.Nat.{div-mul-add, mod-mul-add, shl_whole, or_shifted}
-use Rattle.field_boxes.specs.Bits.{bits}
-use Rattle.ternary_words.specs.Word.{header_bits}
+use Rattle.field_boxes.specs.Headline.Bits.{bits}
+use Rattle.ternary_words.specs.Headline.Word.{header_bits}
 use Rattle.ternary_words.proofs.Fives.{five_of}
 use Rattle.field_boxes.proofs.Bits.{bits-add, bits-mod}
 

@@ -3,8 +3,8 @@ use Rattle.std.proofs.Common.{◌≡◌, ℕ, ◌+◌, ◌-◌, ◌*◌, ◌/◌
 use Rattle.std.specs.Prelude.{bit_and, slice_index}
 use Rattle.std.proofs.lemmas.Nat.{pow_pos, shr_split, shr_below, and_mask, and_block}
 use Rattle.std.proofs.Math.Nat.{mod-eq_of_lt}
-use Rattle.field_boxes.specs.Fields.{stated, width}
-use Rattle.field_boxes.specs.Prefix.{FitsWidth}
+use Rattle.field_boxes.specs.Headline.Fields.{stated, width}
+use Rattle.field_boxes.specs.Headline.Prefix.{FitsWidth}
 use Rattle.field_boxes.specs.declared.prefix.Prefix.{Prefix}
 use Rattle.ternary_words.specs.Word.{key_of}
 use Rattle.ternary_words.specs.Prefixes.{FitFields, mask_of, masks_of}

@@ -5,8 +5,9 @@ use Rattle.std.proofs.lemmas.Nat.{pow_pos, and_shr, xor_shr, and_mod, xor_mod, a
 use Rattle.std.proofs.Math.Nat.{mod-eq_of_lt}
 use Rattle.std.proofs.Math.Numerals.{one-add}
 use Rattle.std.proofs.lemmas.Bool.Decides.{eqb_tells}
-use Rattle.field_boxes.specs.Bits.{bits}
-use Rattle.ternary_words.specs.Word.{trit, trits, trit_agrees, agrees}
+use Rattle.field_boxes.specs.Headline.Bits.{bits}
+use Rattle.ternary_words.specs.Headline.Word.{agrees}
+use Rattle.ternary_words.specs.Word.{trit, trits, trit_agrees}
 
 -- one bit, where each of the three is 0 or 1
 bit_agrees : (m v k : ℕ) → m < 2 → v < 2 → k < 2 → trit_agrees (trit (nat_eq m 1) (nat_eq v 1)) (nat_eq k 1) ≡ nat_eq (bit_and (bit_xor k v) m) 0

@@ -3,14 +3,15 @@ use Rattle.std.proofs.Common.{◌≡◌, ◌∷◌, ◌++◌, ℕ, ◌+◌, ◌/
 use Rattle.std.proofs.lemmas.Nat.{pow_pos, mod_below, and_mod, and_shr}
 use Rattle.std.proofs.lemmas.Bool.{eqb-true, eq-eqb}
 use Rattle.std.specs.Prelude.{bit_and}
-use Rattle.field_boxes.specs.Bits.{bits, begins}
-use Rattle.field_boxes.specs.Fields.{AreValues, stated, width}
-use Rattle.field_boxes.specs.Prefix.{FitsWidth}
+use Rattle.field_boxes.specs.Headline.Bits.{bits}
+use Rattle.field_boxes.specs.Bits.{begins}
+use Rattle.field_boxes.specs.Headline.Fields.{AreValues, stated, width}
+use Rattle.field_boxes.specs.Headline.Prefix.{FitsWidth}
 use Rattle.field_boxes.specs.declared.prefix.Prefix.{Prefix}
 use Rattle.field_boxes.proofs.Bits.{length-bits, bits-add, bits-mod, begins-bits}
-use Rattle.ternary_words.specs.Word.{trits, field_bits, header_bits}
+use Rattle.ternary_words.specs.Headline.Word.{field_bits, header_bits}
+use Rattle.ternary_words.specs.Word.{trits, mask_bit}
 use Rattle.ternary_words.specs.Prefixes.{FitFields, HasMask, IsPart, IsPrefixInEach, IsWordOf, fields_trits, mask_of, masks_of, prefix_trits}
-use Rattle.ternary_words.specs.TableText.{mask_bit}
 use Rattle.ternary_words.proofs.Columns.{length-trits, mask-bits, trits-append}
 use Rattle.ternary_words.proofs.PrefixMasks.{mask_small}
 use Rattle.ternary_words.proofs.PrefixTrits.{trits-fields, trits-prefix}

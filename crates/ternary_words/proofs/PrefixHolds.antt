@@ -2,12 +2,15 @@
 use Rattle.std.proofs.Common.{◌≡◌, ◌∷◌, ◌++◌, ℕ, zero, suc, ◌+◌, ◌-◌, ◌^◌, ◌<◌, ◌≤◌, List, [], Bool, true, false, Some, None, length, replicate, map, take, ap, refl, sym, ◌∙◌, arith}
 use Rattle.std.specs.Prelude.{◌&&◌}
 use Rattle.std.proofs.lemmas.List.{length-append, length-map, length-replicate, length-take-le}
-use Rattle.field_boxes.specs.Bits.{bits, begins}
-use Rattle.field_boxes.specs.Fields.{width, AreValues}
-use Rattle.field_boxes.specs.Prefix.{FitsWidth, prefix_bits, prefix_holds}
+use Rattle.field_boxes.specs.Headline.Bits.{bits}
+use Rattle.field_boxes.specs.Bits.{begins}
+use Rattle.field_boxes.specs.Headline.Fields.{width, AreValues}
+use Rattle.field_boxes.specs.Headline.Prefix.{FitsWidth, prefix_holds}
+use Rattle.field_boxes.specs.Prefix.{prefix_bits}
 use Rattle.field_boxes.specs.declared.prefix.Prefix.{Prefix}
 use Rattle.field_boxes.proofs.Bits.{length-bits, begins_at}
-use Rattle.ternary_words.specs.Word.{Trit, trit_agrees, agrees, field_bits}
+use Rattle.ternary_words.specs.Headline.Word.{Trit, agrees, field_bits}
+use Rattle.ternary_words.specs.Word.{trit_agrees}
 use Rattle.ternary_words.specs.Prefixes.{prefix_trits, fields_trits, FitFields, all_hold}
 
 agrees-none : (k : ℕ) (cs : List Bool) → agrees (replicate k None) cs ≡ true

@@ -3,12 +3,13 @@ use Rattle.std.proofs.Common.{◌≡◌, ◌∷◌, ◌++◌, ℕ, zero, suc, �
 use Rattle.std.proofs.lemmas.Nat.{pow_pos}
 use Rattle.std.proofs.Math.Numerals.{one-add}
 use Rattle.std.proofs.Math.Nat.{pow-suc}
-use Rattle.field_boxes.specs.Bits.{bits}
-use Rattle.field_boxes.specs.Fields.{width}
-use Rattle.field_boxes.specs.Prefix.{FitsWidth}
+use Rattle.field_boxes.specs.Headline.Bits.{bits}
+use Rattle.field_boxes.specs.Headline.Fields.{width}
+use Rattle.field_boxes.specs.Headline.Prefix.{FitsWidth}
 use Rattle.field_boxes.specs.declared.prefix.Prefix.{Prefix}
 use Rattle.field_boxes.proofs.Bits.{length-bits}
-use Rattle.ternary_words.specs.Word.{trits, field_bits}
+use Rattle.ternary_words.specs.Headline.Word.{field_bits}
+use Rattle.ternary_words.specs.Word.{trits}
 use Rattle.ternary_words.specs.Prefixes.{mask_of, masks_of, prefix_trits, fields_trits, FitFields}
 use Rattle.ternary_words.proofs.Joined.{bits-joined}
 use Rattle.ternary_words.proofs.Columns.{trits-append}

@@ -2,9 +2,10 @@
 use Rattle.std.proofs.Common.{◌≡◌, ◌∷◌, ℕ, zero, suc, ◌+◌, ◌-◌, ◌^◌, ◌≤◌, Bool, true, false, ◌&&◌, ◌||◌, List, [], ap, refl, ◌∙◌, arith}
 use Rattle.std.proofs.lemmas.Nat.{pow_pos}
 use Rattle.field_boxes.specs.Boxes.{box_holds, box_of}
-use Rattle.field_boxes.specs.Classifier.{Interval, interval_holds, union_holds}
-use Rattle.field_boxes.specs.Fields.{AreValues, stated}
-use Rattle.field_boxes.specs.Prefix.{FitsWidth, prefix_holds, prefix_interval}
+use Rattle.field_boxes.specs.Headline.Classifier.{Interval, interval_holds, union_holds}
+use Rattle.field_boxes.specs.Headline.Fields.{AreValues, stated}
+use Rattle.field_boxes.specs.Headline.Prefix.{FitsWidth, prefix_holds}
+use Rattle.field_boxes.specs.Prefix.{prefix_interval}
 use Rattle.field_boxes.specs.Spans.{AreInside, interval_of}
 use Rattle.field_boxes.specs.declared.prefix.Prefix.{Prefix}
 use Rattle.field_boxes.specs.declared.span.Span.{Span}

@@ -2,7 +2,7 @@
 use Rattle.std.specs.Prelude.{◌≡◌, ◌⊎◌, ℕ, Bool, cond, List, [], ◌∷◌}
 use Rattle.ternary_words.specs.declared.word.Word.{Word}
 use Rattle.ternary_words.specs.declared.entry.Entry.{Entry}
-use Rattle.ternary_words.specs.Word.{agrees, header_bits}
+use Rattle.ternary_words.specs.Headline.Word.{agrees, header_bits}
 use Rattle.ternary_words.specs.Views.{word_of}
 
 -- whether the word matches the header

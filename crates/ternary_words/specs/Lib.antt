@@ -1,8 +1,6 @@
+pub mod Headline
 pub mod Word
 pub mod Prefixes
-pub mod Table
-pub mod Hexadecimal
-pub mod TableText
 pub mod Views
 pub mod Entries
 pub mod Limits

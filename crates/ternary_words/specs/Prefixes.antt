@@ -1,9 +1,10 @@
 -- Words that are a prefix in each field.
 use Rattle.std.specs.Prelude.{◌≡◌, ℕ, length, ◌-◌, ◌*◌, ◌^◌, Bool, true, ◌&&◌, List, [], ◌∷◌, ◌++◌, Some, None, map, replicate}
 use Rattle.field_boxes.specs.declared.prefix.Prefix.{Prefix}
-use Rattle.field_boxes.specs.Fields.{stated, width}
-use Rattle.field_boxes.specs.Prefix.{FitsWidth, prefix_bits, prefix_holds}
-use Rattle.ternary_words.specs.Word.{Trit}
+use Rattle.field_boxes.specs.Headline.Fields.{stated, width}
+use Rattle.field_boxes.specs.Headline.Prefix.{FitsWidth, prefix_holds}
+use Rattle.field_boxes.specs.Prefix.{prefix_bits}
+use Rattle.ternary_words.specs.Headline.Word.{Trit}
 
 -- the bits of a prefix, and '*' below them
 abbrev pub prefix_trits : ℕ → Prefix → List Trit

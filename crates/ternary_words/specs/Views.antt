@@ -1,12 +1,13 @@
 -- The words, entries and tables of the code as trits and names.
 use Rattle.std.specs.Prelude.{ℕ, List, map, position, Option, option_and_then, slice_get}
-use Rattle.field_boxes.specs.Bits.{bits}
+use Rattle.field_boxes.specs.Headline.Bits.{bits}
 use Rattle.field_boxes.specs.Names.{name_at}
 use Rattle.ternary_words.specs.declared.word.Word as code_word
 use Rattle.ternary_words.specs.declared.entry.Entry as code_entry
 use Rattle.ternary_words.specs.declared.table.Table as code_table
-use Rattle.ternary_words.specs.Word.{Trit, trits, agrees, header_bits}
-use Rattle.ternary_words.specs.Table.{Entry, Table}
+use Rattle.ternary_words.specs.Headline.Word.{Trit, agrees, header_bits}
+use Rattle.ternary_words.specs.Word.{trits}
+use Rattle.ternary_words.specs.Headline.Table.{Entry, Table}
 
 abbrev pub word_of : code_word.Word → List Trit
 word_of w = trits (bits 104 w.mask) (bits 104 w.value)

@@ -1,12 +1,8 @@
--- Ternary words: 104 trits, and the headers that they match.
-use Rattle.std.specs.Prelude.{ℕ, ◌+◌, ◌*◌, ◌^◌, Bool, true, ◌&&◌, List, [], ◌∷◌, ◌++◌, Option, Some, None, slice_index, if◌then◌else◌}
+-- Trits of a mask and a value, one by one, and the key of a header as a number.
+use Rattle.std.specs.Prelude.{ℕ, ◌+◌, ◌*◌, ◌^◌, Bool, true, false, List, [], ◌∷◌, Some, None, is_some, unwrap_or, slice_index, if◌then◌else◌}
 use Rattle.std.specs.Bool.{beq}
-use Rattle.field_boxes.specs.Fields.{width, stated}
-use Rattle.field_boxes.specs.Bits.{bits}
-
--- a trit: a bit that a key must have, or none for '*'
-abbrev pub Trit : Type 0
-Trit = Option Bool
+use Rattle.std.specs.Option.{option_map_or}
+use Rattle.ternary_words.specs.Headline.Word.{Trit}
 
 -- the trit with a bit of the mask and a bit of the value
 abbrev pub trit : Bool → Bool → Trit
@@ -18,26 +14,18 @@ trits [] values = []
 trits (m ∷ ms) [] = []
 trits (m ∷ ms) (v ∷ vs) = trit m v ∷ trits ms vs
 
--- the bits of these fields' values, in the order of the fields, each with its highest bit first
-abbrev pub field_bits : List ℕ → List ℕ → List Bool
-field_bits [] values = []
-field_bits (f ∷ fs) [] = []
-field_bits (f ∷ fs) (v ∷ vs) = bits (width f) v ++ field_bits fs vs
+-- whether the trit is '*' or equals the bit
+abbrev pub trit_agrees : Trit → Bool → Bool
+trit_agrees t bit = option_map_or (λ c. beq c bit) t true
 
--- the 104 bits of a header
-abbrev pub header_bits : List ℕ → List Bool
-header_bits values = field_bits stated values
+-- the bit that a trit asks for: none for '*'
+abbrev pub value_bit : Trit → Bool
+value_bit t = unwrap_or t false
+
+-- whether a trit asks for a bit
+abbrev pub mask_bit : Trit → Bool
+mask_bit t = is_some t
 
 -- the key of a header as a number
 abbrev pub key_of : List ℕ → ℕ
 key_of values = slice_index values 0 * 2 ^ 72 + slice_index values 1 * 2 ^ 40 + slice_index values 2 * 2 ^ 24 + slice_index values 3 * 2 ^ 8 + slice_index values 4
-
-abbrev pub trit_agrees : Trit → Bool → Bool
-trit_agrees None bit = true
-trit_agrees (Some c) bit = beq c bit
-
--- whether each trit that isn't '*' equals the bit at its place
-abbrev pub agrees : List Trit → List Bool → Bool
-agrees [] bits = true
-agrees (t ∷ ts) [] = true
-agrees (t ∷ ts) (b ∷ bs) = trit_agrees t b && agrees ts bs

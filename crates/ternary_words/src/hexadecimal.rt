@@ -1,7 +1,7 @@
 //! Numbers in hexadecimal digits.
 ghost use Rattle.std.specs.Prelude.{◌≡◌, ◌%◌, ◌∷◌, [], ◌++◌};
-ghost use Rattle.field_boxes.specs.Bits.{bits};
-ghost use Rattle.ternary_words.specs.Hexadecimal.{hex_digit, hex_digits};
+ghost use Rattle.field_boxes.specs.Headline.Bits.{bits};
+ghost use Rattle.ternary_words.specs.Headline.Hexadecimal.{hex_digit, hex_digits};
 
 /// The digits in rising order.
 const DIGITS: [u8; 16] = *b"0123456789ABCDEF";

@@ -1,8 +1,9 @@
 //! The bits of a header as one number.
 ghost use Rattle.std.specs.Prelude.{◌≡◌, ◌+◌, ◌*◌, ◌≤◌, ◌<◌, ◌^◌, ℕ, slice_index};
-ghost use Rattle.field_boxes.specs.Fields.{width};
-ghost use Rattle.field_boxes.specs.Bits.{bits};
-ghost use Rattle.ternary_words.specs.Word.{key_of, header_bits};
+ghost use Rattle.field_boxes.specs.Headline.Fields.{width};
+ghost use Rattle.field_boxes.specs.Headline.Bits.{bits};
+ghost use Rattle.ternary_words.specs.Headline.Word.{header_bits};
+ghost use Rattle.ternary_words.specs.Word.{key_of};
 
 /// The number with the bits of `low`, so many as `width`, behind those of `high`.
 fn joined(high: u128, width: u8, low: u32) -> u128

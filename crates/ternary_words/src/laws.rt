@@ -1,10 +1,10 @@
 //! Laws of the definitions, for whoever relies on them. The functions do nothing.
 ghost use Rattle.std.specs.Prelude.{◌≡◌, ℕ, List, map};
-ghost use Rattle.field_boxes.specs.Fields.{IsHeader, stated};
+ghost use Rattle.field_boxes.specs.Headline.Fields.{IsHeader, stated};
 ghost use Rattle.field_boxes.specs.declared.prefix.Prefix.{Prefix};
 ghost use Rattle.ternary_words.specs.Prefixes.{FitFields, all_hold, fields_trits};
-ghost use Rattle.ternary_words.specs.Table.{answer};
-ghost use Rattle.ternary_words.specs.Word.{agrees, header_bits};
+ghost use Rattle.ternary_words.specs.Headline.Table.{answer};
+ghost use Rattle.ternary_words.specs.Headline.Word.{agrees, header_bits};
 ghost use Rattle.ternary_words.specs.Views.{decided_at, entry_of, first_match};
 ghost use Rattle.ternary_words.specs.declared.entry.Entry.{Entry};
 

@@ -1,8 +1,26 @@
 //! Ternary words, entries and tables, and the text of a table.
 //!
-//! A TCAM holds a list of entries, each a word of trits `0`, `1`, `*` and a decision. A key matches a
-//! word if every trit that isn't `*` equals the key's bit at its place, and the answer is that of the
-//! first matching entry: [`look`] gives its place. [`write_table`] writes the text of a table.
+//! A TCAM holds a list of entries, each a word of trits `0`, `1`, `*` and a decision. A key matches a word if every
+//! trit that isn't `*` equals the key's bit at its place, and a lookup answers by the first matching entry.
+//!
+//! What is promised:
+//!
+//! - [`Word::matches`] says yes exactly where every trit of the word that isn't `*` is the header's bit at its place,
+//!   of
+//! 104. [`Word::of`] makes the word of five prefixes, which matches exactly the headers that all five hold.
+//! - [`Word::spans`] gives the box of the headers that the word matches, and none exactly where the word isn't a prefix
+//!   in each field.
+//! - [`look`] gives the place of the first entry that matches, and none exactly where none does; what it decides is the
+//!   table's answer ([`laws`]).
+//! - [`write_table`] writes exactly the text of its table, or after a failed write a front of it.
+//! - [`Table::copy`] has the same entries, with the same names under the same numbers.
+//!
+//! | Room | Holds |
+//! |---|---|
+//! | `word`, `masks`, `parts`, `key` | ternary words as values and masks, their prefixes, and the bits of a header |
+//! | `entry`, `table`, `lookup` | entries, tables, and the first match |
+//! | `write`, `hexadecimal` | the text of a table |
+//! | `laws` | laws of the definitions |
 #![tactic(auto)]
 
 mod entry;
@@ -20,4 +38,4 @@ pub use entry::Entry;
 pub use lookup::look;
 pub use table::Table;
 pub use word::Word;
-pub use write::write_table;
+pub use write::{put_word, write_table};

@@ -1,7 +1,7 @@
 //! The values and the masks of five prefixes.
 ghost use Rattle.std.specs.Prelude.{◌≡◌, ◌<◌, ◌^◌, ℕ, map, slice_index};
-ghost use Rattle.field_boxes.specs.Fields.{stated, width};
-ghost use Rattle.field_boxes.specs.Prefix.{FitsWidth};
+ghost use Rattle.field_boxes.specs.Headline.Fields.{stated, width};
+ghost use Rattle.field_boxes.specs.Headline.Prefix.{FitsWidth};
 ghost use Rattle.ternary_words.specs.Prefixes.{FitFields, mask_of, masks_of};
 
 use field_boxes::Prefix;

@@ -1,6 +1,6 @@
 //! The five prefixes of a word.
 ghost use Rattle.std.specs.Prelude.{◌≡◌, ◌≢◌, ◌≤◌, ◌<◌, ◌+◌, ◌-◌, ◌*◌, ◌/◌, ◌%◌, ◌^◌, ℕ, MatchOption, bit_and};
-ghost use Rattle.field_boxes.specs.Prefix.{FitsWidth};
+ghost use Rattle.field_boxes.specs.Headline.Prefix.{FitsWidth};
 ghost use Rattle.field_boxes.specs.declared.prefix.Prefix.{Prefix};
 ghost use Rattle.ternary_words.specs.Prefixes.{HasMask, IsPart};
 

@@ -19,9 +19,10 @@ pub struct Word {
 impl Word {
     ghost use Rattle.std.specs.Prelude.{◌↔◌, ℕ, List, IfSome, IsSome, MatchOption, slice_index};
     ghost use Rattle.field_boxes.specs.Boxes.{box_holds, box_of};
-    ghost use Rattle.field_boxes.specs.Fields.{IsHeader, stated, width};
+    ghost use Rattle.field_boxes.specs.Headline.Fields.{IsHeader, stated, width};
     ghost use Rattle.field_boxes.specs.Spans.{AreInside};
-    ghost use Rattle.ternary_words.specs.Word.{agrees, header_bits, trits};
+    ghost use Rattle.ternary_words.specs.Headline.Word.{agrees, header_bits};
+    ghost use Rattle.ternary_words.specs.Word.{trits};
     ghost use Rattle.ternary_words.specs.Prefixes.{FitFields, IsPrefixInEach, IsWordOf, all_hold, fields_trits};
     ghost use Rattle.ternary_words.specs.Views.{word_of};
 

@@ -1,10 +1,11 @@
 //! Writing a table.
 ghost use Rattle.std.specs.Prelude.{◌≤◌, ◌*◌, ◌/◌, ◌^◌, ◌∷◌, [], ◌++◌, length};
+ghost use Rattle.std.specs.List.{flat_map};
 ghost use Rattle.razor_base.specs.Output.{Puts, Writes};
-ghost use Rattle.field_boxes.specs.Bits.{bits};
-ghost use Rattle.field_boxes.specs.Fields.{stated};
-ghost use Rattle.ternary_words.specs.Hexadecimal.{hex_digits};
-ghost use Rattle.ternary_words.specs.TableText.{columns_text, entries_text, entry_line, first_line, table_text};
+ghost use Rattle.field_boxes.specs.Headline.Bits.{bits};
+ghost use Rattle.field_boxes.specs.Headline.Fields.{stated};
+ghost use Rattle.ternary_words.specs.Headline.Hexadecimal.{hex_digits};
+ghost use Rattle.ternary_words.specs.Headline.TableText.{columns_text, entry_line, first_line, table_text};
 ghost use Rattle.ternary_words.specs.Views.{entry_of, table_of, word_of};
 
 use crate::entry::Entry;
@@ -15,6 +16,7 @@ use field_boxes::Decisions;
 use razor_base::{Failed, Part, Pending, Sink, put_parts};
 
 /// Writes the text of the table, in large pieces and without taking memory.
+#[inline(never)]
 pub fn write_table<K: Sink>(table: &Table, out: &mut K) -> Result<(), Failed>
     ensures { Writes K.written K.faults out.old out.new (table_text (table_of table.now)) result }
 {
@@ -45,7 +47,7 @@ fn put_first_line<K: Sink>(table: &Table, pending: &mut Pending, out: &mut K) ->
 
 /// Puts a line for each entry.
 fn put_entries<K: Sink>(table: &Table, pending: &mut Pending, out: &mut K) -> Result<(), Failed>
-    ensures { Puts K.written K.faults out.old out.new pending.old pending.new (entries_text (table_of table.now)) result }
+    ensures { Puts K.written K.faults out.old out.new pending.old pending.new (flat_map entry_line (table_of table.now).entries) result }
 {
     for entry in &table.entries {
         put_entry(entry, &table.names, pending, out)?;
@@ -69,7 +71,7 @@ fn put_entry<K: Sink>(
 }
 
 /// Puts the five columns of a word, and a space behind each.
-fn put_word<K: Sink>(word: &Word, pending: &mut Pending, out: &mut K) -> Result<(), Failed>
+pub fn put_word<K: Sink>(word: &Word, pending: &mut Pending, out: &mut K) -> Result<(), Failed>
     ensures { Puts K.written K.faults out.old out.new pending.old pending.new (columns_text stated (word_of word.now)) result }
 {
     put_column(word, 72, 8, pending, out)?;

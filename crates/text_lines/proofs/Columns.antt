@@ -3,7 +3,7 @@ use Rattle.std.proofs.Common.{◌≡◌, ◌∷◌, ℕ, ◌+◌, List, Bool, tr
 use Rattle.std.specs.Prelude.{position, Option, option_map, not, MatchOption, IsTrue}
 use Rattle.std.specs.List.{onto_first}
 use Rattle.std.proofs.lemmas.Bool.{false≢true}
-use Rattle.text_lines.specs.Lines.{is_blank}
+use Rattle.text_lines.specs.Headline.Lines.{is_blank}
 use Rattle.text_lines.proofs.Positions.{position-cons}
 use Rattle.text_lines.specs.Columns.{begins_column, columns, from_first}
 

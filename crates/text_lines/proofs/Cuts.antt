@@ -3,8 +3,8 @@ use Rattle.std.proofs.Common.{◌≡◌, ◌≢◌, ◌∷◌, ℕ, suc, ◌+◌
 use Rattle.std.specs.Prelude.{position, Option, option_map, nat_eq, MatchOption}
 use Rattle.std.specs.List.{onto_first}
 use Rattle.std.proofs.lemmas.Bool.{false≢true}
-use Rattle.text_lines.specs.Cuts.{split_once}
-use Rattle.text_lines.specs.Lines.{lines_of}
+use Rattle.text_lines.specs.Headline.Cuts.{split_once}
+use Rattle.text_lines.specs.Headline.Lines.{lines_of}
 use Rattle.text_lines.proofs.Positions.{position-cons}
 
 split_step : (b : ℕ) (bs : List ℕ) (t : Bool) (o : Option ℕ) →

@@ -9,7 +9,8 @@ use Rattle.std.proofs.lemmas.List.Folds.{list_all-append}
 use Rattle.std.proofs.lemmas.List.Sums.{fold-append}
 use Rattle.std.proofs.lemmas.Str.{digit_value_digit}
 use Rattle.std.proofs.lemmas.Str.Parse.{digit_from_value}
-use Rattle.text_lines.specs.Numbers.{has_leading_zero, is_number, number_of, number_within, plain_number, short_number}
+use Rattle.text_lines.specs.Headline.Numbers.{is_number, number_of, number_within, short_number}
+use Rattle.text_lines.specs.Numbers.{has_leading_zero, plain_number}
 use Rattle.text_lines.proofs.Joins.{all_wider, is_other}
 
 abbrev pub is_digit : ℕ → Bool

@@ -2,11 +2,16 @@
 use Rattle.std.proofs.Common.{◌≡◌, ◌∷◌, ◌++◌, ℕ, ◌+◌, List, Bool, true, false, cond, [], ap, refl, sym, ◌∙◌, arith, length, length-append, Some, None}
 use Rattle.std.specs.Prelude.{Option, nat_eq, not, option_map, ◌==◌}
 use Rattle.std.specs.List.{list_all, onto_first}
+use Rattle.std.specs.Option.{option_map_or}
 use Rattle.std.proofs.lemmas.Bool.{and_parts, and_from, not-true, eq-eqb, eqb-true}
 use Rattle.std.proofs.lemmas.List.Folds.{list_all-append}
-use Rattle.text_lines.specs.Cuts.{split_once}
-use Rattle.text_lines.specs.Lines.{lines_of}
+use Rattle.text_lines.specs.Headline.Cuts.{split_once}
+use Rattle.text_lines.specs.Headline.Lines.{lines_of}
 use Rattle.text_lines.proofs.Cuts.{split_once-cons}
+
+-- the parts of a text that was cut, or the whole of it
+abbrev pub cut_parts : List ℕ → Option (List ℕ × List ℕ) → List ℕ × Option (List ℕ)
+cut_parts text o = option_map_or (λ parts. (parts.0, Some parts.1)) o (text, None)
 
 -- a byte that is not the separator
 abbrev pub is_other : ℕ → ℕ → Bool

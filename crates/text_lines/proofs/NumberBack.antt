@@ -8,7 +8,8 @@ use Rattle.std.proofs.lemmas.Bool.{and_parts, and_from, eqb-false, leb-true, lt-
 use Rattle.std.proofs.lemmas.Fmt.{decimal-digits_value, length-decimal-le}
 use Rattle.std.proofs.lemmas.Str.{digit_value_digit}
 use Rattle.std.proofs.lemmas.Str.Parse.{FoldsDigits, IsDigitsTest, IsNumeralModel, digit_from_value, numerals_by_fold}
-use Rattle.text_lines.specs.Numbers.{has_leading_zero, is_number, number_of, number_within, plain_number}
+use Rattle.text_lines.specs.Headline.Numbers.{is_number, number_of, number_within}
+use Rattle.text_lines.specs.Numbers.{has_leading_zero, plain_number}
 use Rattle.text_lines.proofs.Decimals.{is_digit}
 
 abbrev AreDigits : List ℕ → Type 0

@@ -1,7 +1,7 @@
 -- The columns of a line: blanks part them.
 use Rattle.std.specs.Prelude.{ℕ, Bool, false, not, List, [], ◌∷◌, Option, Some, None, if◌then◌else◌}
 use Rattle.std.specs.List.{onto_first}
-use Rattle.text_lines.specs.Lines.{is_blank}
+use Rattle.text_lines.specs.Headline.Lines.{is_blank}
 
 -- whether a column stands right at the front of the text
 abbrev pub begins_column : List ℕ → Bool

@@ -1,6 +1,3 @@
-pub mod Steps
-pub mod Fallible
-pub mod Cuts
+pub mod Headline
 pub mod Numbers
-pub mod Lines
 pub mod Columns

@@ -1,7 +1,7 @@
 //! The columns of a line.
 ghost use Rattle.std.specs.Prelude.{◌≡◌, ◌∷◌, ◌≤◌, [], length, take, drop, option_map, position, not, IfSome, IsTrue, MatchOption};
 ghost use Rattle.text_lines.specs.Columns.{begins_column, behind_column, columns, first_column, from_first};
-ghost use Rattle.text_lines.specs.Lines.{is_blank};
+ghost use Rattle.text_lines.specs.Headline.Lines.{is_blank};
 
 /// Whether the byte is a space or a tab.
 pub fn is_blank(byte: u8) -> bool

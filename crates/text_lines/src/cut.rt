@@ -1,7 +1,7 @@
 //! Cutting a text at a separator.
 ghost use Rattle.std.specs.Prelude.{◌≡◌, ◌==◌, position};
 ghost use Rattle.std.specs.Option.{option_map, option_copied};
-ghost use Rattle.text_lines.specs.Cuts.{parts_at, split_once};
+ghost use Rattle.text_lines.specs.Headline.Cuts.{parts_at, split_once};
 
 /// The place of the first separator.
 fn place_of(text: &[u8], separator: u8) -> Option<usize>

@@ -5,6 +5,17 @@
 //! let (column, rest) = next_column(line)?;
 //! let number = number_within(column, 10, 65_535)?;
 //! ```
+//!
+//! Every call answers exactly as the definition of its name in `specs/`, each of a few lines: [`next_line`] and
+//! [`next_whole_line`] the next line and what follows it, none exactly at the end; [`split_once`] and [`parts_at`] the
+//! parts at a separator; [`next_column`] the first column and what stands behind it; [`number_within`],
+//! [`plain_number`] and [`short_number`] the number that a text writes, none exactly where it writes none or a greater
+//! one than allowed. No call takes memory.
+//!
+//! | Room | Holds |
+//! |---|---|
+//! | `line`, `column`, `cut` | lines, columns, and cuts at a separator |
+//! | `number` | numbers in digits of a base |
 #![tactic(auto)]
 
 mod column;

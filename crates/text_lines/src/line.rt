@@ -2,7 +2,7 @@
 ghost use Rattle.std.specs.Prelude.{◌≡◌, ◌<◌, ◌==◌, ◌∷◌, [], find, position, length, not, IfSome, IfNone, option_copied};
 ghost use Rattle.std.specs.Char.{is_ascii};
 ghost use Rattle.std.specs.List.{list_all};
-ghost use Rattle.text_lines.specs.Lines.{is_blank, is_skipped, lines_of, text_lines, without_return};
+ghost use Rattle.text_lines.specs.Headline.Lines.{is_blank, is_skipped, lines_of, text_lines, without_return};
 
 use crate::column::is_blank;
 use bstr::ByteSlice;

@@ -2,7 +2,8 @@
 ghost use Rattle.std.specs.Prelude.{◌≡◌, ◌≤◌, ◌^◌, min, Option, Some, None, IfSome, OnSome, if◌then◌else◌};
 ghost use Rattle.std.specs.Char.{digit_value};
 ghost use Rattle.std.specs.Str.{IsAscii};
-ghost use Rattle.text_lines.specs.Numbers.{has_leading_zero, is_number, number_of, number_within, plain_number, short_number};
+ghost use Rattle.text_lines.specs.Headline.Numbers.{is_number, number_of, number_within, short_number};
+ghost use Rattle.text_lines.specs.Numbers.{has_leading_zero, plain_number};
 
 /// What the byte stands for as a digit: 0 to 9, then the letters in either case, and 36 for no digit.
 pub fn digit(byte: u8) -> u64
@@ -42,7 +43,7 @@ pub fn number_up_to(text: &[u8], base: u64, cap: u64) -> Option<u64>
 
 /// The number that the text writes in the base, leading zeros allowed; none where the text has another
 /// byte than digits, no digit, or a number above `greatest`.
-#[tactic(auto, unfolding(crate::specs::Numbers::number_within))]
+#[tactic(auto, unfolding(crate::specs::Headline::Numbers::number_within))]
 pub fn number_within(text: &[u8], base: u64, greatest: u32) -> Option<u32>
     requires base { 1 ≤ base }
     requires narrow { base ≤ 16 }
@@ -59,7 +60,7 @@ pub fn number_within(text: &[u8], base: u64, greatest: u32) -> Option<u32>
 }
 
 /// The same, in at most so many digits.
-#[tactic(auto, unfolding(crate::specs::Numbers::short_number))]
+#[tactic(auto, unfolding(crate::specs::Headline::Numbers::short_number))]
 pub fn short_number(text: &[u8], most_digits: usize, base: u64, greatest: u32) -> Option<u32>
     requires base { 1 ≤ base }
     requires narrow { base ≤ 16 }

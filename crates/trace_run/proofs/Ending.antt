@@ -5,7 +5,7 @@ use Rattle.std.specs.Io.KnownBytes.{Consumes, IsAtEnd, Keeps, prepend_known}
 use Rattle.std.proofs.lemmas.List.Concat.{flat_map-append}
 use Rattle.razor_base.specs.Output.{LeavesOut, AppendsFront}
 use Rattle.razor_base.proofs.Output.{leaves_out-then, appends_front-then, appends_front-within}
-use Rattle.text_lines.specs.Lines.{text_lines}
+use Rattle.text_lines.specs.Headline.Lines.{text_lines}
 use Rattle.tcam_sim.specs.Slots.{Stored}
 use Rattle.trace_run.specs.declared.error.TraceError.{TraceError}
 use Rattle.trace_run.specs.declared.error.TraceError.TheVariants as errors

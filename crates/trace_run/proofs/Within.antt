@@ -2,7 +2,7 @@
 use Rattle.std.proofs.Common.{◌≡◌, ℕ, ◌+◌, ◌-◌, ◌<◌, ◌≤◌, List, false, cond, ◌++◌, Some, None, ap, sym, ◌∙◌, length, take, append-nil, arith, nat_le, le-leb}
 use Rattle.std.proofs.Math.Seq.{take-append-add}
 use Rattle.std.proofs.lemmas.Bool.{lt-leb, cond_both}
-use Rattle.text_lines.specs.Lines.{text_lines}
+use Rattle.text_lines.specs.Headline.Lines.{text_lines}
 use Rattle.trace_run.specs.Trace.{Trace, BadLine, has_feed, trace_from, trace_of, trace_within, whole_lines}
 use Rattle.trace_run.proofs.Feeds.{text_lines-append, whole_lines-append, whole_lines-none}
 use Rattle.trace_run.proofs.Traces.{behind, trace_from-append, trace_from-bad, headers_begin}

@@ -1,6 +1,6 @@
 -- What is kept of a trace while it is read.
 use Rattle.std.specs.Prelude.{◌≡◌, ℕ, ◌+◌, ◌≤◌, Bool, true, false, List, ◌++◌, Option, Some, None, length, Result, Ok, Err}
-use Rattle.text_lines.specs.Lines.{text_lines}
+use Rattle.text_lines.specs.Headline.Lines.{text_lines}
 use Rattle.razor_base.specs.Faults.{Rose}
 use Rattle.razor_base.specs.Output.{LeavesOut, AppendsFront}
 use Rattle.trace_run.specs.declared.error.TraceError.{TraceError}
@@ -66,6 +66,15 @@ UnlessWriteFault (Err errors.ReadFault) P = P
 UnlessWriteFault (Err errors.TooLong) P = P
 UnlessWriteFault (Err errors.WriteFault) P = Unit {0}
 UnlessWriteFault (Err errors.Memory) P = P
+
+-- a fact unless a write or a read failed
+abbrev pub UnlessFault : {T : Type 0} → Result T TraceError → Type 0 → Type 0
+UnlessFault (Ok value) P = P
+UnlessFault (Err (errors.BadLine line reason)) P = P
+UnlessFault (Err errors.ReadFault) P = Unit {0}
+UnlessFault (Err errors.TooLong) P = P
+UnlessFault (Err errors.WriteFault) P = Unit {0}
+UnlessFault (Err errors.Memory) P = P
 
 -- a call puts the text behind the bytes that waited, unless it is lost with a front of them written
 pub record PutsLines {S T : Type 0} (written : S → Option (List ℕ)) (faults : S → ℕ) (before after : S) (waited waits text : List ℕ) (answer : Result T TraceError) : Type 0 where

@@ -2,9 +2,9 @@
 use Rattle.std.specs.Prelude.{ℕ, ◌+◌, ◌==◌, Bool, List, [], ◌∷◌, Option, Some, None, Result, Ok, Err, length, nat_le, take, if◌then◌else◌}
 use Rattle.std.specs.List.{list_any}
 use Rattle.text_lines.specs.Columns.{columns}
-use Rattle.text_lines.specs.Lines.{text_lines, is_skipped}
+use Rattle.text_lines.specs.Headline.Lines.{text_lines, is_skipped}
 use Rattle.trace_run.specs.declared.reason.TraceReason.{TraceReason}
-use Rattle.text_lines.specs.Fallible.{◌>>=◌}
+use Rattle.text_lines.specs.Headline.Fallible.{◌>>=◌}
 use Rattle.trace_run.specs.Columns.{header_of_columns}
 
 -- a bad line, counted from 1, and its first reason

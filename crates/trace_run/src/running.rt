@@ -1,26 +1,25 @@
 //! Running a trace over a memory: its answers are written while it is read.
-ghost use Rattle.std.specs.Prelude.{◌≡◌, ◌≢◌, ◌≤◌, ℕ, List, IsErrOf};
+ghost use Rattle.std.specs.Prelude.{◌≡◌, ◌≢◌, ◌≤◌, ◌+◌, ℕ, List, IsErrOf};
 ghost use Rattle.std.specs.Io.KnownBytes.{Appends, Keeps};
 ghost use Rattle.razor_base.specs.Faults.{Rose};
+ghost use Rattle.razor_base.specs.Input.{TakesAtMost};
 ghost use Rattle.razor_base.specs.Output.{AppendsFront};
-ghost use Rattle.razor_base.specs.declared.limits.TheConstants.{MOST_TRACE_BYTES};
+ghost use Rattle.razor_base.specs.declared.limits.TheConstants.{MOST_TRACE_BYTES, PIECE_BYTES};
 ghost use Rattle.trace_run.specs.Answers.{HaveNames, answers_text};
 ghost use Rattle.trace_run.specs.Outcome.{Begun, Outcome, Written};
-ghost use Rattle.trace_run.specs.Progress.{OnWriteFault, UnlessWriteFault, is_lost};
+ghost use Rattle.trace_run.specs.Progress.{OnWriteFault, UnlessFault, UnlessWriteFault, is_lost};
 ghost use Rattle.trace_run.specs.declared.error.TraceError.TheVariants.{ReadFault};
 
 use crate::error::TraceError;
 use crate::progress::Progress;
 use field_boxes::Decisions;
-use razor_base::limits::MOST_TRACE_BYTES;
+use razor_base::limits::{MOST_TRACE_BYTES, PIECE_BYTES};
 use razor_base::{Desk, Pending, Sink};
 use std::alloc::Global;
 use tcam_sim::Device;
 
-/// As many bytes as are asked for at once.
-const PIECE: usize = 65_536;
-
 /// Puts the answers to the headers of a trace, and answers how many there are.
+#[inline(never)]
 fn put_answers<V: Device, D: Desk, K: Sink>(
     alloc: Global,
     device: &V,
@@ -37,11 +36,13 @@ fn put_answers<V: Device, D: Desk, K: Sink>(
     ensures calm { UnlessWriteFault result (K.faults out.new ≡ K.faults out.old) }
     ensures written { K.faults out.old ≤ K.faults out.new }
     ensures read_fault { IsErrOf result ReadFault → Rose (D.faults desk.old name.now) (D.faults desk.new name.now) }
+    ensures none_failed { UnlessFault result ((other : List ℕ) → D.faults desk.new other ≡ D.faults desk.old other) }
+    ensures near { TakesAtMost (D.remaining desk.old name.now) (D.remaining desk.new name.now) (MOST_TRACE_BYTES + PIECE_BYTES) }
     ensures others { (other : List ℕ) → other ≢ name.now → Keeps (D.remaining desk.old other) (D.remaining desk.new other) }
     ensures counts { (other : List ℕ) → D.faults desk.old other ≤ D.faults desk.new other }
 {
     let mut progress = Progress::new(alloc);
-    let mut piece = [0; PIECE];
+    let mut piece = [0; PIECE_BYTES];
     let mut room = MOST_TRACE_BYTES as usize;
     'pieces: loop {
         let Ok(count) = desk.read(name, &mut piece) else {
@@ -79,6 +80,7 @@ fn is_lost(ended: &Result<u64, TraceError>) -> bool
 /// piece by piece, and only the line that isn't finished is kept. A line whose end wasn't read, because a
 /// read failed or the limit of 67,108,864 bytes came first, isn't taken; what was answered before a bad
 /// line, a failed read or the limit is written.
+#[inline(never)]
 pub fn run<V: Device, D: Desk, K: Sink>(
     alloc: Global,
     device: &V,
@@ -95,8 +97,12 @@ pub fn run<V: Device, D: Desk, K: Sink>(
     ensures read_fault { IsErrOf result ReadFault → Rose (D.faults desk.old name.now) (D.faults desk.new name.now) }
     ensures write_fault { OnWriteFault result (Rose (K.faults out.old) (K.faults out.new)) }
 
-    // However else it ends, want of memory too, no write failed.
+    // However else it ends, want of memory too, no write failed, and no read.
     ensures calm { UnlessWriteFault result (K.faults out.new ≡ K.faults out.old) }
+    ensures none_failed { UnlessFault result ((other : List ℕ) → D.faults desk.new other ≡ D.faults desk.old other) }
+
+    // Past the limit at most one piece is read.
+    ensures near { TakesAtMost (D.remaining desk.old name.now) (D.remaining desk.new name.now) (MOST_TRACE_BYTES + PIECE_BYTES) }
     ensures counts { (other : List ℕ) → D.faults desk.old other ≤ D.faults desk.new other }
     ensures written { K.faults out.old ≤ K.faults out.new }
 

@@ -3,10 +3,11 @@ use Rattle.std.proofs.Common.{◌≡◌, ◌⊎◌, ◌∷◌, ℕ, List, [], Bo
 use Rattle.std.proofs.lemmas.Nat.{or_comm, or_lt}
 use Rattle.std.proofs.lemmas.Bool.{eqb-true, false≢true}
 use Rattle.std.proofs.Common.{eq-eqb}
-use Rattle.field_boxes.specs.Bits.{bits}
-use Rattle.field_boxes.specs.Fields.{IsHeader}
+use Rattle.field_boxes.specs.Headline.Bits.{bits}
+use Rattle.field_boxes.specs.Headline.Fields.{IsHeader}
 use Rattle.ternary_words.specs.declared.word.Word.{Word}
-use Rattle.ternary_words.specs.Word.{agrees, header_bits, trits}
+use Rattle.ternary_words.specs.Headline.Word.{agrees, header_bits}
+use Rattle.ternary_words.specs.Word.{trits}
 use Rattle.ternary_words.specs.Views.{word_of}
 use Rattle.ternary_words.proofs.Joined.{bits-header}
 use Rattle.ternary_words.proofs.Matching.{agrees-mask}

@@ -1,7 +1,7 @@
 -- Headers of a word that words leave open.
 use Rattle.std.specs.Prelude.{◌≡◌, ℕ, true, false, List}
 use Rattle.std.specs.List.{list_any}
-use Rattle.field_boxes.specs.Fields.{IsHeader}
+use Rattle.field_boxes.specs.Headline.Fields.{IsHeader}
 use Rattle.ternary_words.specs.declared.word.Word.{Word}
 use Rattle.ternary_words.specs.Entries.{matches}
 use Rattle.word_cover.specs.declared.shown.Shown.{Shown}

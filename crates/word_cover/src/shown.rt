@@ -1,6 +1,6 @@
 //! Covers with a header to show for a no.
 
-ghost use Rattle.std.specs.Prelude.{◌≡◌, IfOk, IfSome};
+ghost use Rattle.std.specs.Prelude.{◌≡◌, ◌<◌, IfOk, IfSome};
 ghost use Rattle.std.specs.List.{list_any};
 ghost use Rattle.ternary_words.specs.Entries.{matches};
 ghost use Rattle.word_cover.specs.Open.{IsCover, IsOpen};
@@ -8,6 +8,7 @@ ghost use Rattle.word_cover.specs.Open.{IsCover, IsOpen};
 use crate::covering::covered_in;
 use crate::sight::volume;
 use crate::splits::halves;
+use crate::words::meets;
 use field_boxes::Header;
 use razor_base::Memory;
 use std::alloc::Global;
@@ -32,7 +33,7 @@ pub fn cover(alloc: Global, word: &Word, words: &[Word], budget: u32) -> Result<
     if covered_in(alloc, word, words, &mut steps, &mut open)? {
         return Ok(Shown::Whole);
     }
-    let least = narrowed(&open, words);
+    let least = narrowed(alloc, &open, words)?;
     match witness(word, words, &least) {
         Some(header) => Ok(Shown::Open(header)),
         None => Ok(Shown::Unknown),
@@ -65,17 +66,40 @@ fn is_held(words: &[Word], header: &Header) -> bool
 }
 
 /// The word, bit by bit the half of which the words hold less.
-fn narrowed(word: &Word, words: &[Word]) -> Word {
+fn narrowed(alloc: Global, word: &Word, words: &[Word]) -> Result<Word, Memory> {
     let mut part = *word;
+    let mut near = near(alloc, word, words)?;
     for bit in 0..104u32 {
+        if near.is_empty() {
+            break;
+        }
         if part.mask >> bit & 1 == 0 {
-            let (zero, one) = halves(&part, bit, false);
-            part = if volume(&zero, words) <= volume(&one, words) {
-                zero
-            } else {
-                one
-            };
+            part = emptier(&part, bit, near.as_slice());
+            near.retain(|other: &Word| meets(other, &part));
         }
     }
-    part
+    Ok(part)
+}
+
+/// The words that meet the word.
+fn near(alloc: Global, word: &Word, words: &[Word]) -> Result<Vec<Word>, Memory> {
+    let mut near = Vec::new(alloc);
+    for other in words {
+        if meets(other, word) {
+            near.push(*other)?;
+        }
+    }
+    Ok(near)
+}
+
+/// The half of the word at the bit of which the words hold less.
+fn emptier(word: &Word, bit: u32, words: &[Word]) -> Word
+    requires { bit < 104 }
+{
+    let (zero, one) = halves(word, bit, false);
+    if volume(&zero, words) <= volume(&one, words) {
+        zero
+    } else {
+        one
+    }
 }

@@ -1,6 +1,6 @@
 //! Diagrams of rules, diagrams changed in one box, and what is asked of them.
 ghost use Rattle.std.specs.Prelude.{◌≡◌, ◌≤◌};
-ghost use Rattle.field_boxes.specs.Fields.{stated};
+ghost use Rattle.field_boxes.specs.Headline.Fields.{stated};
 ghost use Rattle.field_boxes.specs.Spans.{AreInside};
 ghost use Rattle.node_store.specs.Diagram.{level_of};
 

@@ -1,6 +1,6 @@
 //! Tables of few entries.
 ghost use Rattle.std.specs.Prelude.{◌≢◌, ◌≤◌, IsTrue};
-ghost use Rattle.field_boxes.specs.Names.{miss};
+ghost use Rattle.field_boxes.specs.Headline.Names.{miss};
 ghost use Rattle.ternary_words.specs.Limits.{AreNumbered};
 
 use field_boxes::{Decisions, Prefix};

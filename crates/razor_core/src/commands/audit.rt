@@ -53,6 +53,7 @@ fn answer_audit<'a, K: Sink>(alloc: Global, list: &RuleList, out: &mut K) -> End
 }
 
 /// Writes a line for each rule.
+#[inline(never)]
 fn write_states<K: Sink>(states: &[RuleState], out: &mut K) -> Result<(), Failed>
     ensures { Writes K.written K.faults out.old out.new (states_text states.now) result }
 {

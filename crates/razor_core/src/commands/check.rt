@@ -15,13 +15,10 @@ use command_words::ThreeFiles;
 use filter_reader::RuleList;
 use partition_check::laws::equal_lists_have_one_verdict;
 use partition_check::{Checker, Stop, Why, Wrong, check_stream};
-use razor_base::limits::MOST_CERTIFICATE_BYTES;
+use razor_base::limits::{MOST_CERTIFICATE_BYTES, PIECE_BYTES};
 use razor_base::{Desk, Failed, Part, Sink, write_parts};
 use std::alloc::Global;
 use ternary_words::Table;
-
-/// As many bytes of a certificate as are read at once.
-const PIECE: usize = 65_536;
 
 /// Writes how many rows a valid certificate has.
 fn write_valid<K: Sink>(rows: u64, out: &mut K) -> Result<(), Failed>
@@ -98,6 +95,7 @@ fn write_reason<K: Sink>(row: u64, words: &'static str, out: &mut K) -> Result<(
 
 /// Checks the certificate of the list and the table, writes how many rows it has or which row is wrong, and says how
 /// the command ends.
+#[inline(never)]
 fn check_rows<'a, D: Desk, K: Sink>(
     list: &RuleList,
     table: &Table,
@@ -111,7 +109,7 @@ fn check_rows<'a, D: Desk, K: Sink>(
         result }
     ensures others { (other : List ℕ) → other ≢ file.now → Keeps (D.remaining desk.old other) (D.remaining desk.new other) }
 {
-    let mut buffer = [0; PIECE];
+    let mut buffer = [0; PIECE_BYTES];
     let checker = Checker::any(list, table);
     match check_stream(checker, desk, file, &mut buffer) {
         Ok(rows) => match write_valid(rows, out) {

@@ -1,10 +1,10 @@
 //! `compile`: the table of a list's field-by-field least cost.
 ghost use Rattle.std.specs.Prelude.{◌≡◌, ◌≤◌, ℕ, IfOk, MatchResult};
 ghost use Rattle.razor_base.specs.declared.limits.TheConstants.{MOST_ENTRIES};
-ghost use Rattle.field_boxes.specs.Fields.{stated};
+ghost use Rattle.field_boxes.specs.Headline.Fields.{stated};
 ghost use Rattle.filter_reader.specs.Lists.{filter_list};
 ghost use Rattle.rule_compilation.specs.Compiled.{IsCompiled};
-ghost use Rattle.table_compose.specs.LeastCost.{IsLeastCost};
+ghost use Rattle.table_compose.specs.Headline.LeastCost.{IsLeastCost};
 ghost use Rattle.ternary_words.specs.Limits.{IsSlotWidth};
 ghost use Rattle.ternary_words.specs.Views.{table_of};
 ghost use Rattle.razor_core.specs.Make.{IsNotMade};

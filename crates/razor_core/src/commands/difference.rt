@@ -1,6 +1,6 @@
 //! The line on a header that two sides decide differently.
 ghost use Rattle.std.specs.Prelude.{◌≡◌, List, Option, ℕ};
-ghost use Rattle.field_boxes.specs.Names.{text_of};
+ghost use Rattle.field_boxes.specs.Headline.Names.{text_of};
 ghost use Rattle.razor_base.specs.Output.{Writes};
 ghost use Rattle.razor_core.specs.Equiv.{differ_line};
 

@@ -1,6 +1,6 @@
 //! A table that is made of a list.
 ghost use Rattle.std.specs.Prelude.{◌≡◌};
-ghost use Rattle.field_boxes.specs.Fields.{stated};
+ghost use Rattle.field_boxes.specs.Headline.Fields.{stated};
 
 use ternary_words::Table;
 

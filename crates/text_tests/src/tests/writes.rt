@@ -17,8 +17,8 @@ fn put_rows<K: Sink>(sink: &mut K, rows: u32) -> Result<(), Fail> {
 #[test]
 fn small_writes_become_large_ones(rt: HostRuntime) -> Result<(), Fail> {
     let mut sink = MemSink::new(rt.alloc(), 200_000)?;
-    // The 88,890 bytes are two writes, so the third never comes.
-    sink.fail_at(3)?;
+    // At most 16,384 bytes wait, so the 88,890 are six writes, and the seventh never comes.
+    sink.fail_at(7)?;
     put_rows(&mut sink, 10_000)?;
     assert!(rt; sink.bytes().len() == 88_890 && sink.bytes().ends_with(b"row 9998\nrow 9999\n"));
     Ok(())

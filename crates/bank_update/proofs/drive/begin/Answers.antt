@@ -11,5 +11,5 @@ returns-clause-turn g c =
     let place = c.args.number - 1 in
     let within : place < length tables = omega (arith, c.requires.within.0, c.requires.within.1) in
     takes-begin c.args.number c.index-tables-number.result c.in_ok-table.table c.begin.result (slice_get_read tables (length tables) place c.index-tables-number.result refl within c.index-tables-number.is) c.in_ok-table.ensures
-    c.begin.ensures.ok c.begin.ensures.err c.begin.ensures.state (ap g.V.Device.faults (sym c.begin.ensures.device))
+    c.begin.ensures.ok c.begin.ensures.err c.begin.ensures.state (ap g.V.Device.faults (sym c.begin.ensures.device)) (ap g.V.Device.tries (sym c.begin.ensures.device))
     (writes-is c.write_begun.ensures.whole (ap begin_line c.without_table-answer.ensures))

@@ -1,7 +1,10 @@
-use Rattle.std.proofs.Common.{length, ap, ◌∙◌, arith}
+use Rattle.std.proofs.Common.{length, ap, refl, ◌∙◌, arith}
 use Rattle.bank_update.specs.Swapping.{Swapping}
-use Rattle.bank_update.proofs.Driving.{calm-out-of-memory, calm-turn, calm-write-failed, event-within, goes-on, is-cut-off, next-event, out-of-memory, stopped-before, write-failed}
+use Rattle.bank_update.proofs.Driving.{calm-out-of-memory, calm-turn, calm-write-failed, event-within, goes-on, has-run-none, is-cut-off, next-event, out-of-memory, stopped-before, write-failed}
 use Rattle.bank_update.proofs.drive.drive_on.Goals as goal
+
+pub loop-command-init : goal.loop-command-init
+loop-command-init g c = record { ran = has-run-none g.K.Sink.written c.args.out.now; nothing = c.new-pending.ensures; counts = omega arith; calm = refl }
 
 pub take_turn-requires-clause-within : goal.take_turn-requires-clause-within
 take_turn-requires-clause-within g c =
@@ -12,8 +15,9 @@ pub returns-in_err-take_turn-clause-outcome : goal.returns-in_err-take_turn-clau
 returns-in_err-take_turn-clause-outcome g c =
     let same = c.in_err-take_turn.ensures.refused in
     out-of-memory c.from_residual.result c.from_residual.ensures.1
-    (stopped-before g.K.Sink.written (g.K.Sink.written c.args.out.now) c.loop-command.out c.take_turn.new.out c.take_turn.new.swapper.state (g.V.Device.faults c.take_turn.new.swapper.device) c.args.script.now c.loop-command.command-index
-    (ap (λ (v : Swapping g.row.V.Denot). v.state) same.0) (ap (λ (v : Swapping g.row.V.Denot). g.V.Device.faults v.device) same.0) same.1 c.loop-command.invariant.ran)
+    (stopped-before g.K.Sink.written (g.K.Sink.written c.args.out.now) c.loop-command.out c.take_turn.new.out c.take_turn.new.swapper.state (g.V.Device.faults c.take_turn.new.swapper.device) (g.V.Device.tries c.take_turn.new.swapper.device) c.args.script.now c.loop-command.command-index
+    (ap (λ (v : Swapping g.row.V.Denot). v.state) same.0) (ap (λ (v : Swapping g.row.V.Denot). g.V.Device.faults v.device) same.0)
+    (ap (λ (v : Swapping g.row.V.Denot). g.V.Device.tries v.device) same.0) same.1 c.loop-command.invariant.ran)
 
 pub returns-in_err-branch-clause-outcome : goal.returns-in_err-branch-clause-outcome
 returns-in_err-branch-clause-outcome g c =

@@ -1,6 +1,6 @@
 use Rattle.std.proofs.Common.{◌≡◌, ◌+◌, ◌≤◌, length}
 use Rattle.std.specs.Prelude.{All}
-use Rattle.text_lines.specs.Lines.{text_lines}
+use Rattle.text_lines.specs.Headline.Lines.{text_lines}
 use Rattle.bank_update.specs.Commands.{events_of}
 use Rattle.bank_update.specs.Script.{IsWithin, script_from, script_of}
 use Rattle.bank_update.proofs.ReadSoFar.{with_front}

@@ -1,5 +1,5 @@
 use Rattle.std.proofs.Common.{◌∙◌}
-use Rattle.field_boxes.specs.Fields.{stated}
+use Rattle.field_boxes.specs.Headline.Fields.{stated}
 use Rattle.fdd_ops.proofs.Levels.{all_fields}
 use Rattle.node_store.proofs.Canonical.{in_use}
 use Rattle.node_store.proofs.Growth.{level_kept}

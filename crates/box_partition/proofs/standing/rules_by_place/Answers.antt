@@ -1,5 +1,5 @@
 use Rattle.std.proofs.Common.{arith}
-use Rattle.field_boxes.specs.Fields.{stated}
+use Rattle.field_boxes.specs.Headline.Fields.{stated}
 use Rattle.field_boxes.specs.Rules.{rule_of}
 use Rattle.field_boxes.proofs.SameSets.{matches_by_sets}
 use Rattle.partition_check.specs.Claims.{rule_matches}

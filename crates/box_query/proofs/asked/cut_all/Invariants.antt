@@ -1,6 +1,6 @@
 use Rattle.std.proofs.Common.{◌≡◌, ℕ, List, cond, None, take, option_map}
 use Rattle.field_boxes.specs.Boxes.{box_of, box_holds}
-use Rattle.field_boxes.specs.Fields.{IsHeader}
+use Rattle.field_boxes.specs.Headline.Fields.{IsHeader}
 use Rattle.box_query.specs.Asked.{label, number_decided}
 use Rattle.box_query.proofs.asked.cut_all.Given as goal
 

@@ -1,7 +1,7 @@
 use Rattle.std.proofs.Common.{◌≡◌, ◌∙◌, List, ap, length, rules, cond}
 use Rattle.field_boxes.specs.declared.rule.Rule.{Rule}
 use Rattle.field_boxes.specs.Boxes.{box_of, box_holds}
-use Rattle.field_boxes.specs.Fields.{stated}
+use Rattle.field_boxes.specs.Headline.Fields.{stated}
 use Rattle.field_boxes.specs.Names.{name_at}
 use Rattle.field_boxes.specs.Spans.{intervals_of}
 use Rattle.filter_reader.specs.Lists.{filter_list}

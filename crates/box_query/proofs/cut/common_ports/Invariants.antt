@@ -1,5 +1,5 @@
 use Rattle.std.proofs.Common.{◌≡◌, ◌∷◌, ◌≤◌, ℕ, [], length, take, ◌&&◌}
-use Rattle.field_boxes.specs.Classifier.{union_holds}
+use Rattle.field_boxes.specs.Headline.Classifier.{union_holds}
 use Rattle.field_boxes.specs.Spans.{interval_of, intervals_of}
 use Rattle.box_query.specs.Cut.{AreLow}
 use Rattle.box_query.proofs.cut.common_ports.Given as goal

@@ -1,6 +1,6 @@
 use Rattle.std.proofs.Common.{◌∙◌, List, ap, sym, subst}
 use Rattle.field_boxes.specs.declared.rule.Rule.{Rule}
-use Rattle.field_boxes.specs.Fields.{stated, AreValues}
+use Rattle.field_boxes.specs.Headline.Fields.{stated, AreValues}
 use Rattle.fdd_build.specs.Rules.{decided}
 use Rattle.box_query.proofs.diagram.wanted.Goals as goal
 

@@ -1,4 +1,4 @@
-use Rattle.field_boxes.specs.Fields.{stated}
+use Rattle.field_boxes.specs.Headline.Fields.{stated}
 use Rattle.box_query.proofs.Apart.{rows-apart}
 use Rattle.box_query.proofs.laws.boxes_are_apart.Goals as goal
 

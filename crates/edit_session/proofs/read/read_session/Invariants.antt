@@ -1,6 +1,6 @@
 use Rattle.std.proofs.Common.{◌≡◌, ◌+◌, ◌≤◌, length}
 use Rattle.std.specs.Prelude.{All}
-use Rattle.text_lines.specs.Lines.{text_lines}
+use Rattle.text_lines.specs.Headline.Lines.{text_lines}
 use Rattle.edit_session.specs.SessionText.{session_from, session_of}
 use Rattle.edit_session.specs.SessionViews.{IsCommand, events_of}
 use Rattle.edit_session.proofs.ReadSoFar.{with_front}

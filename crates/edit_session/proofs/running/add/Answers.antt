@@ -8,8 +8,8 @@ add-requires-clause-rule g c = record { source = c.requires.rule.source; destina
 
 pub returns-clause-turn : goal.returns-clause-turn
 returns-clause-turn g c =
-    takes-add g.K.Sink.written g.K.Sink.faults c.args.out.now c.write_added.new.out c.args.editor.now.session c.add.new.self.session _ _ c.args.place (rule_named c.args.name.now c.args.rule.now) c.add.result c.write_added.result
-    c.add.ensures.ok c.add.ensures.added c.add.ensures.refused c.add.ensures.session (ap g.V.Device.faults (sym c.add.ensures.device)) c.write_added.ensures.known c.write_added.ensures.whole
+    takes-add g.K.Sink.written g.K.Sink.faults c.args.out.now c.write_added.new.out c.args.editor.now.session c.add.new.self.session _ _ _ _ c.args.place (rule_named c.args.name.now c.args.rule.now) c.add.result c.write_added.result
+    c.add.ensures.ok c.add.ensures.added c.add.ensures.refused c.add.ensures.session (ap g.V.Device.faults (sym c.add.ensures.device)) (ap g.V.Device.tries (sym c.add.ensures.device)) c.write_added.ensures.known c.write_added.ensures.whole
 
 pub returns-clause-refused : goal.returns-clause-refused
 returns-clause-refused g c =

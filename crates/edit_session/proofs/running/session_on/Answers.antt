@@ -28,8 +28,8 @@ returns-in_err-take_turn-clause-outcome g c =
     let next = next-event c.args.session.now c.commands-commands.result.now c.loop-command.command-index c.command-item.result c.commands-commands.ensures.commands c.loop-command-test.true c.command-item.is in
     let left = c.in_err-take_turn.ensures.refused in
     out-of-memory c.from_residual.result c.from_residual.ensures.1
-    (stopped-before g.K.Sink.written (g.K.Sink.written c.args.out.now) c.loop-command.out c.take_turn.new.out c.take_turn.new.editor.session (g.V.Device.faults c.take_turn.new.editor.device)
-    (event_of c.command-item.result) c.args.session.now c.loop-command.command-index left.0.0 (ap g.V.Device.faults left.0.1) left.1 next c.loop-command.invariant.ran)
+    (stopped-before g.K.Sink.written (g.K.Sink.written c.args.out.now) c.loop-command.out c.take_turn.new.out c.take_turn.new.editor.session (g.V.Device.faults c.take_turn.new.editor.device) (g.V.Device.tries c.take_turn.new.editor.device)
+    (event_of c.command-item.result) c.args.session.now c.loop-command.command-index left.0.0 (ap g.V.Device.faults left.0.1) (ap g.V.Device.tries left.0.1) left.1 next c.loop-command.invariant.ran)
 
 pub returns-in_err-branch-clause-outcome : goal.returns-in_err-branch-clause-outcome
 returns-in_err-branch-clause-outcome g c =

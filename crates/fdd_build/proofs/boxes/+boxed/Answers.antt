@@ -1,7 +1,7 @@
 use Rattle.std.proofs.Common.{◌≡◌, ℕ, List, sym, subst}
 use Rattle.std.specs.Prelude.{cond}
-use Rattle.field_boxes.specs.Fields.{AreValues}
-use Rattle.field_boxes.specs.Classifier.{matches}
+use Rattle.field_boxes.specs.Headline.Fields.{AreValues}
+use Rattle.field_boxes.specs.Headline.Classifier.{matches}
 use Rattle.node_store.specs.Diagram.{answer}
 use Rattle.node_store.proofs.Values.{rest_is}
 use Rattle.fdd_build.specs.Sets.{sets_seen, box_rule}

@@ -1,6 +1,6 @@
 use Rattle.std.proofs.Common.{◌∙◌, ap}
 use Rattle.std.specs.Prelude.{cond}
-use Rattle.field_boxes.specs.Classifier.{matches}
+use Rattle.field_boxes.specs.Headline.Classifier.{matches}
 use Rattle.node_store.specs.Diagram.{answer}
 use Rattle.node_store.proofs.Canonical.{in_use}
 use Rattle.fdd_build.specs.declared.overlay.Overlay.TheVariants.{Decision}

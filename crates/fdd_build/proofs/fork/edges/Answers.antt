@@ -2,7 +2,7 @@ use Rattle.std.proofs.Common.{◌≡◌, ◌+◌, ◌∙◌, ℕ, take, drop, ap
 use Rattle.std.specs.Prelude.{cond, ◌||◌}
 use Rattle.std.proofs.lemmas.Bool.{or_from}
 use Rattle.std.proofs.lemmas.List.{take_all}
-use Rattle.field_boxes.specs.Classifier.{interval_holds, union_holds}
+use Rattle.field_boxes.specs.Headline.Classifier.{interval_holds, union_holds}
 use Rattle.field_boxes.specs.Spans.{interval_of, intervals_of}
 use Rattle.field_boxes.specs.Unions.{RiseApart}
 use Rattle.node_store.specs.Edges.{child_of}

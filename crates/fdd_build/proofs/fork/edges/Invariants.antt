@@ -1,6 +1,6 @@
 use Rattle.std.proofs.Common.{◌≡◌, ◌<◌, ◌≤◌, ◌+◌, ℕ, List, take, drop}
 use Rattle.std.specs.Prelude.{cond, false}
-use Rattle.field_boxes.specs.Classifier.{union_holds}
+use Rattle.field_boxes.specs.Headline.Classifier.{union_holds}
 use Rattle.field_boxes.specs.Spans.{intervals_of}
 use Rattle.field_boxes.specs.Unions.{RiseApart}
 use Rattle.node_store.specs.Diagram.{Node, level_of}

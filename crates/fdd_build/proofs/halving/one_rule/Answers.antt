@@ -1,6 +1,6 @@
 use Rattle.std.proofs.Common.{◌∙◌, ap, sym}
 use Rattle.std.specs.Prelude.{cond}
-use Rattle.field_boxes.specs.Classifier.{matches}
+use Rattle.field_boxes.specs.Headline.Classifier.{matches}
 use Rattle.fdd_build.specs.Sets.{box_rule}
 use Rattle.fdd_build.proofs.Boxed.{box_matches}
 use Rattle.fdd_build.proofs.Joined.{decides_one}

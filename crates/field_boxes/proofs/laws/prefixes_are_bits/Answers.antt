@@ -1,6 +1,7 @@
 use Rattle.std.proofs.Common.{◌≡◌, ◌+◌, ◌-◌, ◌/◌, ◌<◌, ◌^◌, ℕ, arith, subst, take}
 use Rattle.std.specs.Prelude.{nat_eq}
-use Rattle.field_boxes.specs.Bits.{bits, begins}
+use Rattle.field_boxes.specs.Headline.Bits.{bits}
+use Rattle.field_boxes.specs.Bits.{begins}
 use Rattle.field_boxes.proofs.Bits.{prefix-begins}
 use Rattle.field_boxes.proofs.laws.prefixes_are_bits.Goals as goal
 

@@ -1,7 +1,7 @@
 use Rattle.std.proofs.Common.{◌++◌, ◌+◌, ◌∙◌, ap, sym, subst, arith, take, drop}
 use Rattle.std.specs.Prelude.{◌||◌}
 use Rattle.std.proofs.lemmas.List.{take_all}
-use Rattle.field_boxes.specs.Classifier.{interval_holds, union_holds}
+use Rattle.field_boxes.specs.Headline.Classifier.{interval_holds, union_holds}
 use Rattle.field_boxes.specs.Spans.{interval_of, intervals_of}
 use Rattle.field_boxes.specs.Unions.{RiseApart}
 use Rattle.field_boxes.proofs.United.{ends, next_of_rest, union_more, in_turn}

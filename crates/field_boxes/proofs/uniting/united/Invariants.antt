@@ -1,6 +1,6 @@
 use Rattle.std.proofs.Common.{◌≡◌, ◌≤◌, ◌++◌, ◌∷◌, [], ℕ, length, take, drop}
 use Rattle.std.specs.Prelude.{◌||◌}
-use Rattle.field_boxes.specs.Classifier.{interval_holds, union_holds}
+use Rattle.field_boxes.specs.Headline.Classifier.{interval_holds, union_holds}
 use Rattle.field_boxes.specs.Spans.{interval_of, intervals_of}
 use Rattle.field_boxes.specs.Unions.{RiseApart}
 use Rattle.field_boxes.proofs.uniting.united.Given as goal

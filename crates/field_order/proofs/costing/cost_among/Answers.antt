@@ -2,7 +2,7 @@ use Rattle.std.proofs.Common.{subst, sym}
 use Rattle.field_boxes.specs.NamedRules.{named_rules}
 use Rattle.node_store.specs.Levels.{IsLevel}
 use Rattle.table_compose.specs.Diagrams.{IsCostOf}
-use Rattle.table_compose.specs.LeastCost.{IsLeastCost}
+use Rattle.table_compose.specs.Headline.LeastCost.{IsLeastCost}
 use Rattle.table_compose.proofs.KeptCosts.{kept_while_growing}
 use Rattle.field_order.proofs.RuleCosts.{cost_of_rules}
 use Rattle.field_order.proofs.costing.cost_among.Goals as goal

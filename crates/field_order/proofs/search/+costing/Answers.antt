@@ -2,7 +2,7 @@ use Rattle.std.proofs.Common.{◌≡◌, ◌+◌, ◌-◌, ◌∷◌, ◌++◌, 
 use Rattle.std.specs.Prelude.{suc}
 use Rattle.std.specs.List.{All, AllZip}
 use Rattle.std.proofs.lemmas.List.{take_all}
-use Rattle.field_boxes.specs.Fields.{width}
+use Rattle.field_boxes.specs.Headline.Fields.{width}
 use Rattle.node_store.specs.Levels.{IsLevel}
 use Rattle.node_store.specs.Diagram.{level_of, edges_of}
 use Rattle.node_store.proofs.Canonical.{is_level, not_empty, within}

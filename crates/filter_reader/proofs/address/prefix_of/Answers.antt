@@ -1,7 +1,7 @@
 use Rattle.std.proofs.Common.{◌≡◌, ℕ, ◌*◌, ◌-◌, ◌/◌, ◌%◌, ◌^◌, ◌<◌, ◌≤◌, arith}
 use Rattle.std.proofs.lemmas.Nat.{one_shl}
 use Rattle.std.proofs.Math.Nat.{mul-mod_left, div-mul-le_self}
-use Rattle.field_boxes.specs.Prefix.{FitsWidth}
+use Rattle.field_boxes.specs.Headline.Prefix.{FitsWidth}
 use Rattle.filter_reader.proofs.address.prefix_of.Goals as goal
 
 -- the bits past the length are cut off

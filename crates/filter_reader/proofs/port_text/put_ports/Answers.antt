@@ -1,7 +1,7 @@
 use Rattle.std.proofs.Common.{◌≡◌, ◌∷◌, ◌++◌, ◌≤◌, List, ◌∙◌, sym, ap, arith, length, get_or, drop, flat_map}
 use Rattle.std.proofs.lemmas.List.{take_rest}
 use Rattle.field_boxes.specs.declared.span.Span.{Span}
-use Rattle.field_boxes.specs.Classifier.{Interval}
+use Rattle.field_boxes.specs.Headline.Classifier.{Interval}
 use Rattle.field_boxes.specs.Spans.{interval_of, intervals_of}
 use Rattle.razor_base.proofs.Writing.{puts-is, puts-more, puts-stop, puts-then}
 use Rattle.filter_reader.specs.ListText.{ports_text, range_text}

@@ -1,6 +1,6 @@
 use Rattle.std.proofs.Common.{ap, sym, ◌∙◌}
 use Rattle.filter_reader.specs.Ranges.{range_view}
-use Rattle.filter_reader.specs.Tokens.{tokens}
+use Rattle.filter_reader.specs.Headline.Tokens.{tokens}
 use Rattle.filter_reader.proofs.RangeLists.{by_comma, one_left}
 use Rattle.filter_reader.proofs.ranges.only_range.Goals as goal
 

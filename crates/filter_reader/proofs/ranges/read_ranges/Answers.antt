@@ -1,8 +1,8 @@
 use Rattle.std.proofs.Common.{◌∷◌, ◌++◌, ◌<◌, List, [], sym, ap, ◌∙◌, arith, length, length-append}
-use Rattle.field_boxes.specs.Classifier.{Interval}
-use Rattle.filter_reader.specs.Ports.{ranges_of}
+use Rattle.field_boxes.specs.Headline.Classifier.{Interval}
+use Rattle.filter_reader.specs.Headline.Ports.{ranges_of}
 use Rattle.filter_reader.specs.Ranges.{range_view}
-use Rattle.filter_reader.specs.Tokens.{tokens}
+use Rattle.filter_reader.specs.Headline.Tokens.{tokens}
 use Rattle.filter_reader.proofs.RangeLists.{behind_ranges, by_comma, behind_nothing, behind_one_more, none_left, one_left}
 use Rattle.filter_reader.proofs.ranges.read_ranges.Goals as goal
 

@@ -1,8 +1,8 @@
 use Rattle.std.proofs.Common.{◌≡◌, length, List}
-use Rattle.field_boxes.specs.Classifier.{Interval}
-use Rattle.filter_reader.specs.Ports.{ranges_of}
+use Rattle.field_boxes.specs.Headline.Classifier.{Interval}
+use Rattle.filter_reader.specs.Headline.Ports.{ranges_of}
 use Rattle.filter_reader.specs.Ranges.{SumsUp}
-use Rattle.filter_reader.specs.Tokens.{tokens}
+use Rattle.filter_reader.specs.Headline.Tokens.{tokens}
 use Rattle.filter_reader.proofs.RangeLists.{behind_ranges}
 use Rattle.filter_reader.proofs.ranges.read_ranges.Given as goal
 

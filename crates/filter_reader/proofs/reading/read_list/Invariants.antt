@@ -1,6 +1,6 @@
 use Rattle.std.proofs.Common.{◌≡◌, ◌+◌, ◌≤◌, length}
-use Rattle.filter_reader.specs.FilterList.{list_from, list_of}
-use Rattle.text_lines.specs.Lines.{text_lines}
+use Rattle.filter_reader.specs.Headline.FilterList.{list_from, list_of}
+use Rattle.text_lines.specs.Headline.Lines.{text_lines}
 use Rattle.filter_reader.specs.Growing.{IsListSoFar}
 use Rattle.filter_reader.specs.Reading.{read_so_far}
 use Rattle.filter_reader.proofs.Whole.{with_front}

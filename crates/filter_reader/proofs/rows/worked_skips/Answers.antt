@@ -1,10 +1,10 @@
 use Rattle.std.proofs.Common.{refl}
-use Rattle.text_lines.specs.Numbers.{number_within, short_number}
-use Rattle.filter_reader.specs.Addresses.{address_of, length_of}
-use Rattle.filter_reader.specs.Masks.{hex_number, value_and_mask}
-use Rattle.filter_reader.specs.Ports.{range_of, ports_of}
-use Rattle.filter_reader.specs.Columns.{behind_at, prefix_set, source_column, destination_column, port_column, protocol_column, flag_of, flags_column, decision_of, decision_column}
-use Rattle.filter_reader.specs.RuleLine.{rule_of_tokens, rule_line}
+use Rattle.text_lines.specs.Headline.Numbers.{number_within, short_number}
+use Rattle.filter_reader.specs.Headline.Addresses.{address_of, length_of}
+use Rattle.filter_reader.specs.Headline.Masks.{hex_number, value_and_mask}
+use Rattle.filter_reader.specs.Headline.Ports.{range_of, ports_of}
+use Rattle.filter_reader.specs.Headline.Columns.{behind_at, prefix_set, source_column, destination_column, port_column, protocol_column, flag_of, flags_column, decision_of, decision_column}
+use Rattle.filter_reader.specs.Headline.RuleLine.{rule_of_tokens, rule_line}
 use Rattle.filter_reader.proofs.rows.worked_skips.Goals as goal
 
 pub returns : goal.returns

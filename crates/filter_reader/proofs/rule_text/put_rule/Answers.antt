@@ -1,7 +1,8 @@
 use Rattle.std.proofs.Common.{◌≡◌, ◌∷◌, ◌++◌, ◌<◌, ℕ, List, [], ap, sym, arith, append_assoc, length, get_or, slice_index_or}
 use Rattle.std.proofs.lemmas.List.{get_or_default}
-use Rattle.field_boxes.specs.Classifier.{Interval}
-use Rattle.field_boxes.specs.Names.{name_at, text_of}
+use Rattle.field_boxes.specs.Headline.Classifier.{Interval}
+use Rattle.field_boxes.specs.Headline.Names.{text_of}
+use Rattle.field_boxes.specs.Names.{name_at}
 use Rattle.field_boxes.specs.Rules.{sets_of}
 use Rattle.razor_base.proofs.Writing.{puts-is, puts-more, puts-stop, puts-then}
 use Rattle.filter_reader.specs.ListText.{columns_text, decision_text, ports_text}

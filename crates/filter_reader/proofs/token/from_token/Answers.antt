@@ -1,8 +1,8 @@
 use Rattle.std.proofs.Common.{◌≡◌, ◌∷◌, ℕ, List, true, refl, sym, subst}
 use Rattle.std.proofs.lemmas.List.{take_rest}
-use Rattle.text_lines.specs.Lines.{is_blank}
+use Rattle.text_lines.specs.Headline.Lines.{is_blank}
 use Rattle.text_lines.proofs.Columns.{BeginsAt, begins_at}
-use Rattle.filter_reader.specs.Tokens.{tokens}
+use Rattle.filter_reader.specs.Headline.Tokens.{tokens}
 use Rattle.filter_reader.proofs.token.from_token.Goals as goal
 
 skips : (b : ℕ) (line : List ℕ) → is_blank b ≡ true → tokens (b ∷ line) ≡ tokens line

@@ -1,6 +1,6 @@
 use Rattle.std.proofs.Common.{◌≡◌, ◌∷◌, ℕ, List, [], refl, sym, subst, true, false, get_or, IsTrue}
 use Rattle.std.proofs.Math.Seq.{take-length, drop-length}
-use Rattle.filter_reader.specs.Tokens.{is_mark, goes_on}
+use Rattle.filter_reader.specs.Headline.Tokens.{is_mark, goes_on}
 use Rattle.text_lines.specs.Columns.{begins_column}
 use Rattle.filter_reader.proofs.Words.{EndsAt, ends_at}
 use Rattle.filter_reader.proofs.token.token_len.Goals as goal

@@ -1,6 +1,6 @@
 use Rattle.std.proofs.Common.{◌∙◌}
 use Rattle.field_boxes.specs.declared.header.Header.{Header}
-use Rattle.field_boxes.specs.Fields.{stated}
+use Rattle.field_boxes.specs.Headline.Fields.{stated}
 use Rattle.node_store.specs.Diagram.{answer}
 use Rattle.node_store.proofs.Canonical.{in_use}
 use Rattle.fdd_ops.proofs.Levels.{all_fields}

@@ -1,5 +1,5 @@
 use Rattle.std.proofs.Common.{ap, ℕ}
-use Rattle.field_boxes.specs.Classifier.{Rule}
+use Rattle.field_boxes.specs.Headline.Classifier.{Rule}
 use Rattle.field_boxes.specs.Rules.{sets_of}
 use Rattle.list_equiv.proofs.Renumbered.{pushed}
 use Rattle.list_equiv.proofs.renumbering.renumbered.Goals as goal

@@ -1,10 +1,10 @@
-use Rattle.std.proofs.Common.{◌∙◌, ◌+◌, [], take, ap, sym, subst, refl, arith, rules, IfSome, length-take}
+use Rattle.std.proofs.Common.{◌≡◌, ◌∙◌, ◌+◌, [], take, ap, sym, subst, refl, arith, rules, IfSome, length, length-take}
 use Rattle.partition_check.specs.declared.row.Wrong.{Wrong}
 use Rattle.partition_check.specs.Agreement.{HaveNames}
 use Rattle.partition_check.specs.Streams.{ReadsWrong}
 use Rattle.partition_check.proofs.NamedReasons.{end-named, wrong-named}
 use Rattle.partition_check.proofs.Buffers.{piece-length, cut-behind, all-behind}
-use Rattle.partition_check.proofs.Streaming.{rows-read, end-well, agree-before, faulted, end-valid, end-wrong, cut-wrong, cut-past, whole-wrong, whole-read, told-wrong}
+use Rattle.partition_check.proofs.Streaming.{rows-read, end-well, agree-before, near-kept, near-piece, faulted, end-valid, end-wrong, cut-wrong, cut-past, whole-wrong, whole-read, told-wrong}
 use Rattle.razor_base.proofs.Writing.{rose-later}
 use Rattle.partition_check.proofs.stream.check_stream.Goals as goal
 
@@ -78,6 +78,7 @@ pieces-preserved g c = record {
   few = c.keep-kept.ensures.few;
   others = search rules;
   counts = search rules;
+  calm = search rules;
 }
 
 pub returns-in_err-rows-clause-named : goal.returns-in_err-rows-clause-named
@@ -94,3 +95,36 @@ pub returns-in_err-start-clause-named : goal.returns-in_err-start-clause-named
 returns-in_err-start-clause-named g c = λ w e.
     subst (λ (x : Wrong). HaveNames c.args.checker.list c.args.checker.table x.why) (told-wrong c.from_residual-in_err-start.result _ w c.from_residual-in_err-start.ensures.1 e)
     (wrong-named _ _ _ _ _ _ _ c.pieces.invariant.read _ _ c.in_err-start.ensures.err)
+
+pub returns-in_err-count-clause-near : goal.returns-in_err-count-clause-near
+returns-in_err-count-clause-near g c = near-kept _ _ _ _ _ _ _ c.pieces.invariant.read _ _ c.in_err-count.ensures.failed.1
+
+pub returns-in_err-rows-clause-near : goal.returns-in_err-rows-clause-near
+returns-in_err-rows-clause-near g c =
+    let held : length c.read_behind.new.buffer ≡ length c.args.buffer.now = search rules in
+    let long = piece-length c.pieces.kept c.in_ok-count.count c.pieces.buffer c.read_behind.new.buffer c.in_ok-count.ensures.kept c.in_ok-count.ensures.bytes.2 in
+    near-piece _ _ _ _ _ _ _ c.pieces.invariant.read _ _ _ c.in_ok-count.ensures.bytes.0 (omega (arith, long, held, c.in_ok-count.ensures.bytes.2))
+
+pub returns-then-count-eq0-clause-near : goal.returns-then-count-eq0-clause-near
+returns-then-count-eq0-clause-near g c =
+    let held : length c.read_behind.new.buffer ≡ length c.args.buffer.now = search rules in
+    let long = piece-length c.pieces.kept c.in_ok-count.count c.pieces.buffer c.read_behind.new.buffer c.in_ok-count.ensures.kept c.in_ok-count.ensures.bytes.2 in
+    near-piece _ _ _ _ _ _ _ c.pieces.invariant.read _ _ _ c.in_ok-count.ensures.bytes.0 (omega (arith, long, held, c.in_ok-count.ensures.bytes.2))
+
+pub returns-in_err-_rest-clause-near : goal.returns-in_err-_rest-clause-near
+returns-in_err-_rest-clause-near g c =
+    let held : length c.read_behind.new.buffer ≡ length c.args.buffer.now = search rules in
+    let long = piece-length c.pieces.kept c.in_ok-count.count c.pieces.buffer c.read_behind.new.buffer c.in_ok-count.ensures.kept c.in_ok-count.ensures.bytes.2 in
+    near-piece _ _ _ _ _ _ _ c.pieces.invariant.read _ _ _ c.in_ok-count.ensures.bytes.0 (omega (arith, long, held, c.in_ok-count.ensures.bytes.2))
+
+pub returns-then-count-room-clause-near : goal.returns-then-count-room-clause-near
+returns-then-count-room-clause-near g c =
+    let held : length c.read_behind.new.buffer ≡ length c.args.buffer.now = search rules in
+    let long = piece-length c.pieces.kept c.in_ok-count.count c.pieces.buffer c.read_behind.new.buffer c.in_ok-count.ensures.kept c.in_ok-count.ensures.bytes.2 in
+    near-piece _ _ _ _ _ _ _ c.pieces.invariant.read _ _ _ c.in_ok-count.ensures.bytes.0 (omega (arith, long, held, c.in_ok-count.ensures.bytes.2))
+
+pub returns-in_err-start-clause-near : goal.returns-in_err-start-clause-near
+returns-in_err-start-clause-near g c =
+    let held : length c.read_behind.new.buffer ≡ length c.args.buffer.now = search rules in
+    let long = piece-length c.pieces.kept c.in_ok-count.count c.pieces.buffer c.read_behind.new.buffer c.in_ok-count.ensures.kept c.in_ok-count.ensures.bytes.2 in
+    near-piece _ _ _ _ _ _ _ c.pieces.invariant.read _ _ _ c.in_ok-count.ensures.bytes.0 (omega (arith, long, held, c.in_ok-count.ensures.bytes.2))

@@ -1,4 +1,4 @@
-use Rattle.std.proofs.Common.{◌≢◌, ◌≤◌, ℕ, List, take}
+use Rattle.std.proofs.Common.{◌≡◌, ◌≢◌, ◌≤◌, ℕ, List, take}
 use Rattle.std.specs.Io.KnownBytes as known
 use Rattle.partition_check.specs.Readers.{reading}
 use Rattle.partition_check.proofs.Streaming.{IsRead}
@@ -10,6 +10,7 @@ invariant-pieces g l = record {
   few : l.kept ≤ 129;
   others : (other : List ℕ) → other ≢ l.name → known.Keeps (g.D.Desk.remaining l.initial.desk other) (g.D.Desk.remaining l.desk other);
   counts : (other : List ℕ) → g.D.Desk.faults l.initial.desk other ≤ g.D.Desk.faults l.desk other;
+  calm : (other : List ℕ) → g.D.Desk.faults l.desk other ≡ g.D.Desk.faults l.initial.desk other;
 }
 
 abbrev pub decreases-pieces : goal.decreases-pieces

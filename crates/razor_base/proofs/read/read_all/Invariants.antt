@@ -1,4 +1,4 @@
-use Rattle.std.proofs.Common.{◌≢◌, ◌≤◌, ◌-◌, ℕ, List, length}
+use Rattle.std.proofs.Common.{◌≡◌, ◌≢◌, ◌≤◌, ◌-◌, ℕ, List, length}
 use Rattle.std.specs.Io.KnownBytes.{Consumes, Keeps}
 use Rattle.razor_base.proofs.read.read_all.Given as goal
 
@@ -8,6 +8,7 @@ invariant-pieces g l = record {
   within : length l.into.items ≤ l.limit;
   others : (other : List ℕ) → other ≢ l.name → Keeps (g.D.Desk.remaining l.initial.desk other) (g.D.Desk.remaining l.desk other);
   counts : (other : List ℕ) → g.D.Desk.faults l.initial.desk other ≤ g.D.Desk.faults l.desk other;
+  calm : (other : List ℕ) → g.D.Desk.faults l.desk other ≡ g.D.Desk.faults l.initial.desk other;
 }
 
 abbrev pub decreases-pieces : goal.decreases-pieces

@@ -9,13 +9,14 @@ use Rattle.razor_core.specs.Ending.{ending_line}
 use Rattle.razor_core.specs.Standing.{WritesNothing}
 use Rattle.razor_core.specs.Promise.{KeepsPromiseOf}
 use Rattle.razor_core.proofs.Endings.{kept_by, unchanged_by}
+use Rattle.razor_core.proofs.FileWords.{arranged_file, compiled_file, shortened_file}
 use Rattle.razor_core.proofs.top.razor.Goals as goal
 
 abbrev some_command : Command → Option Command
 some_command command = Some command
 
-pub returns : goal.returns
-returns g c =
+pub returns-clause-promise : goal.returns-clause-promise
+returns-clause-promise g c =
     let before = seen g.D.Desk.remaining g.D.Desk.faults g.K.Sink.written g.K.Sink.faults c.args.desk.now c.args.out.now in
     let after = seen g.D.Desk.remaining g.D.Desk.faults g.K.Sink.written g.K.Sink.faults c.run-ending.new.desk c.run-ending.new.out in
     let command = meant c.in-Some.asked in
@@ -32,3 +33,12 @@ returns g c =
           (subst (λ (s : ℕ). WritesNothing (some_command command) s → s ≢ 0 → s ≢ 1 → s ≢ 6 → Keeps before.written after.written) same (unchanged_by command before after ending ends));
       untouched = subst (λ (o : Option Command). (name : List ℕ) → IsNoInput o name → Keeps (before.remaining name) (after.remaining name)) words c.run-ending.ensures.others;
     }
+
+pub returns-clause-headline : goal.returns-clause-headline
+returns-clause-headline g c = λ file bytes words done known. compiled_file _ _ _ _ _ (returns-clause-promise g c) file bytes done known words
+
+pub returns-clause-arranged : goal.returns-clause-arranged
+returns-clause-arranged g c = λ file bytes words done known. arranged_file _ _ _ _ _ (returns-clause-promise g c) file bytes done known words
+
+pub returns-clause-shortened : goal.returns-clause-shortened
+returns-clause-shortened g c = λ file bytes words done known. shortened_file _ _ _ _ _ (returns-clause-promise g c) file bytes done known words

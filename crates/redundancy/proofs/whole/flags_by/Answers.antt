@@ -1,6 +1,6 @@
 use Rattle.std.proofs.Common.{◌≡◌, ℕ, List, ◌∙◌}
 use Rattle.std.specs.HashMap.{get}
-use Rattle.field_boxes.specs.Fields.{AreValues}
+use Rattle.field_boxes.specs.Headline.Fields.{AreValues}
 use Rattle.node_store.specs.Diagram.{answer}
 use Rattle.node_store.proofs.Canonical.{in_use}
 use Rattle.node_store.proofs.Growth.{twice}

@@ -1,7 +1,7 @@
 use Rattle.std.proofs.Common.{◌≡◌, ◌∙◌, ◌+◌, List, ap, sym, subst, length, get_or, arith}
 use Rattle.std.proofs.lemmas.List.Elements.{recursion_from_All}
 use Rattle.field_boxes.specs.declared.rule.Rule.{Rule}
-use Rattle.field_boxes.specs.Fields.{IsHeader}
+use Rattle.field_boxes.specs.Headline.Fields.{IsHeader}
 use Rattle.field_boxes.specs.NamedRules.{IsNumberedBy}
 use Rattle.rule_audit.specs.Joined.{AllBelow, AllDecide}
 use Rattle.rule_audit.specs.Meeting.{IsStateSoFar, next_behind}

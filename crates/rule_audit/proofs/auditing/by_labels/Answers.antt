@@ -1,5 +1,5 @@
 use Rattle.std.proofs.Common.{ap, ◌∙◌, get_or}
-use Rattle.field_boxes.specs.Fields.{IsHeader}
+use Rattle.field_boxes.specs.Headline.Fields.{IsHeader}
 use Rattle.rule_audit.specs.Labels.{label_at}
 use Rattle.rule_audit.specs.Meeting.{next_behind, next_shown, shown_by}
 use Rattle.rule_audit.proofs.Behind.{shows_behind}

@@ -1,5 +1,5 @@
 use Rattle.std.proofs.Common.{◌≡◌, ◌<◌, ◌∙◌, List, Bool, true, ap, sym, subst, length, get_or, arith, Option, None, is_none, map, unwrap_or}
-use Rattle.field_boxes.specs.Fields.{IsHeader}
+use Rattle.field_boxes.specs.Headline.Fields.{IsHeader}
 use Rattle.rule_audit.specs.declared.state.RuleState.{RuleState}
 use Rattle.rule_audit.specs.declared.state.RuleState.TheVariants.{Never}
 use Rattle.rule_audit.specs.Labels.{is_open}

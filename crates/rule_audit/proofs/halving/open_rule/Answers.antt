@@ -1,7 +1,7 @@
 use Rattle.std.proofs.Common.{◌≡◌, ◌∷◌, ℕ, List, [], Bool, true, ap, sym, ◌∙◌, cond, refl, subst}
 use Rattle.field_boxes.specs.declared.rule.Rule as code
-use Rattle.field_boxes.specs.Classifier.{matches}
-use Rattle.field_boxes.specs.Fields.{stated, AreValues}
+use Rattle.field_boxes.specs.Headline.Classifier.{matches}
+use Rattle.field_boxes.specs.Headline.Fields.{stated, AreValues}
 use Rattle.field_boxes.specs.Rules.{rule_of, sets_of}
 use Rattle.field_boxes.proofs.SameSets.{matches_by_sets}
 use Rattle.fdd_build.specs.Rules.{decided}

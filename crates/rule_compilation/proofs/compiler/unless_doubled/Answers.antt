@@ -1,4 +1,4 @@
-use Rattle.field_boxes.specs.Fields.{stated}
+use Rattle.field_boxes.specs.Headline.Fields.{stated}
 use Rattle.rule_compilation.proofs.compiler.unless_doubled.Goals as goal
 
 pub returns : goal.returns

@@ -3,7 +3,7 @@ use Rattle.std.specs.Prelude.{IfOk, MatchResult, ◌≤◌}
 use Rattle.field_boxes.specs.NamedRules.{named_rules}
 use Rattle.field_boxes.specs.Orders.{IsOrder}
 use Rattle.ternary_words.specs.Views.{table_of}
-use Rattle.table_compose.specs.LeastCost.{IsLeastCost}
+use Rattle.table_compose.specs.Headline.LeastCost.{IsLeastCost}
 use Rattle.rule_compilation.specs.Compiled.{IsCompiledIn, IsRefusedIn}
 use Rattle.rule_compilation.proofs.compiling.compile.Goals as goal
 

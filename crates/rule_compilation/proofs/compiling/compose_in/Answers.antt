@@ -1,8 +1,8 @@
 use Rattle.std.proofs.lemmas.List.Elements.{recursion_from_All}
-use Rattle.field_boxes.specs.NamedRules.{IsNumberedBy}
+use Rattle.field_boxes.specs.NamedRules.{IsNumberedBy, named_rules}
 use Rattle.node_store.proofs.Orders.{order_level}
 use Rattle.rule_compilation.proofs.Composed.{IsBuiltOf}
-use Rattle.rule_compilation.proofs.Whole.{whole}
+use Rattle.rule_compilation.proofs.Whole.{whole, within}
 use Rattle.rule_compilation.proofs.compiling.compose_in.Goals as goal
 
 pub build-requires : goal.build-requires
@@ -14,8 +14,8 @@ compose-requires-clause-order c = order_level c.args.order.now c.requires.order
 pub compose-requires-clause-apart : goal.compose-requires-clause-apart
 compose-requires-clause-apart c = c.requires.order.distinct
 
-pub returns : goal.returns
-returns c =
+pub returns-clause-entries : goal.returns-clause-entries
+returns-clause-entries c =
     let order = c.args.order.now in
     let names = c.args.names.now in
     let rules = c.args.rules.now in
@@ -30,4 +30,11 @@ returns c =
       distinct = c.are_names.ensures.distinct;
       apart = c.distinct_names_tell_apart.ensures nodes order root names c.are_names.ensures.distinct;
     } in
-    whole order names rules nodes root c.args.limit c.compose.result built c.compose.ensures.composed c.compose.ensures.count c.compose.ensures.answers c.compose.ensures.prefixes c.compose.ensures.refusal
+    whole order names rules nodes root c.args.limit c.compose.result built c.compose.ensures.composed c.compose.ensures.count c.compose.ensures.answers c.compose.ensures.prefixes c.compose.ensures.decisions c.compose.ensures.refusal
+
+pub returns-clause-room : goal.returns-clause-room
+returns-clause-room c =
+    let order = c.args.order.now in
+    let names = c.args.names.now in
+    let rules = c.args.rules.now in
+    within order names rules c.args.limit c.compose.result (c.one_least_cost.ensures order (named_rules names rules)) (returns-clause-entries c) c.compose.ensures.within

@@ -2,7 +2,7 @@ use Rattle.std.proofs.Common.{◌≡◌, ◌∷◌, ◌++◌, List, [], ℕ, ap,
 use Rattle.std.proofs.lemmas.List.{map-append}
 use Rattle.ternary_words.specs.declared.entry.Entry.{Entry}
 use Rattle.ternary_words.specs.Views.{word_of}
-use Rattle.ternary_words.specs.Word.{Trit}
+use Rattle.ternary_words.specs.Headline.Word.{Trit}
 use Rattle.field_boxes.specs.declared.prefix.Prefix.{Prefix}
 use Rattle.rule_expansion.specs.Entries.{decided_of}
 use Rattle.rule_expansion.proofs.Adding.{asks, one_more, no_more}

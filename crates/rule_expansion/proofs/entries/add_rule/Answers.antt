@@ -3,11 +3,11 @@ use Rattle.std.proofs.lemmas.List.{length-map}
 use Rattle.std.proofs.lemmas.Simd.{map-map}
 use Rattle.std.proofs.lemmas.Result.{on_ok_weaker}
 use Rattle.field_boxes.specs.declared.prefix.Prefix.{Prefix}
-use Rattle.field_boxes.specs.Classifier.{Rule}
-use Rattle.field_boxes.specs.Fields.{stated}
+use Rattle.field_boxes.specs.Headline.Classifier.{Rule}
+use Rattle.field_boxes.specs.Headline.Fields.{stated}
 use Rattle.field_boxes.specs.Rules.{rule_of}
 use Rattle.ternary_words.specs.Prefixes.{fields_trits}
-use Rattle.ternary_words.specs.Word.{Trit}
+use Rattle.ternary_words.specs.Headline.Word.{Trit}
 use Rattle.rule_expansion.specs.Entries.{decided_of, prefixes_of, with_words}
 use Rattle.rule_expansion.specs.Expansion.{combinations, covers, decided_words}
 use Rattle.rule_expansion.proofs.entries.add_rule.Goals as goal

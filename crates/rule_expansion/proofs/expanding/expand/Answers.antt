@@ -1,7 +1,7 @@
 use Rattle.std.proofs.Common.{◌≡◌, ℕ, List, ap, arith, length, map, refl, subst, sym, ◌∙◌}
 use Rattle.field_boxes.specs.NamedRules.{named_rules}
 use Rattle.ternary_words.specs.Limits.{AreNumbered}
-use Rattle.ternary_words.specs.Table.{Entry, answer}
+use Rattle.ternary_words.specs.Headline.Table.{Entry, answer}
 use Rattle.ternary_words.specs.Views.{entry_of}
 use Rattle.rule_expansion.proofs.expanding.expand.Goals as goal
 

@@ -1,8 +1,8 @@
 use Rattle.std.proofs.Common.{ℕ, List, ap, ◌∙◌}
 use Rattle.std.specs.Prelude.{slice_index_or}
 use Rattle.std.proofs.lemmas.Result.{on_ok_weaker}
-use Rattle.field_boxes.specs.Classifier.{Interval, union_holds}
-use Rattle.field_boxes.specs.Fields.{width}
+use Rattle.field_boxes.specs.Headline.Classifier.{Interval, union_holds}
+use Rattle.field_boxes.specs.Headline.Fields.{width}
 use Rattle.range_prefix.specs.Shortest.{shortest_cover}
 use Rattle.range_prefix.specs.Spans.{union_of}
 use Rattle.rule_expansion.proofs.Places.{set_there}

@@ -1,6 +1,6 @@
 use Rattle.std.proofs.Common.{◌≤◌, ℕ, List, length, ap, sym, subst, ◌∙◌}
-use Rattle.field_boxes.specs.Classifier.{Interval, union_holds}
-use Rattle.field_boxes.specs.Fields.{width}
+use Rattle.field_boxes.specs.Headline.Classifier.{Interval, union_holds}
+use Rattle.field_boxes.specs.Headline.Fields.{width}
 use Rattle.field_boxes.specs.Rules.{sets_of}
 use Rattle.range_prefix.specs.Shortest.{shortest_cover}
 use Rattle.range_prefix.specs.Spans.{union_of}

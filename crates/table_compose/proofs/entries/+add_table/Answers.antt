@@ -1,6 +1,6 @@
 use Rattle.std.proofs.Common.{◌≡◌, arith, sym, subst, set}
 use Rattle.std.specs.Prelude.{slice_index_or}
-use Rattle.field_boxes.specs.Fields.{stated}
+use Rattle.field_boxes.specs.Headline.Fields.{stated}
 use Rattle.node_store.specs.Levels.{IsLevel, next as after}
 use Rattle.node_store.specs.Diagram.{level_of}
 use Rattle.node_store.proofs.Canonical.{not_empty, is_next}

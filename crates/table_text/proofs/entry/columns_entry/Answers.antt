@@ -2,7 +2,7 @@ use Rattle.std.proofs.Common.{◌≡◌, Ok, Err, sym, subst, MatchResult}
 use Rattle.ternary_words.specs.Views.{word_of}
 use Rattle.table_text.specs.ColumnViews.{columns_view, fields_view}
 use Rattle.table_text.specs.EntryViews.{line_of, spelled_view}
-use Rattle.table_text.proofs.Spelled.{columns-is}
+use Rattle.table_text.proofs.SpelledLines.{columns-is}
 use Rattle.table_text.proofs.entry.columns_entry.Goals as goal
 
 pub returns : goal.returns

@@ -1,7 +1,7 @@
 use Rattle.std.proofs.Common.{◌≡◌, ℕ, List, Option, Ok, Err, ap, sym, subst, arith, MatchResult, option_map}
 use Rattle.ternary_words.specs.Views.{word_of}
 use Rattle.table_text.specs.EntryViews.{line_of, spelled_view}
-use Rattle.table_text.proofs.Spelled.{trits-is}
+use Rattle.table_text.proofs.SpelledLines.{trits-is}
 use Rattle.table_text.proofs.entry.trits_entry.Goals as goal
 
 pub returns : goal.returns

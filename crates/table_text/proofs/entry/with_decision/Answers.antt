@@ -1,6 +1,6 @@
 use Rattle.std.proofs.Common.{ap, option_map}
 use Rattle.ternary_words.specs.Views.{word_of}
-use Rattle.table_text.proofs.Spelled.{decided-ok, decided-not}
+use Rattle.table_text.proofs.SpelledLines.{decided-ok, decided-not}
 use Rattle.table_text.proofs.entry.with_decision.Goals as goal
 
 pub returns-in-Some-decision : goal.returns-in-Some-decision

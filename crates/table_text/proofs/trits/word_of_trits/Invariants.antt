@@ -1,5 +1,5 @@
 use Rattle.std.proofs.Common.{◌≡◌, ◌<◌, ◌^◌, length, map, take, bit_and}
-use Rattle.field_boxes.specs.Bits.{bits}
+use Rattle.field_boxes.specs.Headline.Bits.{bits}
 use Rattle.ternary_words.specs.Word.{trits}
 use Rattle.table_text.specs.Trits.{trit_of}
 use Rattle.table_text.proofs.trits.word_of_trits.Given as goal

@@ -1,5 +1,5 @@
 use Rattle.std.proofs.Common.{◌≡◌, ◌%◌, ◌∷◌, [], ℕ, zero, suc, ◌<◌, List, slice_index_or, refl, arith}
-use Rattle.ternary_words.specs.Hexadecimal.{hex_digit}
+use Rattle.ternary_words.specs.Headline.Hexadecimal.{hex_digit}
 use Rattle.ternary_words.proofs.hexadecimal.digit.Goals as goal
 
 abbrev digits : List ℕ

@@ -1,4 +1,4 @@
-use Rattle.field_boxes.specs.Fields.{stated}
+use Rattle.field_boxes.specs.Headline.Fields.{stated}
 use Rattle.ternary_words.proofs.PrefixHolds.{agrees-fields}
 use Rattle.ternary_words.proofs.laws.prefixes_match.Goals as goal
 

@@ -1,8 +1,8 @@
 use Rattle.std.proofs.Common.{◌≡◌, ◌∷◌, ◌++◌, ◌-◌, ◌*◌, ◌/◌, ◌^◌, ◌≤◌, ℕ, List, [], length, length-drop, take, drop, ap, ◌∙◌, arith}
 use Rattle.std.proofs.lemmas.List.{take_all, drop-append-le}
-use Rattle.field_boxes.specs.Bits.{bits}
+use Rattle.field_boxes.specs.Headline.Bits.{bits}
 use Rattle.razor_base.proofs.Writing.{puts-then, puts-more, puts-stop, puts-is}
-use Rattle.ternary_words.specs.Hexadecimal.{hex_digits}
+use Rattle.ternary_words.specs.Headline.Hexadecimal.{hex_digits}
 use Rattle.ternary_words.proofs.Columns.{hex-last}
 use Rattle.ternary_words.proofs.write.put_column.Goals as goal
 

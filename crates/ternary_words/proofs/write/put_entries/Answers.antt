@@ -1,7 +1,7 @@
 use Rattle.std.proofs.Common.{ap, ◌∙◌, map, arith}
 use Rattle.std.specs.List.{flat_map}
 use Rattle.razor_base.proofs.Writing.{puts-is, puts-next, puts-next_cut, puts-each, texts_map}
-use Rattle.ternary_words.specs.TableText.{entry_line}
+use Rattle.ternary_words.specs.Headline.TableText.{entry_line}
 use Rattle.ternary_words.specs.Views.{entry_of}
 use Rattle.ternary_words.proofs.write.put_entries.Goals as goal
 

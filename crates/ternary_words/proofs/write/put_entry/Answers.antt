@@ -1,5 +1,6 @@
 use Rattle.std.proofs.Common.{[], ◌∷◌, append_assoc}
-use Rattle.field_boxes.specs.Names.{name_at, text_of}
+use Rattle.field_boxes.specs.Headline.Names.{text_of}
+use Rattle.field_boxes.specs.Names.{name_at}
 use Rattle.razor_base.proofs.Writing.{puts-then, puts-more, puts-stop, puts-is}
 use Rattle.ternary_words.proofs.write.put_entry.Goals as goal
 

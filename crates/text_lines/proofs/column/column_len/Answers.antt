@@ -1,6 +1,6 @@
 use Rattle.std.proofs.Common.{sym, subst}
 use Rattle.std.proofs.Math.Seq.{take-length, drop-length}
-use Rattle.text_lines.specs.Lines.{is_blank}
+use Rattle.text_lines.specs.Headline.Lines.{is_blank}
 use Rattle.text_lines.proofs.Columns.{EndsAt, StartsAt, ends_at, starts_at}
 use Rattle.text_lines.proofs.column.column_len.Goals as goal
 

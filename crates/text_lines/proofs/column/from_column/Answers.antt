@@ -2,7 +2,7 @@ use Rattle.std.proofs.Common.{◌≡◌, ◌∷◌, ℕ, List, true, refl, sym, 
 use Rattle.std.specs.Prelude.{not}
 use Rattle.std.proofs.lemmas.List.{take_rest}
 use Rattle.text_lines.specs.Columns.{columns}
-use Rattle.text_lines.specs.Lines.{is_blank}
+use Rattle.text_lines.specs.Headline.Lines.{is_blank}
 use Rattle.text_lines.proofs.Columns.{BeginsAt, StartsAt, begins_at, starts_at}
 use Rattle.text_lines.proofs.column.from_column.Goals as goal
 

@@ -1,7 +1,7 @@
 use Rattle.std.proofs.Common.{◌≡◌, ℕ, ◌-◌, ◌<◌, ◌≤◌, List, ◌++◌, length, take, drop, take-append-drop, length-drop, ap, sym, subst, ◌∙◌, arith, rules, length-take-le, take-take}
 use Rattle.std.specs.Io.KnownBytes.{Consumes, prepend_known}
 use Rattle.trace_run.proofs.PutLines.{handed_on}
-use Rattle.trace_run.proofs.Standing.{so_far-next}
+use Rattle.trace_run.proofs.Standing.{near-kept, near-piece, so_far-next}
 use Rattle.trace_run.proofs.Ending.{so_far-few, ends_fault, ends_whole, ends_at_last, ends_in_piece, ends_long, consumes-first}
 use Rattle.trace_run.proofs.running.put_answers.Goals as goal
 
@@ -92,4 +92,28 @@ pieces-preserved g c =
           ensured.puts ensured.moved ensured.rest ensured.unfinished;
       others = search rules;
       counts = search rules;
+      none_failed = search rules;
     }
+
+pub returns-in_default-clause-near : goal.returns-in_default-clause-near
+returns-in_default-clause-near g c = near-kept (g.D.Desk.remaining c.read.new.self c.args.name.now) 65536 c.pieces.invariant.stands c.in_default.ensures.bytes
+
+pub returns-in_err-take_kept-clause-near : goal.returns-in_err-take_kept-clause-near
+returns-in_err-take_kept-clause-near g c =
+    near-piece (g.D.Desk.remaining c.read.new.self c.args.name.now) (take c.in-Ok.count c.read.new.piece) 65536 c.pieces.invariant.stands c.in-Ok.ensures.bytes.0
+    (search rules)
+
+pub returns-then-count-eq0-clause-near : goal.returns-then-count-eq0-clause-near
+returns-then-count-eq0-clause-near g c =
+    near-piece (g.D.Desk.remaining c.read.new.self c.args.name.now) (take c.in-Ok.count c.read.new.piece) 65536 c.pieces.invariant.stands c.in-Ok.ensures.bytes.0
+    (search rules)
+
+pub returns-in_err-take_piece-clause-near : goal.returns-in_err-take_piece-clause-near
+returns-in_err-take_piece-clause-near g c =
+    near-piece (g.D.Desk.remaining c.read.new.self c.args.name.now) (take c.in-Ok.count c.read.new.piece) 65536 c.pieces.invariant.stands c.in-Ok.ensures.bytes.0
+    (search rules)
+
+pub returns-then-count-taken-clause-near : goal.returns-then-count-taken-clause-near
+returns-then-count-taken-clause-near g c =
+    near-piece (g.D.Desk.remaining c.read.new.self c.args.name.now) (take c.in-Ok.count c.read.new.piece) 65536 c.pieces.invariant.stands c.in-Ok.ensures.bytes.0
+    (search rules)

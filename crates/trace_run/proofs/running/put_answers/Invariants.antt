@@ -1,4 +1,4 @@
-use Rattle.std.proofs.Common.{◌≢◌, ◌≤◌, ℕ, List}
+use Rattle.std.proofs.Common.{◌≡◌, ◌≢◌, ◌≤◌, ℕ, List}
 use Rattle.std.specs.Io.KnownBytes.{Keeps}
 use Rattle.trace_run.proofs.Standing.{ReadSoFar}
 use Rattle.trace_run.proofs.running.put_answers.Given as goal
@@ -9,6 +9,7 @@ invariant-pieces g l = record {
       (g.D.Desk.remaining l.initial.desk l.name) (g.D.Desk.remaining l.desk l.name) l.progress;
   others : (other : List ℕ) → other ≢ l.name → Keeps (g.D.Desk.remaining l.initial.desk other) (g.D.Desk.remaining l.desk other);
   counts : (other : List ℕ) → g.D.Desk.faults l.initial.desk other ≤ g.D.Desk.faults l.desk other;
+  none_failed : (other : List ℕ) → g.D.Desk.faults l.desk other ≡ g.D.Desk.faults l.initial.desk other;
 }
 
 abbrev pub decreases-pieces : goal.decreases-pieces

@@ -1,6 +1,6 @@
 use Rattle.std.proofs.Common.{◌≡◌, ℕ, List, Option, Some, None, ap, sym, ◌∙◌}
 use Rattle.std.specs.Prelude.{option_and_then}
-use Rattle.field_boxes.specs.Names.{text_of}
+use Rattle.field_boxes.specs.Headline.Names.{text_of}
 use Rattle.tcam_sim.specs.Slots.{look_up}
 use Rattle.bank_update.specs.Machine.{State, held, looked, old_or_new}
 use Rattle.bank_update.specs.Swapping.{Swapping}

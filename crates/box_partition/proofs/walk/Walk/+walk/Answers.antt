@@ -1,6 +1,7 @@
 use Rattle.std.proofs.Common.{◌≡◌, ◌≤◌, ◌<◌, ◌+◌, ◌∙◌, List, [], length, get_or, drop, take, ap, sym, subst, refl, add-one, arith, rules, suc, map}
 use Rattle.std.proofs.lemmas.List.{get_or_default}
-use Rattle.field_boxes.specs.Fields.{stated, greatest_of}
+use Rattle.field_boxes.specs.Headline.Fields.{stated}
+use Rattle.field_boxes.specs.Fields.{greatest_of}
 use Rattle.field_boxes.specs.Spans.{intervals_of}
 use Rattle.node_store.specs.declared.split.Part.{Part}
 use Rattle.node_store.specs.Diagram.{edges_of}

@@ -1,5 +1,5 @@
 use Rattle.std.proofs.Common.{ap, ◌∙◌}
-use Rattle.field_boxes.specs.Names.{text_of}
+use Rattle.field_boxes.specs.Headline.Names.{text_of}
 use Rattle.edit_session.specs.Editing.{ListedSwap}
 use Rattle.edit_session.specs.Machine.{decided}
 use Rattle.edit_session.proofs.Deciding.{decided-is, header-of}

@@ -1,5 +1,5 @@
 use Rattle.std.proofs.Common.{◌∙◌, ap, sym}
-use Rattle.field_boxes.specs.Classifier.{interval_holds, union_holds}
+use Rattle.field_boxes.specs.Headline.Classifier.{interval_holds, union_holds}
 use Rattle.field_boxes.specs.Spans.{interval_of}
 use Rattle.field_boxes.proofs.FirstSeen.{list_any-map}
 use Rattle.field_boxes.proofs.ports.Ports.holds.Goals as goal

@@ -1,6 +1,6 @@
 use Rattle.std.proofs.Common.{◌∙◌, ap, sym, arith}
 use Rattle.std.specs.Prelude.{◌||◌}
-use Rattle.field_boxes.specs.Classifier.{interval_holds}
+use Rattle.field_boxes.specs.Headline.Classifier.{interval_holds}
 use Rattle.field_boxes.specs.Spans.{interval_of}
 use Rattle.field_boxes.proofs.United.{union_more}
 use Rattle.field_boxes.proofs.ports.Ports.of.Goals as goal

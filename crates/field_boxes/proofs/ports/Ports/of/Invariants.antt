@@ -1,5 +1,5 @@
 use Rattle.std.proofs.Common.{◌≡◌, ◌≤◌, ◌<◌, ℕ, length, take}
-use Rattle.field_boxes.specs.Classifier.{union_holds}
+use Rattle.field_boxes.specs.Headline.Classifier.{union_holds}
 use Rattle.field_boxes.specs.Spans.{intervals_of}
 use Rattle.field_boxes.specs.Unions.{RiseApart}
 use Rattle.field_boxes.proofs.ports.Ports.of.Given as goal

@@ -1,8 +1,9 @@
 use Rattle.std.proofs.Common.{◌≡◌, [], arith, sym, refl}
 use Rattle.std.specs.Prelude.{slice_index_or, IsTrue, IsFalse}
 use Rattle.std.proofs.lemmas.List.{get_or_default}
-use Rattle.field_boxes.specs.Fields.{stated, greatest_of}
-use Rattle.field_boxes.specs.Classifier.{matches, union_holds}
+use Rattle.field_boxes.specs.Headline.Fields.{stated}
+use Rattle.field_boxes.specs.Fields.{greatest_of}
+use Rattle.field_boxes.specs.Headline.Classifier.{matches, union_holds}
 use Rattle.field_boxes.specs.Spans.{intervals_of}
 use Rattle.field_boxes.specs.SpanLists.{filling}
 use Rattle.field_boxes.specs.Unions.{RiseApart}

@@ -3,7 +3,7 @@ use Rattle.std.specs.Prelude.{slice_index_or, IsTrue, IsFalse}
 use Rattle.std.proofs.lemmas.List.{get_or_default}
 use Rattle.field_boxes.specs.declared.span.Span.{Span}
 use Rattle.field_boxes.specs.Fields.{greatest_of}
-use Rattle.field_boxes.specs.Classifier.{union_holds}
+use Rattle.field_boxes.specs.Headline.Classifier.{union_holds}
 use Rattle.field_boxes.specs.Spans.{intervals_of}
 use Rattle.field_boxes.specs.SpanLists.{filling}
 use Rattle.field_boxes.specs.Unions.{RiseApart}

@@ -2,7 +2,7 @@ use Rattle.std.proofs.Common.{◌<◌, ℕ, []}
 use Rattle.std.specs.Prelude.{IsTrue, slice_index_or}
 use Rattle.field_boxes.specs.declared.span.Span.{Span}
 use Rattle.field_boxes.specs.Fields.{greatest_of}
-use Rattle.field_boxes.specs.Classifier.{union_holds}
+use Rattle.field_boxes.specs.Headline.Classifier.{union_holds}
 use Rattle.field_boxes.specs.Boxes.{SomeValue}
 use Rattle.field_boxes.specs.Rules.{sets_of}
 use Rattle.field_boxes.proofs.rule.Rule.meets.Given as goal

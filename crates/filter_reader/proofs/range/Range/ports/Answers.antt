@@ -1,5 +1,5 @@
 use Rattle.std.proofs.Common.{◌∷◌, [], arith, nat_lt, le-ltb, lt-ltb}
-use Rattle.filter_reader.specs.Ports.{union_of}
+use Rattle.filter_reader.specs.Headline.Ports.{union_of}
 use Rattle.filter_reader.proofs.KeptRanges.{alone, one_kept, ranges_above, ranges_reversed, ranges_united}
 use Rattle.filter_reader.proofs.range.Range.ports.Goals as goal
 

@@ -1,4 +1,4 @@
-use Rattle.filter_reader.specs.Ports.{union_of}
+use Rattle.filter_reader.specs.Headline.Ports.{union_of}
 use Rattle.filter_reader.proofs.KeptRanges.{many_ranges, ranges_above, ranges_reversed, ranges_united}
 use Rattle.filter_reader.proofs.ranges.Ranges.ports.Goals as goal
 

@@ -1,5 +1,5 @@
 use Rattle.std.proofs.Common.{◌≡◌, ◌<◌, length, drop}
-use Rattle.field_boxes.specs.Fields.{stated}
+use Rattle.field_boxes.specs.Headline.Fields.{stated}
 use Rattle.node_store.specs.Diagram.{level_of, answer}
 use Rattle.node_store.proofs.store.Store.answer.Given as goal
 

@@ -1,5 +1,5 @@
 use Rattle.std.proofs.Common.{ap, inr, ◌∙◌}
-use Rattle.field_boxes.specs.Names.{text_of}
+use Rattle.field_boxes.specs.Headline.Names.{text_of}
 use Rattle.filter_reader.specs.Lists.{name_decided}
 use Rattle.partition_check.specs.Agreement.{name_answered}
 use Rattle.razor_core.specs.Equiv.{differ_line}

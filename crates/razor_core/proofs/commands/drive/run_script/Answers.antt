@@ -8,16 +8,19 @@ use Rattle.ternary_words.specs.declared.table.Table.{Table}
 use Rattle.bank_update.specs.Driven as drives
 use Rattle.bank_update.specs.Machine.{State, unsettled}
 use Rattle.bank_update.specs.Runs.{IsRun}
+use Rattle.bank_update.proofs.Driving.{runs-of}
+use Rattle.tcam_sim.specs.Bank.{sets_of}
 use Rattle.bank_update.specs.Script.{IsWithin}
 use Rattle.command_words.specs.Command.{Drive}
 use Rattle.razor_core.specs.Inputs.{inputs, script_input, script_value, table_input}
 use Rattle.razor_core.specs.Outside.{seen}
-use Rattle.razor_core.specs.Taking.{EndsTurn, TakesTurn}
+use Rattle.razor_core.specs.Taking.{EndsTurn, TakesTurn, table_value_of}
 use Rattle.razor_core.specs.Ending.{Ends}
+use Rattle.razor_core.specs.declared.ending.Ending.TheVariants.{Memory}
 use Rattle.razor_core.proofs.DriveEnding.{Driven, drive_ends}
 use Rattle.razor_core.proofs.Ended.{turn_ends}
-use Rattle.razor_core.proofs.Tables.{NoneOf, all_fail_later, all_stay, all_taken_later, among_ends, first_text, later_words, none_later, none_of_inputs, stay_kept, taken_length, texts, words_parted}
-use Rattle.razor_core.proofs.Turns.{kept, passed_taken, taken_before}
+use Rattle.razor_core.proofs.Tables.{NoneOf, all_fail_later, all_passed, all_stay, all_taken_later, among_ends, first_text, later_words, none_later, none_of_inputs, stay_kept, taken_length, texts, words_parted}
+use Rattle.razor_core.proofs.Turns.{kept, pass_behind, passed_taken, taken_before}
 use Rattle.std.proofs.KnownBytes.{Keeps-trans}
 use Rattle.razor_core.proofs.commands.drive.run_script.Goals as goal
 
@@ -76,6 +79,35 @@ returns-in-Err-take_tables-clause-others g c =
     (λ other none. Keeps-trans (g.D.Desk.remaining c.args.desk.now other) (g.D.Desk.remaining c.take.new.desk other) (g.D.Desk.remaining c.take_tables.new.desk other) (c.in-Ok.ensures.others other none.0)
     (c.take_tables.ensures.others other (none_of_inputs other files none.1)))
 
+pub returns-in-Err-new-clause-ends : goal.returns-in-Err-new-clause-ends
+returns-in-Err-new-clause-ends g c =
+    let words = c.args.files.now in
+    let script = first_text words in
+    let rest = later_words words in
+    let files = texts rest in
+    let slots = c.args.slots.count in
+    let seen_is = words_parted words c.in-len1-up.len_at_least in
+    let count_is = length-map rest (λ (word : Bor (List ℕ)). word.now) in
+    let differ = subst (λ (ws : List (List ℕ)). IsTrue (all_differ ws)) seen_is c.requires.apart in
+    let none = none_later script files differ in
+    let start = g.D.Desk.remaining c.args.desk.now in
+    let between = g.D.Desk.remaining c.take.new.desk in
+    let end = g.D.Desk.remaining c.take_tables.new.desk in
+    let events = c.in-Ok.script in
+    let taken = subst (λ (n : ℕ). TakesTurn (script_input n script) (start script) (between script) (script_value events)) (sym count_is) c.in-Ok.ensures.turn in
+    let before = seen g.D.Desk.remaining g.D.Desk.faults g.K.Sink.written g.K.Sink.faults c.args.desk.now c.args.out.now in
+    let after = seen g.D.Desk.remaining g.D.Desk.faults g.K.Sink.written g.K.Sink.faults c.take_tables.new.desk c.args.out.now in
+    let added = c.in_default-take_tables.ensures.taken in
+    let still = kept (g.K.Sink.written c.args.out.now) in
+    subst (λ (ws : List (List ℕ)). Ends (driving slots ws) before after Memory) (sym seen_is) (
+      refl,
+      (λ tells. inl still),
+      pass_behind before after (inputs (Drive slots script files)) (script_value events ∷ map table_value_of added.0) (
+        passed_taken (script_input (length files) script) (start script) (between script) (script_value events) taken,
+        all_passed before after files added.0 (all_taken_later script files start between end added.0 none c.in-Ok.ensures.others added.1),
+      ),
+    )
+
 pub returns-in-Err-new-clause-others : goal.returns-in-Err-new-clause-others
 returns-in-Err-new-clause-others g c =
     let words = c.args.files.now in
@@ -123,7 +155,7 @@ returns-clause-ends g c =
       script_taken = taken_before (script_input (length files) script) (start script) (between script) (end script) (script_value events) taken (c.take_tables.ensures.others script none);
       tables_taken = all_taken_later script files start between end added.0 none c.in-Ok.ensures.others added.1;
       outcome = subst (λ (ts : List Table). drives.Outcome (IsRun ts (unsettled slots) last 0 0) appended events c.drive_on-ended.result) tables_are
-          (subst (λ (s : State). drives.Outcome (IsRun c.deref.result.now s last 0 0) appended events c.drive_on-ended.result) state_is c.drive_on-ended.ensures.outcome);
+          (subst (λ (s : State). drives.Outcome (IsRun c.deref.result.now s last 0 0) appended events c.drive_on-ended.result) state_is (runs-of c.deref.result.now c.new-swapper.result.state last 0 0 (sets_of c.new-swapper.result.device) (sets_of c.drive_on-ended.new.swapper.device) appended events c.drive_on-ended.result c.drive_on-ended.ensures.outcome));
       write_fault = c.drive_on-ended.ensures.write_fault;
       calm = c.drive_on-ended.ensures.calm;
     } in

@@ -1,11 +1,11 @@
 use Rattle.std.proofs.Common.{[], ◌∷◌, refl, sym}
 use Rattle.command_words.specs.Command.{Equiv}
-use Rattle.razor_core.specs.Inputs.{list_input}
+use Rattle.razor_core.specs.Inputs.{inputs, list_input}
 use Rattle.razor_core.specs.Outside.{seen}
 use Rattle.razor_core.specs.Taking.{value_of}
 use Rattle.razor_core.proofs.EquivEnding.{ReadBoth, answered_ends, cut_verdict_ends}
 use Rattle.razor_core.proofs.Ended.{ends_later, turn_ends}
-use Rattle.razor_core.proofs.Turns.{kept, passed_taken, taken_before, taken_later}
+use Rattle.razor_core.proofs.Turns.{kept, pass_behind, passed_taken, taken_before, taken_later}
 use Rattle.razor_core.proofs.commands.equiv.compare_lists.Goals as goal
 
 pub returns-in-Err-clause-ends : goal.returns-in-Err-clause-ends
@@ -66,3 +66,21 @@ returns-clause-ends g c =
       right_taken = taken_later (list_input right) (start right) (between right) (end right) (value_of second) (c.in-Ok.ensures.others right (λ e. c.args.files.apart (sym e))) c.in-Ok-take.ensures.turn;
     } in
     cut_verdict_ends left right before after first second c.in-Ok-equal.verdict reads c.in-Ok-equal.ensures c.in-Err-write_verdict.ensures.failed c.in-Err-write_verdict.ensures.err
+
+pub returns-in-Err-equal-clause-ends : goal.returns-in-Err-equal-clause-ends
+returns-in-Err-equal-clause-ends g c =
+    let left = c.args.files.first.now in
+    let right = c.args.files.second.now in
+    let start = g.D.Desk.remaining c.args.desk.now in
+    let between = g.D.Desk.remaining c.take.new.desk in
+    let end = g.D.Desk.remaining c.take-2.new.desk in
+    let before = seen g.D.Desk.remaining g.D.Desk.faults g.K.Sink.written g.K.Sink.faults c.args.desk.now c.args.out.now in
+    let after = seen g.D.Desk.remaining g.D.Desk.faults g.K.Sink.written g.K.Sink.faults c.take-2.new.desk c.args.out.now in
+    let second = taken_later (list_input right) (start right) (between right) (end right) (value_of c.in-Ok-take.list) (c.in-Ok.ensures.others right (λ e. c.args.files.apart (sym e))) c.in-Ok-take.ensures.turn in (
+      refl,
+      kept (g.K.Sink.written c.args.out.now),
+      pass_behind before after (inputs (Equiv left right)) (value_of c.in-Ok.list ∷ value_of c.in-Ok-take.list ∷ []) (
+        passed_taken (list_input left) (start left) (between left) (value_of c.in-Ok.list) c.in-Ok.ensures.turn,
+        (passed_taken (list_input right) (start right) (end right) (value_of c.in-Ok-take.list) second, tt),
+      ),
+    )

@@ -1,6 +1,6 @@
 use Rattle.std.proofs.Common.{[], inl, refl, subst}
 use Rattle.std.specs.Prelude.{true}
-use Rattle.filter_reader.specs.FilterList.{FilterList}
+use Rattle.filter_reader.specs.Headline.FilterList.{FilterList}
 use Rattle.filter_reader.specs.ListText.{list_text}
 use Rattle.list_generator.specs.DrawnRules.{generated}
 use Rattle.razor_base.specs.Output.{AppendsFront}

@@ -1,6 +1,6 @@
 use Rattle.std.proofs.Common.{[], ◌∷◌, length, refl, subst, sym, true}
 use Rattle.filter_reader.specs.Lists.{filter_list}
-use Rattle.ternary_words.specs.TableText.{table_text}
+use Rattle.ternary_words.specs.Headline.TableText.{table_text}
 use Rattle.ternary_words.specs.Views.{table_of}
 use Rattle.table_text.proofs.TableTexts.{table-read}
 use Rattle.command_words.specs.Command.{Make}
@@ -11,7 +11,7 @@ use Rattle.razor_core.specs.Make.{made_line}
 use Rattle.razor_core.specs.Outcome.{IsTextOf, Outcome}
 use Rattle.razor_core.specs.Outside.{seen}
 use Rattle.razor_core.specs.Taking.{value_of}
-use Rattle.razor_core.proofs.Ended.{cut_off_ends, done_goes_on, make_free, not_made_ends, or_in_turn, turn_ends}
+use Rattle.razor_core.proofs.Ended.{cut_off_ends, done_goes_on, make_free, not_made_ends, or_in_turn, said_order, turn_ends}
 use Rattle.razor_core.proofs.SpelledNames.{AreSpelled}
 use Rattle.razor_core.proofs.Turns.{kept, passed_taken, read_taken}
 use Rattle.razor_core.proofs.commands.make.make_table.Goals as goal
@@ -49,7 +49,7 @@ returns-in-Ok-write_table-clause-ends g c =
     let line = made_line (method_seen c.args.method) order rules flagged in
     let text : IsTextOf table (table_text table) = record { written = refl; spells = table-read c.in-Ok-make_by.made.table (subst AreSpelled (sym c.in-Ok-make_by.ensures.names) c.in-Ok.ensures.holds.spelled) } in
     let made : Outcome = record { yes = true; text = table_text table; line = line } in (
-      (order, rules, flagged, c.summary.ensures),
+      (order, said_order (method_seen c.args.method) (filter_list c.in-Ok.list).rules order c.in-Ok-make_by.ensures.made.0, rules, flagged, c.summary.ensures),
       λ tells. subst (IsDone command before after true) (sym c.summary.ensures)
           (done_goes_on command before after (value ∷ []) made true (passed_taken (list_input file) (before.remaining file) (after.remaining file) value taken, tt)
           (make_free (method_seen c.args.method) (sizes_of c.args.sizes) file (filter_list c.in-Ok.list) c.in-Ok-make_by.ensures.room)

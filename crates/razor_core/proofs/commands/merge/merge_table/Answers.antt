@@ -1,15 +1,15 @@
 use Rattle.std.proofs.Common.{[], ◌∷◌, inl, refl, subst, sym, true}
-use Rattle.ternary_words.specs.TableText.{table_text}
+use Rattle.ternary_words.specs.Headline.TableText.{table_text}
 use Rattle.ternary_words.specs.Views.{table_of}
 use Rattle.table_text.proofs.TableTexts.{table-read}
 use Rattle.command_words.specs.Command.{Merge}
-use Rattle.razor_core.specs.Inputs.{table_input}
+use Rattle.razor_core.specs.Inputs.{inputs, table_input}
 use Rattle.razor_core.specs.Outcome.{IsTextOf, Outcome}
 use Rattle.razor_core.specs.Outside.{seen}
 use Rattle.razor_core.specs.Taking.{table_value_of}
 use Rattle.razor_core.proofs.Ended.{cut_off_ends, done_ends, turn_ends}
 use Rattle.razor_core.proofs.SpelledNames.{AreSpelled}
-use Rattle.razor_core.proofs.Turns.{kept, passed_taken, read_taken}
+use Rattle.razor_core.proofs.Turns.{kept, pass_behind, passed_taken, read_taken}
 use Rattle.razor_core.proofs.commands.merge.merge_table.Goals as goal
 
 pub returns-in-Err-clause-ends : goal.returns-in-Err-clause-ends
@@ -47,3 +47,11 @@ returns-clause-ends g c =
     let outcome : Outcome = record { yes = true; text = table_text table; line = [] } in
     cut_off_ends (Merge file) before after (value ∷ []) outcome (passed_taken (table_input file) (before.remaining file) (after.remaining file) value c.in-Ok.ensures.turn, tt) (inl (λ stop later. later)) (table, c.in-Ok-merged.ensures.merged, text, refl, refl)
     c.in-Err-write_table.ensures.failed c.in-Err-write_table.ensures.err
+
+pub returns-in-Err-merged-clause-ends : goal.returns-in-Err-merged-clause-ends
+returns-in-Err-merged-clause-ends g c =
+    let file = c.args.file.now in
+    let before = seen g.D.Desk.remaining g.D.Desk.faults g.K.Sink.written g.K.Sink.faults c.args.desk.now c.args.out.now in
+    let after = seen g.D.Desk.remaining g.D.Desk.faults g.K.Sink.written g.K.Sink.faults c.take.new.desk c.args.out.now in
+    let passed = passed_taken (table_input file) (before.remaining file) (after.remaining file) (table_value_of c.in-Ok.table) c.in-Ok.ensures.turn in
+    (refl, kept (g.K.Sink.written c.args.out.now), pass_behind before after (inputs (Merge file)) (table_value_of c.in-Ok.table ∷ []) (passed, tt))

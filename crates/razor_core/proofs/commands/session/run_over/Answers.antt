@@ -4,6 +4,9 @@ use Rattle.field_boxes.specs.NamedRules.{named_rule}
 use Rattle.filter_reader.specs.FirstSeen.{first_seen}
 use Rattle.filter_reader.specs.Lists.{filter_list}
 use Rattle.edit_session.specs.Machine.{opened}
+use Rattle.tcam_sim.specs.Bank.{sets_of}
+use Rattle.std.specs.Io.KnownBytes.{Appends}
+use Rattle.edit_session.proofs.SessionDriving.{runs-of}
 use Rattle.razor_core.proofs.SessionEnding.{few_names, run_ends}
 use Rattle.razor_core.proofs.Turns.{kept}
 use Rattle.razor_core.proofs.commands.session.run_over.Goals as goal
@@ -28,4 +31,6 @@ returns g c =
     ∙ ap (λ (names : List (List ℕ)). opened (record { rules = rules; names = names }) slots c.args.sizes.slot c.args.sizes.limit) c.requires.names in
     run_ends slots (record { limit = c.args.sizes.limit; slot = c.args.sizes.slot }) rules c.args.session.now c.new-editor.result.session c.session_on-ended.new.editor.session
     (g.K.Sink.written c.args.out.now) (g.K.Sink.written c.session_on-ended.new.out) (g.K.Sink.faults c.args.out.now) (g.K.Sink.faults c.session_on-ended.new.out)
-    c.session_on-ended.result c.drive_ended.result start c.session_on-ended.ensures.outcome c.session_on-ended.ensures.write_fault c.session_on-ended.ensures.calm c.drive_ended.ensures
+    c.session_on-ended.result c.drive_ended.result start
+    (runs-of c.new-editor.result.session c.session_on-ended.new.editor.session 0 0 (sets_of c.new-editor.result.device) (sets_of c.session_on-ended.new.editor.device)
+    (Appends (g.K.Sink.written c.args.out.now) (g.K.Sink.written c.session_on-ended.new.out)) c.args.session.now c.session_on-ended.result c.session_on-ended.ensures.outcome) c.session_on-ended.ensures.write_fault c.session_on-ended.ensures.calm c.drive_ended.ensures

@@ -48,5 +48,14 @@ returns-clause-ends g c =
       read_fault = c.run-ended.ensures.read_fault;
       write_fault = c.run-ended.ensures.write_fault;
       calm = c.run-ended.ensures.calm;
+      near = c.run-ended.ensures.near;
     } in
     run_ends table trace before after (table_of code) (runs.answers_text code.names (slots_of bank)) (between trace) (g.D.Desk.faults c.take.new.desk trace) c.run-ended.result c.run_ended.result ran c.run_ended.ensures
+
+pub returns-in-Err-loaded-clause-ends : goal.returns-in-Err-loaded-clause-ends
+returns-in-Err-loaded-clause-ends g c =
+    let table = c.args.files.first.now in
+    let trace = c.args.files.second.now in
+    let before = seen g.D.Desk.remaining g.D.Desk.faults g.K.Sink.written g.K.Sink.faults c.args.desk.now c.args.out.now in
+    let after = seen g.D.Desk.remaining g.D.Desk.faults g.K.Sink.written g.K.Sink.faults c.take.new.desk c.args.out.now in
+    (refl, (λ tells. inl (kept (g.K.Sink.written c.args.out.now))), inl (c.in-Ok.ensures.others trace (λ e. c.args.files.apart (sym e)), tt))

@@ -2,7 +2,8 @@ use Rattle.std.proofs.Common.{◌≡◌, [], ap, arith, sym, subst, ◌∙◌, l
 use Rattle.std.specs.Prelude.{slice_index_or}
 use Rattle.std.proofs.lemmas.List.{get_or_default}
 use Rattle.std.proofs.lemmas.Result.{IfOk-weaker}
-use Rattle.field_boxes.specs.Prefix.{FitsWidth, prefix_interval}
+use Rattle.field_boxes.specs.Headline.Prefix.{FitsWidth}
+use Rattle.field_boxes.specs.Prefix.{prefix_interval}
 use Rattle.node_store.specs.Diagram.{level_of}
 use Rattle.node_store.specs.Levels.{IsLevel, next as next_level}
 use Rattle.node_store.proofs.Canonical.{is_next}

@@ -1,5 +1,5 @@
 use Rattle.std.proofs.Common.{false, true, ◌≡◌, ◌+◌, ◌∙◌, suc, length, drop, sym, subst, arith, rules}
-use Rattle.field_boxes.specs.Fields.{stated}
+use Rattle.field_boxes.specs.Headline.Fields.{stated}
 use Rattle.rule_audit.specs.Found.{IsFound}
 use Rattle.rule_audit.specs.Marks.{AreWithin, HasMarked}
 use Rattle.rule_audit.proofs.Least.{all_gone, found_here, gone_on, nowhere}

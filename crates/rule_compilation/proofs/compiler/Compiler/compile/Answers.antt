@@ -4,7 +4,7 @@ use Rattle.field_boxes.specs.NamedRules.{named_rules}
 use Rattle.field_boxes.specs.Orders.{IsOrder}
 use Rattle.redundancy.specs.Removal.{UnlessMemory}
 use Rattle.ternary_words.specs.Views.{table_of}
-use Rattle.table_compose.specs.LeastCost.{IsLeastCost}
+use Rattle.table_compose.specs.Headline.LeastCost.{IsLeastCost}
 use Rattle.rule_compilation.specs.Compiled.{IsCompiledIn, IsRefusedIn}
 use Rattle.rule_compilation.specs.Kept.{IsTrue}
 use Rattle.rule_compilation.proofs.compiler.Compiler.compile.Goals as goal

@@ -1,6 +1,6 @@
 use Rattle.std.proofs.Common.{List, ℕ, subst, sym}
 use Rattle.std.specs.Prelude.{IfOk}
-use Rattle.field_boxes.specs.Fields.{stated}
+use Rattle.field_boxes.specs.Headline.Fields.{stated}
 use Rattle.node_store.specs.Levels.{IsLevel}
 use Rattle.node_store.proofs.Orders.{order_level}
 use Rattle.rule_compilation.specs.Kept.{IsTrue}

@@ -1,7 +1,7 @@
 use Rattle.std.proofs.Common.{◌≡◌, ◌≤◌, ℕ, List, ap, arith, length, map, refl, subst, sym, ◌∙◌}
 use Rattle.std.proofs.lemmas.List.{length-map}
 use Rattle.ternary_words.specs.Limits.{AreNumbered}
-use Rattle.ternary_words.specs.Table.{answer}
+use Rattle.ternary_words.specs.Headline.Table.{answer}
 use Rattle.ternary_words.specs.Views.{entry_of}
 use Rattle.field_boxes.specs.NamedRules.{named_rules}
 use Rattle.field_boxes.specs.Alike.{IsTight}

@@ -1,5 +1,6 @@
 use Rattle.std.proofs.Common.{◌≡◌, ◌<◌, ◌∙◌, ℕ, suc, List, length, ap, sym, subst, add-one, arith}
-use Rattle.field_boxes.specs.Names.{name_at, text_of}
+use Rattle.field_boxes.specs.Headline.Names.{text_of}
+use Rattle.field_boxes.specs.Names.{name_at}
 use Rattle.slot_patch.specs.Naming.{AreNumbersOf, Grow}
 use Rattle.slot_patch.proofs.Renaming.{grow-none, grow-on, grow-with, numbers-more, numbers-none}
 use Rattle.slot_patch.proofs.names.Names.numbers.Goals as goal

@@ -1,5 +1,5 @@
 use Rattle.std.proofs.Common.{◌∙◌, ap, arith, subst, sym}
-use Rattle.field_boxes.specs.Fields.{width}
+use Rattle.field_boxes.specs.Headline.Fields.{width}
 use Rattle.node_store.specs.Levels.{HasField}
 use Rattle.node_store.specs.Diagram.{level_of}
 use Rattle.table_compose.specs.Plans.{width_of}

@@ -1,5 +1,5 @@
 use Rattle.std.proofs.Common.{◌≡◌, ◌∙◌, ap, arith, rules, length, slice_index}
-use Rattle.field_boxes.specs.Bits.{bits}
+use Rattle.field_boxes.specs.Headline.Bits.{bits}
 use Rattle.ternary_words.proofs.Joined.{bits-header}
 use Rattle.tcam_sim.proofs.KeyNumbers.{in_two}
 use Rattle.tcam_sim.proofs.key.Key.of.Goals as goal

@@ -1,5 +1,5 @@
 use Rattle.std.proofs.Common.{ap, ◌∙◌}
-use Rattle.ternary_words.specs.Word.{agrees}
+use Rattle.ternary_words.specs.Headline.Word.{agrees}
 use Rattle.ternary_words.specs.Views.{word_of}
 use Rattle.ternary_words.proofs.Matching.{agrees-mask}
 use Rattle.ternary_words.proofs.word.Word.matches.Goals as goal

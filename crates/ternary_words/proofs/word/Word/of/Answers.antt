@@ -1,7 +1,8 @@
 use Rattle.std.proofs.Common.{◌≡◌, ℕ, List, length, map, ap, ◌∙◌, rules}
-use Rattle.field_boxes.specs.Fields.{stated}
-use Rattle.field_boxes.specs.Bits.{bits}
-use Rattle.ternary_words.specs.Word.{agrees, header_bits, trits}
+use Rattle.field_boxes.specs.Headline.Fields.{stated}
+use Rattle.field_boxes.specs.Headline.Bits.{bits}
+use Rattle.ternary_words.specs.Headline.Word.{agrees, header_bits}
+use Rattle.ternary_words.specs.Word.{trits}
 use Rattle.ternary_words.specs.Prefixes.{FitFields, fields_trits, masks_of}
 use Rattle.field_boxes.specs.declared.prefix.Prefix.{Prefix}
 use Rattle.ternary_words.proofs.Masked.{masked_key}

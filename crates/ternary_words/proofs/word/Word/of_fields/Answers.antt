@@ -1,6 +1,7 @@
 use Rattle.std.proofs.Common.{ap, ◌∙◌}
-use Rattle.field_boxes.specs.Bits.{bits}
-use Rattle.ternary_words.specs.Word.{header_bits, trits}
+use Rattle.field_boxes.specs.Headline.Bits.{bits}
+use Rattle.ternary_words.specs.Headline.Word.{header_bits}
+use Rattle.ternary_words.specs.Word.{trits}
 use Rattle.ternary_words.proofs.Masked.{masked_fields}
 use Rattle.ternary_words.proofs.word.Word.of_fields.Goals as goal
 

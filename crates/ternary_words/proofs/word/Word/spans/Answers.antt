@@ -1,6 +1,6 @@
 use Rattle.std.proofs.Common.{ap, sym, ◌∙◌}
-use Rattle.field_boxes.specs.Fields.{stated}
-use Rattle.ternary_words.specs.Word.{agrees, header_bits}
+use Rattle.field_boxes.specs.Headline.Fields.{stated}
+use Rattle.ternary_words.specs.Headline.Word.{agrees, header_bits}
 use Rattle.ternary_words.specs.Prefixes.{all_hold}
 use Rattle.ternary_words.proofs.Fives.{fit_five, five_of}
 use Rattle.ternary_words.proofs.PrefixHolds.{agrees-fields}

@@ -1,0 +1,2 @@
+-- What the headline of the program says of costs.
+pub mod LeastCost
