@@ -79,10 +79,15 @@ def plain(folder, name):
     return path
 
 
-def drawn_list(folder, kind, rules):
-    """The path of a list of bench/rule-list."""
-    path = pathlib.Path(f"{folder}/{kind}, {rules:,}")
-    path.write_bytes(subprocess.run([ROOT / "bench/rule-list", kind, str(rules)], capture_output=True, check=True).stdout)
+def list_text(kind, count):
+    """The text of a list of bench/lists."""
+    return subprocess.run([ROOT / "bench/lists", kind, str(count)], capture_output=True, check=True, text=True).stdout
+
+
+def drawn_list(folder, kind, count):
+    """The path of a list of bench/lists, which has the name that it has in a table."""
+    path = pathlib.Path(f"{folder}/{kind}, {count:,}")
+    path.write_text(list_text(kind, count))
     return path
 
 

@@ -5,6 +5,7 @@ import subprocess
 import sys
 
 from building.sources import ROOT
+from calling.script import shown
 
 # The variables of the environment by which the program of a crate can be given.
 GIVEN = {"razor_cli": "RAZOR", "razor_bench": "RAZOR_BENCH"}
@@ -19,7 +20,7 @@ def program(crate, given=None):
 def found(name):
     path = shutil.which(name)
     if path is None:
-        sys.exit(f"there is no program {name}")
+        sys.exit(f"there is no program {shown(name)}")
     return os.path.abspath(path)
 
 

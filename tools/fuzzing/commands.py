@@ -1,13 +1,12 @@
 """The commands of the program, and which command words spell. Used by tools/fuzz."""
 import dataclasses
-import itertools
 import re
+
+from calling.options import VALUES as OPTIONS
 
 FILES = ("list", "table", "trace", "certificate", "script", "session")
 NUMBERS = {"seed": range(0, 2**31), "count": range(0, 65_537)}
 SPANS = {"source": 2**32 - 1, "destination": 2**32 - 1, "source port": 65_535, "destination port": 65_535, "protocol": 255}
-ORDERS = tuple("".join(order) for order in itertools.permutations("01234"))
-OPTIONS = {"--limit": range(1, 262_145), "--slot": (104, 144, 288), "--slots": range(1, 262_145), "--order": (*ORDERS, "best")}
 
 
 @dataclasses.dataclass(frozen=True)

@@ -1,11 +1,11 @@
 """Completions of the program's words for shells, made from the forms of its commands."""
-from fuzzing.commands import OPTIONS
+from calling.options import VALUES
 from specifications.usage import FILES
 
 
 def values(option):
     """The words of which an option's value is one; none where it is a number of a range."""
-    known = OPTIONS.get(option.name, ())
+    known = VALUES.get(option.name, ())
     return "" if isinstance(known, range) else " ".join(map(str, known))
 
 
@@ -58,9 +58,4 @@ def for_fish(forms):
             yield f"{named} -f"
 
 
-# Where each shell looks for its completions, below a prefix.
-SHELLS = {
-    "share/bash-completion/completions/razor": for_bash,
-    "share/zsh/site-functions/_razor": for_zsh,
-    "share/fish/vendor_completions.d/razor.fish": for_fish,
-}
+SHELLS = {"bash": for_bash, "zsh": for_zsh, "fish": for_fish}

@@ -6,6 +6,12 @@ import typing
 
 WIDTHS = (32, 32, 16, 16, 8)
 
+# The box of all headers.
+WHOLE = tuple((0, (1 << width) - 1) for width in WIDTHS)
+
+# What is decided where no rule matches, and no entry.
+MISS = "miss"
+
 PROTOCOLS = {number: name.removeprefix("IPPROTO_").lower() for name, number in vars(socket).items() if name.startswith("IPPROTO_") and 0 < number < 256}
 
 # The protocols whose ports a switch reads.

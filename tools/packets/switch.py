@@ -67,15 +67,18 @@ class Switch:
 
     def put(self, flows):
         """Adds the flows at once."""
-        self.run("ovs-ofctl", "-O", "OpenFlow13", "--bundle", "add-flows", "br0", "-", given="".join(flows))
+        self.bundle("add-flows", flows)
 
-    def drop(self, cookie):
-        """Removes the flows that have the cookie."""
-        self.run("ovs-ofctl", "-O", "OpenFlow13", "del-flows", "br0", f"cookie={cookie:#x}/-1")
+    def bundle(self, way, flows):
+        self.run("ovs-ofctl", "-O", "OpenFlow13", "--bundle", way, "br0", "-", given="".join(flows))
 
-    def cookie(self, header):
-        """The cookie of the flow that decides the header, or 0 where none does."""
-        said = self.asked("ofproto/trace", "br0", packet(header))
+    def drop(self, cookie, mask=2**64 - 1):
+        """Removes the flows that have the cookie, in the bits of the mask."""
+        self.run("ovs-ofctl", "-O", "OpenFlow13", "del-flows", "br0", f"cookie={cookie:#x}/{mask:#x}")
+
+    def cookie(self, packet):
+        """The cookie of the flow that decides the packet, or 0 where none does."""
+        said = self.asked("ofproto/trace", "br0", packet)
         found = FLOW.search(said)
         if found is None and not NO_FLOW.search(said):
             sys.exit(f"ofproto/trace says no flow:\n{said}")
@@ -107,7 +110,7 @@ def with_sbin():
     return f"{os.environ.get('PATH', '')}:/usr/sbin:/sbin"
 
 
-def packet(header):
+def packet_of(header):
     """A packet with the header, as the switch is told of one."""
     source, destination = map(ipaddress.IPv4Address, header[:2])
     kind = WITH_PORTS.get(header.protocol)

@@ -3,10 +3,14 @@ import dataclasses
 import ipaddress
 import re
 
+from calling.script import shown
 from packets.headers import WIDTHS, protocol_name
 
 FIRST = re.compile(r"table 2 slot (\d+) composed (\d+) entries (\d+)\n")
-ENTRY = re.compile(r"(\w{8})/(\w{8}) (\w{8})/(\w{8}) (\w{4})/(\w{4}) (\w{4})/(\w{4}) (\w\w)/(\w\w) (\S+)\n")
+# A decision word, that of a rule without one, or that nothing is decided.
+NAME = r"(?:miss|#[1-9]\d{0,4}|[A-Za-z0-9_.-]{1,32})"
+
+ENTRY = re.compile(rf"{' '.join(rf'([0-9A-F]{{{width // 4}}})/([0-9A-F]{{{width // 4}}})' for width in WIDTHS)} ({NAME})\n")
 
 COLUMNS = ("source", "destination", "source port", "destination port", "protocol", "decision")
 
@@ -45,6 +49,11 @@ class Entry:
     def matches(self, header):
         return all(field.matches(value) for field, value in zip(self.fields, header))
 
+    @property
+    def spans(self):
+        """For each field the span that the entry asks for; its words are prefixes."""
+        return tuple(((field.value, field.last),) for field in self.fields)
+
     def columns(self):
         source, destination, source_port, destination_port, protocol = self.fields
         return (shown_address(source), shown_address(destination), shown_port(source_port), shown_port(destination_port), shown_protocol(protocol), self.decision)
@@ -82,16 +91,24 @@ def entries_of(name, lines):
     """The entries of a table's lines."""
     first = FIRST.fullmatch(lines[0]) if lines else None
     if first is None:
-        raise ValueError(f"{name}: line 1: no table of version 2; razor migrate makes one of version 1")
+        raise ValueError(f"{shown(name)}: line 1: no table of version 2; razor migrate makes one of version 1")
     if int(first[3]) != len(lines) - 1:
-        raise ValueError(f"{name}: {len(lines) - 1} entries, and {first[3]} are stated")
+        raise ValueError(f"{shown(name)}: {len(lines) - 1} entries, and {first[3]} are stated")
     return [entry(name, number, line) for number, line in enumerate(lines[1:], 1)]
 
 
 def entry(name, number, line):
+    found = parsed(number, line)
+    if found is None:
+        raise ValueError(f"{shown(name)}: line {number + 1}: no entry of a table")
+    return found
+
+
+def parsed(number, line):
+    """The entry of a line, or none."""
     found = ENTRY.fullmatch(line)
     if found is None:
-        raise ValueError(f"{name}: line {number + 1}: no entry of a table")
+        return None
     *digits, decision = found.groups()
     numbers = [int(word, 16) for word in digits]
     return Entry(number, tuple(map(Field, numbers[::2], numbers[1::2], WIDTHS)), decision)

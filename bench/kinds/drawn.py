@@ -1,20 +1,17 @@
-#!/usr/bin/env python3
-"""Prints a filter list of N rules in the ClassBench filter format, the same for the same words: bench/rule-list KIND N
+"""Lists that are drawn: access, firewall and mixed.
 
-KIND is access, firewall or mixed. Prefix lengths, ports and protocols are drawn by shares in the manner of the
-seeds that ClassBench (Taylor and Turner) publishes for its access, firewall and IP chain lists. Addresses come from
-a tree of prefixes in which most nodes have one preferred half, so that prefixes nest, and are often ones that were
-drawn before, so that rules share them. Narrow rules tend to stand before wide ones. Three rules in four say `accept`,
-the others `deny`, and the last one is open and denies.
+Prefix lengths, ports and protocols are drawn by shares in the manner of the seeds that ClassBench (Taylor and Turner)
+publishes for its access, firewall and IP chain lists. Addresses come from a tree of prefixes in which most nodes have one
+preferred half, so that prefixes nest, and are often ones that were drawn before, so that rules share them. Narrow rules
+tend to stand before wide ones. Three rules in four say `accept`, the others `deny`, and the last one is open and denies.
 """
 import random
-import sys
 
 PROTOCOLS = {"tcp": 6, "udp": 17, "icmp": 1, "gre": 47, "esp": 50, "ospf": 89}
 
 # For each kind: lengths of source and destination prefix, classes of source and destination port, protocols, each
 # with its share; how often a node's other half is taken; how often an address is one that was drawn before.
-KINDS = {
+SHARES = {
     "access": {
         "lengths": {
             (32, 32): 24, (24, 32): 14, (0, 32): 6, (16, 32): 5, (32, 24): 8, (24, 24): 9, (28, 32): 7, (30, 32): 5,
@@ -122,7 +119,7 @@ def drawn_rule(numbers, shares, sources, destinations):
 
 def lines(kind, count):
     numbers = random.Random(f"{kind} {count}")
-    shares = KINDS[kind]
+    shares = SHARES[kind]
     sources, destinations = (Addresses(numbers, shares["branching"], sharing) for sharing in shares["sharing"])
     rules = {}
     while len(rules) < count - 1:
@@ -132,13 +129,3 @@ def lines(kind, count):
         yield line(rule, numbers.choices(("accept", "deny"), (3, 1))[0])
     yield line(((0, 0), (0, 0), (0, 65_535), (0, 65_535), "any"), "deny")
 
-
-def main():
-    try:
-        kind, count = sys.argv[1:]
-        sys.stdout.writelines(lines(kind, int(count)))
-    except (KeyError, ValueError):
-        sys.exit("usage: bench/rule-list access|firewall|mixed N")
-
-
-main()
