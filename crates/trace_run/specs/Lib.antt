@@ -4,4 +4,5 @@ pub mod Trace
 pub mod Answers
 pub mod Taking
 pub mod Outcome
+pub mod Pace
 pub mod Progress

@@ -1,5 +1,5 @@
 //! Running a trace over a memory: its answers are written while it is read.
-ghost use Rattle.std.specs.Prelude.{◌≡◌, ◌≢◌, ◌≤◌, ◌+◌, ℕ, List, IsErrOf};
+ghost use Rattle.std.specs.Prelude.{◌≡◌, ◌≢◌, ◌≤◌, ◌+◌, ℕ, List, [], IsErrOf};
 ghost use Rattle.std.specs.Io.KnownBytes.{Appends, Keeps};
 ghost use Rattle.razor_base.specs.Faults.{Rose};
 ghost use Rattle.razor_base.specs.Input.{TakesAtMost};
@@ -7,6 +7,7 @@ ghost use Rattle.razor_base.specs.Output.{AppendsFront};
 ghost use Rattle.razor_base.specs.declared.limits.TheConstants.{MOST_TRACE_BYTES, PIECE_BYTES};
 ghost use Rattle.trace_run.specs.Answers.{HaveNames, answers_text};
 ghost use Rattle.trace_run.specs.Outcome.{Begun, Outcome, Written};
+ghost use Rattle.trace_run.specs.Pace.{IsPaced};
 ghost use Rattle.trace_run.specs.Progress.{OnWriteFault, UnlessFault, UnlessWriteFault, is_lost};
 ghost use Rattle.trace_run.specs.declared.error.TraceError.TheVariants.{ReadFault};
 
@@ -29,7 +30,8 @@ fn put_answers<V: Device, D: Desk, K: Sink>(
     pending: &mut Pending,
     out: &mut K,
 ) -> Result<u64, TraceError>
-    requires { HaveNames names.now (V.held device.now) }
+    requires names { HaveNames names.now (V.held device.now) }
+    requires none { pending.old ≡ [] }
     ensures outcome { Outcome (Written K.written out.old out.new pending.old pending.new) (Begun K.written out.old out.new pending.old)
         (answers_text names.now (V.held device.now)) MOST_TRACE_BYTES (D.remaining desk.old name.now) (D.remaining desk.new name.now) result }
     ensures write_fault { OnWriteFault result (Rose (K.faults out.old) (K.faults out.new)) }
@@ -38,6 +40,7 @@ fn put_answers<V: Device, D: Desk, K: Sink>(
     ensures read_fault { IsErrOf result ReadFault → Rose (D.faults desk.old name.now) (D.faults desk.new name.now) }
     ensures none_failed { UnlessFault result ((other : List ℕ) → D.faults desk.new other ≡ D.faults desk.old other) }
     ensures near { TakesAtMost (D.remaining desk.old name.now) (D.remaining desk.new name.now) (MOST_TRACE_BYTES + PIECE_BYTES) }
+    ensures paced { IsPaced (answers_text names.now (V.held device.now)) (K.written out.old) (K.written out.new) (D.remaining desk.old name.now) (D.remaining desk.new name.now) }
     ensures others { (other : List ℕ) → other ≢ name.now → Keeps (D.remaining desk.old other) (D.remaining desk.new other) }
     ensures counts { (other : List ℕ) → D.faults desk.old other ≤ D.faults desk.new other }
 {
@@ -57,6 +60,7 @@ fn put_answers<V: Device, D: Desk, K: Sink>(
         if count > taken {
             return Err(TraceError::TooLong);
         }
+        pending.flush(out)?;
         room -= taken;
     }
 }
@@ -77,7 +81,8 @@ fn is_lost(ended: &Result<u64, TraceError>) -> bool
 /// Writes the answer to each header of the trace, and answers how many headers there are.
 ///
 /// The answer is the name of the decision in the least slot that matches, or `miss`. The trace is taken
-/// piece by piece, and only the line that isn't finished is kept. A line whose end wasn't read, because a
+/// piece by piece, the answers of a piece are written before the next one is read, and only the line that
+/// isn't finished is kept. A line whose end wasn't read, because a
 /// read failed or the limit of 67,108,864 bytes came first, isn't taken; what was answered before a bad
 /// line, a failed read or the limit is written.
 #[inline(never)]
@@ -101,8 +106,9 @@ pub fn run<V: Device, D: Desk, K: Sink>(
     ensures calm { UnlessWriteFault result (K.faults out.new ≡ K.faults out.old) }
     ensures none_failed { UnlessFault result ((other : List ℕ) → D.faults desk.new other ≡ D.faults desk.old other) }
 
-    // Past the limit at most one piece is read.
+    // Past the limit at most one piece is read, and past what was answered, however it ends.
     ensures near { TakesAtMost (D.remaining desk.old name.now) (D.remaining desk.new name.now) (MOST_TRACE_BYTES + PIECE_BYTES) }
+    ensures paced { IsPaced (answers_text names.now (V.held device.now)) (K.written out.old) (K.written out.new) (D.remaining desk.old name.now) (D.remaining desk.new name.now) }
     ensures counts { (other : List ℕ) → D.faults desk.old other ≤ D.faults desk.new other }
     ensures written { K.faults out.old ≤ K.faults out.new }
 

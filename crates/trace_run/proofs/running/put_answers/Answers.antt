@@ -1,7 +1,14 @@
-use Rattle.std.proofs.Common.{◌≡◌, ℕ, ◌-◌, ◌<◌, ◌≤◌, List, ◌++◌, length, take, drop, take-append-drop, length-drop, ap, sym, subst, ◌∙◌, arith, rules, length-take-le, take-take}
+use Rattle.std.proofs.Common.{◌≡◌, ℕ, ◌-◌, ◌<◌, ◌≤◌, List, ◌++◌, Err, IfSome, length, take, drop, take-append-drop, length-drop, ap, refl, sym, subst, ◌∙◌, arith, rules, length-take-le, take-take}
+use Rattle.std.proofs.KnownBytes.{Keeps-refl}
+use Rattle.razor_base.specs.Output.{AppendsFront}
+use Rattle.trace_run.specs.Answers.{answers_text}
+use Rattle.trace_run.specs.Trace.{trace_within}
+use Rattle.trace_run.specs.declared.error.TraceError.TheVariants as errors
 use Rattle.std.specs.Io.KnownBytes.{Consumes, prepend_known}
 use Rattle.trace_run.proofs.PutLines.{handed_on}
 use Rattle.trace_run.proofs.Standing.{near-kept, near-piece, so_far-next}
+use Rattle.trace_run.proofs.Flushing.{unflushed}
+use Rattle.trace_run.proofs.Pacing.{grown, paced, paced-kept, paced-more, so_far-flushed}
 use Rattle.trace_run.proofs.Ending.{so_far-few, ends_fault, ends_whole, ends_at_last, ends_in_piece, ends_long, consumes-first}
 use Rattle.trace_run.proofs.running.put_answers.Goals as goal
 
@@ -87,9 +94,11 @@ pieces-preserved g c =
     let long = length-take-le taken buffer (omega (arith, c.min-taken.ensures, c.in-Ok.ensures.within)) in
     let consumed = subst (λ n. Consumes middle left (take n buffer)) same c.in-Ok.ensures.bytes.0 in
     let ensured = c.in_ok-take_piece.ensures in
+    let taken_so = so_far-next c.take_piece.new.self left (take taken buffer) (c.pieces.room - taken) c.pieces.invariant.stands consumed (omega (arith, long, c.min-taken.ensures))
+    ensured.puts ensured.moved ensured.rest ensured.unfinished in
     record {
-      stands = so_far-next c.take_piece.new.self left (take taken buffer) (c.pieces.room - taken) c.pieces.invariant.stands consumed (omega (arith, long, c.min-taken.ensures))
-          ensured.puts ensured.moved ensured.rest ensured.unfinished;
+      stands = so_far-flushed c.flush.new.sink c.flush.new.self c.in_ok-flush.ensures.none taken_so c.in_ok-flush.ensures.whole.ok c.in_ok-flush.ensures.whole.calm;
+      none = c.in_ok-flush.ensures.none;
       others = search rules;
       counts = search rules;
       none_failed = search rules;
@@ -117,3 +126,59 @@ pub returns-then-count-taken-clause-near : goal.returns-then-count-taken-clause-
 returns-then-count-taken-clause-near g c =
     near-piece (g.D.Desk.remaining c.read.new.self c.args.name.now) (take c.in-Ok.count c.read.new.piece) 65536 c.pieces.invariant.stands c.in-Ok.ensures.bytes.0
     (search rules)
+
+pub returns-in_default-clause-paced : goal.returns-in_default-clause-paced
+returns-in_default-clause-paced g c =
+    paced-kept (g.D.Desk.remaining c.read.new.self c.args.name.now) c.requires.none c.pieces.invariant.none c.pieces.invariant.stands c.in_default.ensures.bytes
+
+pub returns-in_err-take_kept-clause-paced : goal.returns-in_err-take_kept-clause-paced
+returns-in_err-take_kept-clause-paced g c =
+    let more = grown _ c.in_err-take_kept.ensures.puts in
+    paced c.take_kept.new.out (g.D.Desk.remaining c.read.new.self c.args.name.now) (take c.in-Ok.count c.read.new.piece) more.0 c.requires.none c.pieces.invariant.none c.pieces.invariant.stands c.in-Ok.ensures.bytes.0 (search rules) more.1
+
+pub returns-then-count-eq0-clause-paced : goal.returns-then-count-eq0-clause-paced
+returns-then-count-eq0-clause-paced g c =
+    let more = grown _ c.in_ok-take_kept.ensures.puts in
+    paced c.take_kept.new.out (g.D.Desk.remaining c.read.new.self c.args.name.now) (take c.in-Ok.count c.read.new.piece) more.0 c.requires.none c.pieces.invariant.none c.pieces.invariant.stands c.in-Ok.ensures.bytes.0 (search rules) more.1
+
+pub returns-in_err-take_piece-clause-paced : goal.returns-in_err-take_piece-clause-paced
+returns-in_err-take_piece-clause-paced g c =
+    let more = grown _ c.in_err-take_piece.ensures.puts in
+    paced c.take_piece.new.out (g.D.Desk.remaining c.read.new.self c.args.name.now) (take c.in-Ok.count c.read.new.piece) more.0 c.requires.none c.pieces.invariant.none c.pieces.invariant.stands c.in-Ok.ensures.bytes.0 (search rules) more.1
+
+pub returns-then-count-taken-clause-paced : goal.returns-then-count-taken-clause-paced
+returns-then-count-taken-clause-paced g c =
+    let more = grown _ c.in_ok-take_piece.ensures.puts in
+    paced c.take_piece.new.out (g.D.Desk.remaining c.read.new.self c.args.name.now) (take c.in-Ok.count c.read.new.piece) more.0 c.requires.none c.pieces.invariant.none c.pieces.invariant.stands c.in-Ok.ensures.bytes.0 (search rules) more.1
+
+pub returns-in_err-flush-clause-near : goal.returns-in_err-flush-clause-near
+returns-in_err-flush-clause-near g c =
+    near-piece (g.D.Desk.remaining c.read.new.self c.args.name.now) (take c.in-Ok.count c.read.new.piece) 65536 c.pieces.invariant.stands c.in-Ok.ensures.bytes.0
+    (search rules)
+
+pub returns-in_err-flush-clause-paced : goal.returns-in_err-flush-clause-paced
+returns-in_err-flush-clause-paced g c =
+    let more = grown _ c.in_ok-take_piece.ensures.puts in
+    let before_it = paced c.take_piece.new.out (g.D.Desk.remaining c.read.new.self c.args.name.now) (take c.in-Ok.count c.read.new.piece) more.0 c.requires.none c.pieces.invariant.none c.pieces.invariant.stands c.in-Ok.ensures.bytes.0 (search rules) more.1 in
+    let front = c.in_err-flush.ensures.whole.err in
+    paced-more g.K.Sink.written c.args.out.now c.take_piece.new.out c.flush.new.sink front.1.0 before_it front.1.1
+
+pub returns-in_err-flush-clause-outcome : goal.returns-in_err-flush-clause-outcome
+returns-in_err-flush-clause-outcome g c =
+    let before = g.D.Desk.remaining c.args.desk.now c.args.name.now in
+    let middle = g.D.Desk.remaining c.pieces.desk c.args.name.now in
+    let left = g.D.Desk.remaining c.read.new.self c.args.name.now in
+    let buffer = c.read.new.piece in
+    let names = c.args.names.now in
+    let slots = g.V.Device.held c.args.device.now in
+    let taken = c.min-taken.result in
+    let same : c.in-Ok.count ≡ taken = omega (arith, c.min-taken.ensures, c.if-count-taken.false) in
+    let long = length-take-le taken buffer (omega (arith, c.min-taken.ensures, c.in-Ok.ensures.within)) in
+    let consumed = subst (λ n. Consumes middle left (take n buffer)) same c.in-Ok.ensures.bytes.0 in
+    let ensured = c.in_ok-take_piece.ensures in
+    let taken_so = so_far-next c.take_piece.new.self left (take taken buffer) (c.pieces.room - taken) c.pieces.invariant.stands consumed (omega (arith, long, c.min-taken.ensures))
+    ensured.puts ensured.moved ensured.rest ensured.unfinished in
+    rw (handed_on errors.WriteFault c.from_residual-in_err-flush.result c.from_residual-in_err-flush.ensures.1)
+    (subst (λ t. IfSome before (λ all. AppendsFront (g.K.Sink.written c.args.out.now) (g.K.Sink.written c.flush.new.sink) (t ++ answers_text names slots (trace_within 67108864 all).headers))) (sym c.requires.none)
+    (unflushed g.K.Sink.written c.args.out.now c.take_piece.new.out c.flush.new.sink c.args.pending.now c.take_piece.new.pending names slots 67108864 before left (Err errors.ReadFault) c.requires.none refl
+    c.in_err-flush.ensures.whole.err (ends_fault left taken_so (Keeps-refl left))))

@@ -2,7 +2,8 @@ use Rattle.std.proofs.Common.{sym}
 use Rattle.trace_run.specs.Answers.{answers_text}
 use Rattle.trace_run.specs.declared.error.TraceError.TheVariants as errors
 use Rattle.trace_run.proofs.PutLines.{handed_on}
-use Rattle.trace_run.proofs.Flushing.{flushed, unflushed}
+use Rattle.trace_run.proofs.Flushing.{flushed, lost, unflushed}
+use Rattle.trace_run.proofs.Pacing.{paced-more}
 use Rattle.trace_run.proofs.running.run.Goals as goal
 
 pub returns-in_err-flush-clause-outcome : goal.returns-in_err-flush-clause-outcome
@@ -23,3 +24,17 @@ returns-clause-outcome g c =
     let left = g.D.Desk.remaining c.put_answers-ended.new.desk c.args.name.now in
     flushed g.K.Sink.written c.args.out.now c.put_answers-ended.new.out c.flush.new.sink c.new-pending.result c.put_answers-ended.new.pending (answers_text names slots) 67108864 before left c.put_answers-ended.result
     c.new-pending.ensures (sym c.if-is_lost.ensures) c.in_ok-flush.ensures.whole.ok c.put_answers-ended.ensures.outcome
+
+pub returns-then-is_lost-clause-outcome : goal.returns-then-is_lost-clause-outcome
+returns-then-is_lost-clause-outcome g c =
+    lost g.K.Sink.written c.args.out.now c.put_answers-ended.new.out c.new-pending.result c.put_answers-ended.new.pending (answers_text c.args.names.now (g.V.Device.held c.args.device.now)) 67108864
+    (g.D.Desk.remaining c.args.desk.now c.args.name.now) (g.D.Desk.remaining c.put_answers-ended.new.desk c.args.name.now) c.put_answers-ended.result c.new-pending.ensures (sym c.if-is_lost.ensures) c.put_answers-ended.ensures.outcome
+
+pub returns-in_err-flush-clause-paced : goal.returns-in_err-flush-clause-paced
+returns-in_err-flush-clause-paced g c =
+    let front = c.in_err-flush.ensures.whole.err in
+    paced-more g.K.Sink.written c.args.out.now c.put_answers-ended.new.out c.flush.new.sink front.1.0 c.put_answers-ended.ensures.paced front.1.1
+
+pub returns-clause-paced : goal.returns-clause-paced
+returns-clause-paced g c =
+    paced-more g.K.Sink.written c.args.out.now c.put_answers-ended.new.out c.flush.new.sink c.put_answers-ended.new.pending c.put_answers-ended.ensures.paced c.in_ok-flush.ensures.whole.ok
