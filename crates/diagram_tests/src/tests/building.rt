@@ -39,65 +39,123 @@ fn expect(rt: &impl Abort, store: &Store, root: NodeId, answers: &[(u32, u32)]) 
     Ok(())
 }
 
+/// Boxes under and over one another.
+fn expect_boxes<R: Abort + AllocGlobal>(rt: &R, store: &mut Store) -> Result<(), Fail> {
+    let alloc = rt.alloc();
+    let none = build(alloc, store, &stated_order(), &[])?;
+    expect(rt, store, none, &[(0, 0), (6, 0), (255, 0)])?;
+    let six = under(alloc, store, none, &protocols(6, 6), 1)?;
+    let both = under(alloc, store, six, &protocols(0, 255), 2)?;
+    expect(rt, store, both, &[(0, 2), (5, 2), (6, 1), (7, 2), (255, 2)])?;
+    let two = over(alloc, store, &protocols(6, 6), 2, both)?;
+    expect(rt, store, two, &[(0, 2), (5, 2), (6, 2), (7, 2), (255, 2)])?;
+    let hidden = over(alloc, store, &protocols(6, 17), 0, both)?;
+    expect(rt, store, hidden, &[(5, 2), (6, 0), (17, 0), (18, 2)])
+}
+
 #[test]
 fn boxes_go_under_and_over(rt: HostRuntime) -> Result<(), Fail> {
     let mut store = Store::new(rt.alloc());
-    let none = build(rt.alloc(), &mut store, &stated_order(), &[])?;
-    expect(&rt, &store, none, &[(0, 0), (6, 0), (255, 0)])?;
-    let six = under(rt.alloc(), &mut store, none, &protocols(6, 6), 1)?;
-    let both = under(rt.alloc(), &mut store, six, &protocols(0, 255), 2)?;
-    expect(
-        &rt,
-        &store,
-        both,
-        &[(0, 2), (5, 2), (6, 1), (7, 2), (255, 2)],
-    )?;
-    let two = over(rt.alloc(), &mut store, &protocols(6, 6), 2, both)?;
-    expect(
-        &rt,
-        &store,
-        two,
-        &[(0, 2), (5, 2), (6, 2), (7, 2), (255, 2)],
-    )?;
-    let hidden = over(rt.alloc(), &mut store, &protocols(6, 17), 0, both)?;
-    expect(&rt, &store, hidden, &[(5, 2), (6, 0), (17, 0), (18, 2)])
+    expect_boxes(&rt, &mut store)
 }
 
-/// A diagram of two answers costs two, and agrees with itself.
-#[test]
-fn two_answers(rt: HostRuntime) -> Result<(), Fail> {
-    let alloc = rt.alloc();
-    let mut store = Store::new(alloc);
-    let none = build(alloc, &mut store, &stated_order(), &[])?;
-    let six = under(alloc, &mut store, none, &protocols(6, 6), 1)?;
-    let both = under(alloc, &mut store, six, &protocols(0, 255), 2)?;
-    assert_eq!(rt; cost(alloc, &store, none)?, 1);
-    assert_eq!(rt; cost(alloc, &store, both)?, 2);
-    for (decision, agree) in [(1, true), (2, false)] {
-        let asked = agrees_where(alloc, &store, &protocols(0, 255), both, 1, both, decision)?;
-        assert_eq!(rt; asked, agree);
-    }
+/// What the diagram costs.
+fn expect_cost<R: Abort + AllocGlobal>(
+    rt: &R,
+    store: &Store,
+    root: NodeId,
+    least: u128,
+) -> Result<(), Fail>
+    requires { level_of store.now root.0 ≡ stated }
+{
+    assert!(rt; cost(rt.alloc(), store, root)? == least);
     Ok(())
 }
 
+/// Whether the diagram decides as asked wherever it answers 1 itself.
+fn expect_agreement<R: Abort + AllocGlobal>(
+    rt: &R,
+    store: &Store,
+    root: NodeId,
+    decision: u32,
+    agree: bool,
+) -> Result<(), Fail>
+    requires { level_of store.now root.0 ≡ stated }
+{
+    let asked = agrees_where(
+        rt.alloc(),
+        store,
+        &protocols(0, 255),
+        root,
+        1,
+        root,
+        decision,
+    )?;
+    assert!(rt; asked == agree);
+    Ok(())
+}
+
+/// A diagram of two answers costs two, and agrees with itself.
+fn expect_two_answers<R: Abort + AllocGlobal>(rt: &R, store: &mut Store) -> Result<(), Fail> {
+    let alloc = rt.alloc();
+    let none = build(alloc, store, &stated_order(), &[])?;
+    let six = under(alloc, store, none, &protocols(6, 6), 1)?;
+    let both = under(alloc, store, six, &protocols(0, 255), 2)?;
+    expect_cost(rt, store, none, 1)?;
+    expect_cost(rt, store, both, 2)?;
+    expect_agreement(rt, store, both, 1, true)?;
+    expect_agreement(rt, store, both, 2, false)
+}
+
 #[test]
-fn a_rule_goes_under_a_diagram(rt: HostRuntime) -> Result<(), Fail> {
-    let web = Rule {
+fn two_answers(rt: HostRuntime) -> Result<(), Fail> {
+    let mut store = Store::new(rt.alloc());
+    expect_two_answers(&rt, &mut store)
+}
+
+/// Web traffic, by two ports.
+fn web() -> Result<Rule, Fail> {
+    let two = [Span { lo: 80, hi: 80 }, Span { lo: 443, hi: 443 }];
+    Ok(Rule {
         source: ADDRESSES,
         destination: ADDRESSES,
         ports: [
             Ports::of(&[PORTS]).ok_or("no ports")?,
-            Ports::of(&[Span { lo: 80, hi: 80 }, Span { lo: 443, hi: 443 }]).ok_or("no ports")?,
+            Ports::of(&two).ok_or("no ports")?,
         ],
         protocol: Span { lo: 6, hi: 6 },
         decision: 1,
-    };
-    let mut store = Store::new(rt.alloc());
-    let none = build(rt.alloc(), &mut store, &stated_order(), &[])?;
-    let root = under_rule(rt.alloc(), &mut store, none, &web)?;
-    for (port, protocol, answer) in [(443, 6, 1), (80, 6, 1), (81, 6, 0), (443, 17, 0)] {
-        let header = Header::new([1, 2, 3, port, protocol]).ok_or("no header")?;
-        assert_eq!(rt; store.answer(root, &header), answer, "at {port} {protocol}");
-    }
+    })
+}
+
+/// What the diagram answers at a port and a protocol.
+fn expect_at(
+    rt: &impl Abort,
+    store: &Store,
+    root: NodeId,
+    port: u32,
+    protocol: u32,
+    answer: u32,
+) -> Result<(), Fail>
+    requires { level_of store.now root.0 ≡ stated }
+{
+    let header = Header::new([1, 2, 3, port, protocol]).ok_or("no header")?;
+    assert_eq!(rt; store.answer(root, &header), answer, "at {port} {protocol}");
     Ok(())
+}
+
+/// The rule under a diagram that answers nothing.
+fn expect_web<R: Abort + AllocGlobal>(rt: &R, store: &mut Store) -> Result<(), Fail> {
+    let none = build(rt.alloc(), store, &stated_order(), &[])?;
+    let root = under_rule(rt.alloc(), store, none, &web()?)?;
+    expect_at(rt, store, root, 443, 6, 1)?;
+    expect_at(rt, store, root, 80, 6, 1)?;
+    expect_at(rt, store, root, 81, 6, 0)?;
+    expect_at(rt, store, root, 443, 17, 0)
+}
+
+#[test]
+fn a_rule_goes_under_a_diagram(rt: HostRuntime) -> Result<(), Fail> {
+    let mut store = Store::new(rt.alloc());
+    expect_web(&rt, &mut store)
 }

@@ -3,23 +3,44 @@ ghost use Rattle.std.specs.Prelude.{◌≤◌, All, IfOk, length};
 ghost use Rattle.field_boxes.specs.NamedRules.{IsNumberedBy};
 
 use field_boxes::{Decisions, Rule};
+use filter_reader::RuleList;
 use list_generator::generate;
 use razor_base::{MemSink, Memory};
 use rule_compilation::{Compiler, compile};
 use std::alloc::Global;
 use std::process::Abort;
 use std::test::Fail;
-use table_compose::ComposeError;
 use ternary_words::{Table, write_table};
 
 /// As many rules as a list has before it is edited.
 const RULES: u32 = 24;
 
 /// The text of the table.
-fn text(alloc: Global, table: Result<Table, ComposeError>) -> Result<MemSink, Fail> {
+fn text(alloc: Global, table: &Table) -> Result<MemSink, Fail> {
     let mut sink = MemSink::new(alloc, 100_000)?;
-    write_table(&table?, &mut sink)?;
+    write_table(table, &mut sink)?;
     Ok(sink)
+}
+
+/// The text of the list's table, compiled anew.
+fn anew(alloc: Global, rules: &[Rule], names: &Decisions) -> Result<MemSink, Fail>
+    requires { All (IsNumberedBy names.now) rules.now }
+{
+    let table = compile(alloc, rules, names, 262_144, 144)?;
+    text(alloc, &table)
+}
+
+/// The text of the list's table, over what the compiler kept.
+fn kept(
+    alloc: Global,
+    compiler: &mut Compiler,
+    rules: &[Rule],
+    names: &Decisions,
+) -> Result<MemSink, Fail>
+    requires { All (IsNumberedBy names.now) rules.now }
+{
+    let table = compiler.compile(rules, names, 262_144, 144)?;
+    text(alloc, &table)
 }
 
 /// The table of the list has the same text over what the compiler kept as anew.
@@ -31,8 +52,8 @@ fn compare<R: Abort + AllocGlobal>(
 ) -> Result<(), Fail>
     requires { All (IsNumberedBy names.now) rules.now }
 {
-    let anew = text(rt.alloc(), compile(rt.alloc(), rules, names, 262_144, 144))?;
-    let kept = text(rt.alloc(), compiler.compile(rules, names, 262_144, 144))?;
+    let anew = anew(rt.alloc(), rules, names)?;
+    let kept = kept(rt.alloc(), compiler, rules, names)?;
     assert!(rt; anew.bytes() == kept.bytes());
     Ok(())
 }
@@ -55,23 +76,45 @@ fn edited(
     Ok(edited)
 }
 
+/// The same of the list that is edited at the place.
+fn compare_edited<R: Abort + AllocGlobal>(
+    rt: &R,
+    compiler: &mut Compiler,
+    list: &RuleList,
+    place: usize,
+) -> Result<(), Fail>
+    requires place { 1 ≤ place }
+    requires within { place ≤ length list.now.rules.items }
+{
+    let rules = edited(rt.alloc(), &list.rules, &list.names, place)?;
+    compare(rt, compiler, &rules, &list.names)
+}
+
 /// The whole list and, for each place of it, the list that is edited there.
-fn compare_all<R: Abort + AllocGlobal>(rt: &R, seed: u32) -> Result<(), Fail> {
+fn compare_all<R: Abort + AllocGlobal>(
+    rt: &R,
+    compiler: &mut Compiler,
+    list: &RuleList,
+) -> Result<(), Fail> {
+    compare(rt, compiler, &list.rules, &list.names)?;
+    for place in 1..list.rules.len() {
+        compare_edited(rt, compiler, list, place)?;
+    }
+    Ok(())
+}
+
+/// The same of a random list.
+fn compare_drawn<R: Abort + AllocGlobal>(rt: &R, seed: u32) -> Result<(), Fail> {
     assert!(rt; seed < 1 << 31);
     let list = generate(rt.alloc(), seed, RULES)?;
     let mut compiler = Compiler::new(rt.alloc());
-    compare(rt, &mut compiler, &list.rules, &list.names)?;
-    for place in 1..list.rules.len() {
-        let rules = edited(rt.alloc(), &list.rules, &list.names, place)?;
-        compare(rt, &mut compiler, &rules, &list.names)?;
-    }
-    Ok(())
+    compare_all(rt, &mut compiler, &list)
 }
 
 #[test]
 fn what_is_kept_changes_no_table(rt: HostRuntime) -> Result<(), Fail> {
     for seed in 1..3 {
-        compare_all(&rt, seed)?;
+        compare_drawn(&rt, seed)?;
     }
     Ok(())
 }

@@ -1,27 +1,52 @@
 //! Equal nodes have one number.
 use super::nodes::{expect_level, protocols};
-use node_store::{Edge, Store};
+use node_store::{Edge, NodeId, Store};
+use std::process::Abort;
 use std::test::Fail;
+
+/// Two leaves; one that is asked for again has the same number.
+fn leaves(rt: &impl Abort, store: &mut Store) -> Result<[NodeId; 2], Fail> {
+    let low = store.leaf(0)?;
+    let high = store.leaf(1)?;
+    assert_eq!(rt; store.leaf(0)?, low);
+    assert_eq!(rt; store.count(), 2);
+    Ok([low, high])
+}
+
+/// A node whose first two edges are one; one that is made twice has one number.
+fn joined_node(
+    rt: &impl Abort,
+    store: &mut Store,
+    [low, high]: [NodeId; 2],
+) -> Result<NodeId, Fail> {
+    let first = protocols(rt, store, [5, 6], [low, high, low])?;
+    assert_eq!(rt; protocols(rt, store, [5, 6], [low, high, low])?, first);
+    let second = protocols(rt, store, [5, 9], [low, low, high])?;
+    assert_eq!(rt; store.count(), 4);
+    Ok(second)
+}
+
+/// What the store has of that node.
+fn expect_joined(rt: &impl Abort, store: &Store, [low, high]: [NodeId; 2], node: NodeId) {
+    expect_level(rt, store, node, &[4]);
+    let merged = [Edge { hi: 9, to: low }, Edge { hi: 255, to: high }];
+    assert_eq!(rt; store.edges(node), merged.as_slice());
+    assert_eq!(rt; store.decision(node), None);
+}
+
+/// What the store has of the leaf of the decision 0.
+fn expect_leaf(rt: &impl Abort, store: &Store, leaf: NodeId) {
+    expect_level(rt, store, leaf, &[]);
+    assert_eq!(rt; store.edges(leaf).len(), 0);
+    assert_eq!(rt; store.decision(leaf), Some(0));
+}
 
 #[test]
 fn leaves_and_nodes_have_one_number(rt: HostRuntime) -> Result<(), Fail> {
     let mut store = Store::new(rt.alloc());
-    let a = store.leaf(0)?;
-    let b = store.leaf(1)?;
-    assert_eq!(rt; store.leaf(0)?, a);
-    assert_eq!(rt; store.count(), 2);
-
-    let first = protocols(&rt, &mut store, [5, 6], [a, b, a])?;
-    assert_eq!(rt; protocols(&rt, &mut store, [5, 6], [a, b, a])?, first);
-    let second = protocols(&rt, &mut store, [5, 9], [a, a, b])?;
-    assert_eq!(rt; store.count(), 4);
-
-    expect_level(&rt, &store, second, &[4]);
-    let merged = [Edge { hi: 9, to: a }, Edge { hi: 255, to: b }];
-    assert_eq!(rt; store.edges(second), merged.as_slice());
-    expect_level(&rt, &store, a, &[]);
-    assert_eq!(rt; store.edges(a).len(), 0);
-    assert_eq!(rt; store.decision(a), Some(0));
-    assert_eq!(rt; store.decision(second), None);
+    let leaves = leaves(&rt, &mut store)?;
+    let node = joined_node(&rt, &mut store, leaves)?;
+    expect_joined(&rt, &store, leaves, node);
+    expect_leaf(&rt, &store, leaves[0]);
     Ok(())
 }
