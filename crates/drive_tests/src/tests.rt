@@ -9,6 +9,7 @@ mod edits;
 mod expected;
 mod lists;
 mod merging;
+mod patching;
 mod plain_list;
 mod random;
 mod reading;

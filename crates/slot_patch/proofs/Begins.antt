@@ -1,6 +1,5 @@
 -- What begins, or why nothing does.
-use Rattle.std.proofs.Common.{◌≡◌, ◌≤◌, ◌<◌, ◌+◌, ◌*◌, ◌∙◌, ℕ, List, Option, None, option_map, length, map, ap, arith}
-use Rattle.ternary_words.specs.Limits.{AreNumbered}
+use Rattle.std.proofs.Common.{◌≡◌, ◌∙◌, ℕ, List, Option, None, option_map, length, map, ap, arith}
 use Rattle.ternary_words.specs.Views.{entry_of}
 use Rattle.ternary_words.specs.declared.entry.Entry.{Entry}
 use Rattle.ternary_words.specs.declared.table.Table.{Table}

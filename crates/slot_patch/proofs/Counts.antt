@@ -1,5 +1,5 @@
 -- How many places are below a number, when one of them is lowered or one more is laid.
-use Rattle.std.proofs.Common.{◌≡◌, ◌⊎◌, ◌≢◌, ◌≤◌, ◌<◌, ◌∷◌, ◌++◌, ℕ, zero, suc, nat_lt, Bool, true, false, if◌then◌else◌, List, [], length, set, inl, inr, refl, ap, sym, ◌∙◌, subst, arith, get_or}
+use Rattle.std.proofs.Common.{◌≡◌, ◌⊎◌, ◌≢◌, ◌≤◌, ◌<◌, ◌∷◌, ◌++◌, ℕ, zero, suc, Bool, if◌then◌else◌, List, [], length, set, inl, inr, refl, ap, arith, get_or}
 use Rattle.std.proofs.lemmas.Bool.{cases_lt, lt-ltb, le-ltb}
 use Rattle.slot_patch.specs.Piles.{AreLowered, IsTaken, below, laid}
 

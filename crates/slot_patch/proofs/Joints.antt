@@ -1,8 +1,7 @@
 -- Two writes to one slot, one right behind the other, as one.
-use Rattle.std.proofs.Common.{◌≡◌, ◌⊎◌, ◌≤◌, ◌<◌, ◌+◌, ◌∷◌, ◌++◌, ℕ, zero, suc, List, [], Option, Some, None, option_map, length, set, slice_get, inl, inr, refl, ap, sym, ◌∙◌, subst, arith, append_assoc, length-append}
+use Rattle.std.proofs.Common.{◌≡◌, ◌⊎◌, ◌≤◌, ◌<◌, ◌∷◌, ◌++◌, ℕ, zero, suc, List, [], Option, Some, option_map, length, set, slice_get, inl, inr, refl, ap, sym, ◌∙◌, subst, arith, append_assoc, length-append}
 use Rattle.std.proofs.lemmas.Bool.{cases_lt}
 use Rattle.std.proofs.lemmas.List.{set-set}
-use Rattle.std.proofs.lemmas.Option.{none-some}
 use Rattle.tcam_sim.specs.Slots.{stored}
 use Rattle.std.specs.Global.{Vec}
 use Rattle.ternary_words.specs.declared.entry.Entry.{Entry}
@@ -10,7 +9,7 @@ use Rattle.slot_patch.specs.Banks.{Bank, bank_of, decided}
 use Rattle.slot_patch.specs.Moving.{entries_in}
 use Rattle.slot_patch.specs.Planning.{IsPlan}
 use Rattle.slot_patch.specs.declared.plan.Plan.{Plan}
-use Rattle.slot_patch.specs.Phases.{Clearing, IsNoLater, mixed}
+use Rattle.slot_patch.specs.Phases.{Clearing, IsNoLater}
 use Rattle.slot_patch.specs.Plans.{IsPatch, SayWhatStood, after, written}
 use Rattle.slot_patch.specs.declared.plan.Write.{Write}
 

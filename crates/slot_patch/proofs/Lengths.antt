@@ -1,5 +1,5 @@
 -- How many writes a plan has at most.
-use Rattle.std.proofs.Common.{◌≡◌, ◌⊎◌, ◌≤◌, ◌<◌, ◌+◌, ◌-◌, ◌*◌, ◌∷◌, ◌++◌, ℕ, zero, suc, nat_lt, Bool, true, false, if◌then◌else◌, List, [], Option, Some, None, length, slice_get, slice_index, inl, inr, refl, ap, sym, ◌∙◌, arith, length-append, lt-ltb, le-ltb}
+use Rattle.std.proofs.Common.{◌≡◌, ◌⊎◌, ◌≤◌, ◌<◌, ◌+◌, ◌-◌, ◌*◌, ◌∷◌, ◌++◌, ℕ, zero, suc, Bool, true, false, if◌then◌else◌, List, [], Option, Some, None, length, slice_get, slice_index, inl, inr, ap, sym, ◌∙◌, arith, length-append, lt-ltb, le-ltb}
 use Rattle.std.proofs.lemmas.Bool.{cases_lt}
 use Rattle.ternary_words.specs.declared.entry.Entry.{Entry}
 use Rattle.slot_patch.specs.InPlace.{differing, in_place, is_same}

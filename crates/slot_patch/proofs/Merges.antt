@@ -1,7 +1,7 @@
 -- Layouts that grow by one slot.
 use Rattle.std.proofs.Common.{◌≡◌, ◌≤◌, ◌<◌, ◌+◌, ◌∷◌, ◌++◌, ℕ, zero, suc, List, [], Option, Some, None, option_map, length, take, drop, slice_get, get_or, refl, ap, sym, ◌∙◌, subst, arith, append-nil, drop-cons}
 use Rattle.std.specs.Option.{option_to_list}
-use Rattle.std.proofs.lemmas.Option.{none-some, slice_get_read, slice_get_within, get_or_from_slice_get}
+use Rattle.std.proofs.lemmas.Option.{none-some, slice_get_within}
 use Rattle.ternary_words.specs.Views.{word_of}
 use Rattle.ternary_words.specs.declared.entry.Entry.{Entry}
 use Rattle.tcam_sim.specs.Slots.{stored}

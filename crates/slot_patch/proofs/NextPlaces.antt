@@ -1,10 +1,10 @@
 -- The first place of each word, when one place more is known.
-use Rattle.std.proofs.Common.{◌≡◌, ◌≢◌, ◌≤◌, ◌<◌, ℕ, suc, cond, nat_eq, ◌&&◌, Bool, true, false, List, Option, Some, None, length, set, slice_get, inl, inr, ap, sym, ◌∙◌, refl, subst, arith, length-set, get_or-set_same, get_or-set_other, eq-eqb}
+use Rattle.std.proofs.Common.{◌≡◌, ◌<◌, ℕ, suc, cond, nat_eq, ◌&&◌, Bool, true, false, List, Option, Some, None, length, set, slice_get, inl, inr, ap, sym, ◌∙◌, refl, subst, arith, length-set, get_or-set_same, get_or-set_other, eq-eqb}
 use Rattle.std.specs.Prelude.{slice_index_or}
 use Rattle.std.specs.HashMap.{get}
 use Rattle.std.proofs.lemmas.Bool.{cases_eq, eqb-true, true≢false, and_parts}
 use Rattle.ternary_words.specs.declared.entry.Entry.{Entry}
-use Rattle.slot_patch.specs.Finding.{ArePlaces, HasWord, IsFirstFrom, IsNext, NoneHas, same_key}
+use Rattle.slot_patch.specs.Finding.{ArePlaces, HasWord, IsNext, NoneHas, same_key}
 use Rattle.slot_patch.specs.declared.key.Key.{Key}
 use Rattle.slot_patch.specs.declared.word_places.WordPlaces.{WordPlaces}
 

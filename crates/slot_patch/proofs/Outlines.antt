@@ -1,5 +1,5 @@
 -- Plans that are made of a layout.
-use Rattle.std.proofs.Common.{◌≡◌, ◌≤◌, ◌<◌, ◌+◌, ◌*◌, ◌∷◌, ◌++◌, ℕ, suc, List, [], Option, Some, None, length, refl, ap, sym, ◌∙◌, subst, arith}
+use Rattle.std.proofs.Common.{◌≡◌, ◌≤◌, ◌+◌, ◌*◌, ◌∷◌, ◌++◌, ℕ, suc, List, [], Option, Some, None, length, refl, ap, sym, ◌∙◌, subst, arith}
 use Rattle.ternary_words.specs.declared.entry.Entry.{Entry}
 use Rattle.slot_patch.specs.Banks.{bank_of}
 use Rattle.slot_patch.specs.InPlace.{in_place}

@@ -1,5 +1,5 @@
 -- Numbers of decisions in a list of names that grows.
-use Rattle.std.proofs.Common.{◌≡◌, ◌⊎◌, ◌≤◌, ◌<◌, ◌+◌, ◌-◌, ◌∷◌, ◌++◌, ◌&&◌, nat_eq, ℕ, zero, suc, min, Bool, true, false, ◌==◌, if◌then◌else◌, List, [], Option, Some, None, option_map, length, map, slice_get, slice_index, inl, inr, refl, ap, sym, ◌∙◌, subst, arith, replicate, append-nil, length-append, append_assoc}
+use Rattle.std.proofs.Common.{◌≡◌, ◌≤◌, ◌<◌, ◌-◌, ◌∷◌, ◌++◌, ◌&&◌, nat_eq, ℕ, zero, suc, min, Bool, true, false, ◌==◌, if◌then◌else◌, List, [], Option, Some, None, option_map, length, map, slice_get, slice_index, inl, inr, refl, ap, sym, ◌∙◌, subst, arith, replicate, append-nil, length-append, append_assoc}
 use Rattle.std.specs.Prelude.{IfSome}
 use Rattle.std.proofs.lemmas.Bool.{cases_eq}
 use Rattle.std.proofs.lemmas.Option.{slice_get-map}

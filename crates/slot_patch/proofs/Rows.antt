@@ -1,16 +1,15 @@
 -- Row by row: how few slots a layout can have at least.
-use Rattle.std.proofs.Common.{◌≡◌, ◌⊎◌, ◌≢◌, ◌≤◌, ◌<◌, ◌+◌, ◌-◌, ◌∷◌, ℕ, zero, suc, min, Bool, true, false, if◌then◌else◌, List, [], Option, Some, None, length, drop, slice_get, get_or, inl, inr, refl, ap, sym, ◌∙◌, subst, arith, drop-cons}
+use Rattle.std.proofs.Common.{◌≡◌, ◌≤◌, ◌<◌, ◌+◌, ◌-◌, ◌∷◌, ℕ, zero, suc, min, Bool, true, false, if◌then◌else◌, List, [], Option, Some, None, length, drop, slice_get, get_or, inl, inr, refl, ap, sym, ◌∙◌, subst, arith, drop-cons}
 use Rattle.std.specs.Prelude.{slice_index_or, nat_eq, ◌&&◌}
-use Rattle.std.proofs.lemmas.Bool.{cases_eq, cases_lt, cases_Bool, and_parts, eqb-true, eq-eqb}
+use Rattle.std.proofs.lemmas.Bool.{cases_eq, cases_lt, and_parts, eqb-true, eq-eqb}
 use Rattle.std.proofs.lemmas.Option.{get_or_from_slice_get, slice_get_within}
 use Rattle.ternary_words.specs.declared.entry.Entry.{Entry}
 use Rattle.slot_patch.specs.Finding.{ArePlaces, HasWord, IsNext}
-use Rattle.slot_patch.specs.Least.{least_slots, same_word, slots_with}
+use Rattle.slot_patch.specs.Least.{least_slots, same_word}
 use Rattle.slot_patch.specs.Piles.{AreBounded, AreLaid, AreLowered, AreTaken, IsTaken, below}
 use Rattle.slot_patch.specs.Sharing.{HaveOneWordAt}
 use Rattle.slot_patch.specs.declared.piles.Piles.{Piles}
 use Rattle.slot_patch.specs.declared.word_places.WordPlaces.{WordPlaces}
-use Rattle.slot_patch.proofs.Chains.{limit-less}
 use Rattle.slot_patch.proofs.Counts.{below-more, lowered-on, taken-on}
 
 -- the first slot is taken in one of three ways

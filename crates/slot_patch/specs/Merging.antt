@@ -1,5 +1,5 @@
 -- A layout of the first entries of two tables.
-use Rattle.std.specs.Prelude.{◌≡◌, ℕ, ◌+◌, List, length, take, Option}
+use Rattle.std.specs.Prelude.{◌≡◌, ℕ, ◌+◌, List, length, take}
 use Rattle.ternary_words.specs.declared.entry.Entry.{Entry}
 use Rattle.slot_patch.specs.Banks.{ShareWords, bank_of}
 use Rattle.slot_patch.specs.Moving.{entries_in}

@@ -1,5 +1,5 @@
 -- What a plan for a new table is.
-use Rattle.std.specs.Prelude.{◌≡◌, ℕ, ◌+◌, ◌*◌, ◌≤◌, ◌<◌, List, length, Option}
+use Rattle.std.specs.Prelude.{◌≡◌, ◌+◌, ◌*◌, ◌≤◌, ◌<◌, List, length, Option}
 use Rattle.ternary_words.specs.declared.entry.Entry.{Entry}
 use Rattle.slot_patch.specs.Banks.{bank_of}
 use Rattle.slot_patch.specs.Least.{least_slots, same_word}
@@ -16,8 +16,10 @@ pub record IsPlan (held : List (Option Entry)) (table : List Entry) (p : Plan) :
   pub slots : length p.table.items ≡ length held
   pub few : length p.writes.items ≤ 3 * length (entries_in held) + length table
 
--- a plan, and at most as many writes as both tables have entries where there are so many slots; or more slots are needed
+-- a plan, with at most as many writes as both tables have entries where there are so many slots, and slots enough for both; or more
+-- slots are needed
 abbrev pub IsPlanned : List (Option Entry) → List Entry → Planned → Type 0
 IsPlanned held table (Ready p) = IsPlan held table p
     × (length (entries_in held) + length table ≤ length held → length p.writes.items ≤ length (entries_in held) + length table)
+    × (least_slots same_word (entries_in held) table ≤ length held)
 IsPlanned held table (NoRoom needed) = (needed ≡ least_slots same_word (entries_in held) table) × (length held < needed)

@@ -1,5 +1,5 @@
 -- Which entries of two tables share a slot.
-use Rattle.std.specs.Prelude.{◌≡◌, ℕ, suc, ◌≤◌, true, List, [], ◌∷◌, length, Option, Some, slice_get}
+use Rattle.std.specs.Prelude.{◌≡◌, ℕ, suc, ◌≤◌, true, List, [], ◌∷◌, length, Some, slice_get}
 use Rattle.ternary_words.specs.declared.entry.Entry.{Entry}
 use Rattle.slot_patch.specs.Least.{same_word}
 use Rattle.slot_patch.specs.declared.pair.Pair.{Pair}

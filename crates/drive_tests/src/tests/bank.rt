@@ -65,7 +65,7 @@ fn table_at(expected: &Expected, slot: u32) -> usize {
 }
 
 /// The header of a protocol whose other values are 0.
-fn header(rt: &impl Abort, protocol: u32) -> Header {
+pub(super) fn header(rt: &impl Abort, protocol: u32) -> Header {
     assert!(rt; protocol < 256);
     Header {
         values: [0, 0, 0, 0, protocol],

@@ -31,7 +31,7 @@ fn add<R: Abort + AllocGlobal>(
 }
 
 /// Three random tables, and one of no entries.
-fn tables<R: Abort + AllocGlobal>(rt: &R, draw: &mut Draw) -> Result<Vec<Table>, Fail> {
+pub(super) fn tables<R: Abort + AllocGlobal>(rt: &R, draw: &mut Draw) -> Result<Vec<Table>, Fail> {
     let alloc = rt.alloc();
     let mut tables = Vec::new(alloc);
     add(rt, draw, &mut tables, two_names(alloc, "a", "b")?)?;

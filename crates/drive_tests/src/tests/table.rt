@@ -19,7 +19,7 @@ const HIGH: Prefix = Prefix {
 };
 
 /// The entry of protocol 6.
-fn tcp(decision: u32) -> Entry {
+pub(super) fn tcp(decision: u32) -> Entry {
     Entry {
         word: Word::of(&[OPEN, OPEN, OPEN, OPEN, Prefix { value: 6, len: 8 }]),
         decision,
@@ -27,7 +27,7 @@ fn tcp(decision: u32) -> Entry {
 }
 
 /// The entry of protocol 17.
-fn udp(decision: u32) -> Entry {
+pub(super) fn udp(decision: u32) -> Entry {
     Entry {
         word: Word::of(&[OPEN, OPEN, OPEN, OPEN, Prefix { value: 17, len: 8 }]),
         decision,
@@ -35,7 +35,7 @@ fn udp(decision: u32) -> Entry {
 }
 
 /// The entry of every header.
-fn all_stars(decision: u32) -> Entry {
+pub(super) fn all_stars(decision: u32) -> Entry {
     Entry {
         word: Word::of(&[OPEN, OPEN, OPEN, OPEN, OPEN]),
         decision,

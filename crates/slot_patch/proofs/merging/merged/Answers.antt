@@ -1,8 +1,8 @@
-use Rattle.std.proofs.Common.{◌≡◌, ◌+◌, ◌≤◌, ◌<◌, ℕ, suc, length, drop, get_or, refl, sym, ◌∙◌, subst, arith, add-one, Fits}
+use Rattle.std.proofs.Common.{◌+◌, ℕ, suc, drop, get_or, sym, subst, arith, add-one}
 use Rattle.slot_patch.specs.Merging.{IsMerged}
 use Rattle.slot_patch.specs.Sharing.{AreShared}
 use Rattle.slot_patch.specs.declared.pair.Pair.{Pair}
-use Rattle.slot_patch.proofs.Merges.{merged-all, next-shared, pair-inside, shared-end}
+use Rattle.slot_patch.proofs.Merges.{merged-all, next-shared, pair-inside}
 use Rattle.slot_patch.proofs.merging.merged.Goals as goal
 
 pub loop-pair-preserved : goal.loop-pair-preserved

@@ -1,4 +1,4 @@
-use Rattle.std.proofs.Common.{◌≡◌, ℕ, suc, length, refl, sym, subst, arith, add-one}
+use Rattle.std.proofs.Common.{◌≡◌, ℕ, length, refl, sym, subst, arith, add-one}
 use Rattle.std.proofs.lemmas.Option.{slice_get_read}
 use Rattle.slot_patch.specs.Merging.{IsMerged}
 use Rattle.slot_patch.proofs.Merges.{merged-new}

@@ -1,4 +1,4 @@
-use Rattle.std.proofs.Common.{◌<◌, length, refl, arith}
+use Rattle.std.proofs.Common.{length, refl, arith}
 use Rattle.std.proofs.lemmas.Option.{slice_get_read}
 use Rattle.slot_patch.proofs.Merges.{merged-both, pair-inside}
 use Rattle.slot_patch.proofs.merging.put_pair.Goals as goal

@@ -1,4 +1,4 @@
-use Rattle.std.proofs.Common.{◌≡◌, ◌≤◌, ◌+◌, List, length, ap, subst, arith}
+use Rattle.std.proofs.Common.{◌≤◌, ◌+◌, List, length, ap, subst, arith}
 use Rattle.ternary_words.specs.declared.entry.Entry.{Entry}
 use Rattle.slot_patch.specs.Layouts.{IsLayout}
 use Rattle.slot_patch.specs.Least.{least_slots, same_word}

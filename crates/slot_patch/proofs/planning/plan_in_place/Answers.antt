@@ -1,10 +1,10 @@
-use Rattle.std.proofs.Common.{◌≡◌, ◌<◌, ◌++◌, ◌∙◌, List, Option, length, ap, refl, sym, subst, arith}
+use Rattle.std.proofs.Common.{◌++◌, ◌∙◌, List, Option, length, ap, refl, sym, arith}
 use Rattle.std.specs.Global.{Vec}
 use Rattle.ternary_words.specs.declared.entry.Entry.{Entry}
 use Rattle.slot_patch.specs.InPlace.{in_place}
 use Rattle.slot_patch.specs.Layouts.{IsLayout}
 use Rattle.slot_patch.specs.Moving.{entries_in}
-use Rattle.slot_patch.specs.Ordered.{moves_of, places}
+use Rattle.slot_patch.specs.Ordered.{moves_of}
 use Rattle.slot_patch.proofs.Outlines.{length-places, plan-of}
 use Rattle.slot_patch.proofs.planning.plan_in_place.Goals as goal
 use Rattle.slot_patch.proofs.planning.plan_in_place.Goals.{In_ok-layout}

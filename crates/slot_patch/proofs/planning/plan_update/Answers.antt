@@ -1,4 +1,4 @@
-use Rattle.std.proofs.Common.{◌≡◌, ◌≤◌, ◌∙◌, length, arith}
+use Rattle.std.proofs.Common.{◌∙◌, arith}
 use Rattle.slot_patch.proofs.planning.plan_update.Goals as goal
 
 pub plan_in_place-requires : goal.plan_in_place-requires

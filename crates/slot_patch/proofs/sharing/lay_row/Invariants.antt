@@ -1,4 +1,4 @@
-use Rattle.std.proofs.Common.{◌≡◌, ◌-◌, ℕ, suc, Option, Some, None, length, slice_get}
+use Rattle.std.proofs.Common.{◌≡◌, Some, length, slice_get}
 use Rattle.ternary_words.specs.declared.entry.Entry.{Entry}
 use Rattle.slot_patch.proofs.Rows.{AreRowTaken, places_left}
 use Rattle.slot_patch.proofs.sharing.lay_row.Given as goal

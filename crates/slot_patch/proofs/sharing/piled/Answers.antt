@@ -1,5 +1,4 @@
-use Rattle.std.proofs.Common.{◌≡◌, ◌-◌, ◌+◌, ℕ, suc, List, length, drop, refl, sym, subst, arith}
-use Rattle.ternary_words.specs.declared.entry.Entry.{Entry}
+use Rattle.std.proofs.Common.{◌≡◌, ◌-◌, ◌+◌, ℕ, suc, length, drop, subst, arith}
 use Rattle.slot_patch.specs.Piles.{AreBounded, AreStacked}
 use Rattle.slot_patch.proofs.Rows.{rows-none, rows-on}
 use Rattle.slot_patch.proofs.sharing.piled.Goals as goal

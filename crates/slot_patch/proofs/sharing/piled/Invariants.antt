@@ -1,5 +1,4 @@
 use Rattle.std.proofs.Common.{◌-◌, length, drop}
-use Rattle.slot_patch.specs.Finding.{ArePlaces}
 use Rattle.slot_patch.specs.Piles.{AreBounded, AreStacked}
 use Rattle.slot_patch.proofs.sharing.piled.Given as goal
 

@@ -1,4 +1,4 @@
-use Rattle.std.proofs.Common.{◌≡◌, length, arith}
+use Rattle.std.proofs.Common.{length, arith}
 use Rattle.slot_patch.proofs.Counts.{below-all}
 use Rattle.slot_patch.proofs.Rows.{bounded-least}
 use Rattle.slot_patch.proofs.sharing.shared.Goals as goal

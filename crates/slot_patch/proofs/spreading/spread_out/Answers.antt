@@ -1,6 +1,5 @@
-use Rattle.std.proofs.Common.{◌≡◌, ◌≤◌, ◌<◌, ◌+◌, ◌-◌, ◌∙◌, ℕ, suc, List, Option, length, take, ap, refl, sym, subst, add-one, arith}
+use Rattle.std.proofs.Common.{◌≡◌, ◌<◌, ℕ, length, take, ap, refl, sym, subst, add-one, arith}
 use Rattle.std.proofs.lemmas.Option.{slice_get_read}
-use Rattle.ternary_words.specs.declared.entry.Entry.{Entry}
 use Rattle.slot_patch.specs.Merging.{IsSpread}
 use Rattle.slot_patch.specs.Moving.{entries_in}
 use Rattle.slot_patch.specs.declared.spreading.Spread.{Spread}

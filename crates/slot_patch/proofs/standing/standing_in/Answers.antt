@@ -1,4 +1,4 @@
-use Rattle.std.proofs.Common.{◌≡◌, ◌++◌, ◌∙◌, ◌+◌, ℕ, suc, List, Option, length, take, ap, refl, sym, add-one, arith}
+use Rattle.std.proofs.Common.{◌++◌, ◌∙◌, ℕ, List, length, take, ap, refl, sym, add-one, arith}
 use Rattle.std.specs.Option.{option_to_list}
 use Rattle.std.proofs.lemmas.Option.{slice_get_read}
 use Rattle.ternary_words.specs.declared.entry.Entry.{Entry}

@@ -1,9 +1,9 @@
-use Rattle.std.proofs.Common.{List, ℕ, ◌≡◌, refl, sym, ◌∙◌, ap, subst}
+use Rattle.std.proofs.Common.{◌≡◌, refl, sym, ◌∙◌, ap}
 use Rattle.std.specs.Prelude.{map}
 use Rattle.std.specs.List.{list_any}
 use Rattle.std.specs.Str.{bytes_eq}
 use Rattle.std.specs.String.{string_bytes}
-use Rattle.field_boxes.specs.Names.{with_name, name_at}
+use Rattle.field_boxes.specs.Names.{with_name}
 use Rattle.field_boxes.proofs.FirstSeen.{list_any-map, seen, number_found, number_stored, with_name-map}
 use Rattle.slot_patch.proofs.names.Names.number.Goals as goal
 use Rattle.slot_patch.proofs.names.Names.number.Goals.{In_ok-place}

@@ -2,7 +2,7 @@ use Rattle.std.proofs.Common.{◌≡◌, ◌<◌, ◌∙◌, ℕ, suc, List, len
 use Rattle.field_boxes.specs.Headline.Names.{text_of}
 use Rattle.field_boxes.specs.Names.{name_at}
 use Rattle.slot_patch.specs.Naming.{AreNumbersOf, Grow}
-use Rattle.slot_patch.proofs.Renaming.{grow-none, grow-on, grow-with, numbers-more, numbers-none}
+use Rattle.slot_patch.proofs.Renaming.{grow-on, grow-with, numbers-more}
 use Rattle.slot_patch.proofs.names.Names.numbers.Goals as goal
 
 pub loop-number-preserved : goal.loop-number-preserved

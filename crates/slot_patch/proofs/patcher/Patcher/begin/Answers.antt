@@ -1,4 +1,4 @@
-use Rattle.std.proofs.Common.{◌≡◌, ◌∙◌, ℕ, List, Option, None, length, subst, arith}
+use Rattle.std.proofs.Common.{◌≡◌, List, Option, None, subst, arith}
 use Rattle.ternary_words.specs.declared.entry.Entry.{Entry}
 use Rattle.slot_patch.specs.Banks.{table_in}
 use Rattle.slot_patch.specs.Naming.{HasBegun, LacksRoom}

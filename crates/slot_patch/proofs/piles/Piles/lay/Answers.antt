@@ -1,7 +1,5 @@
 use Rattle.std.proofs.Common.{◌≡◌, ◌≤◌, ◌<◌, ◌∙◌, ◌∷◌, ◌++◌, ℕ, List, [], Option, length, slice_index, ap, sym, subst, arith, suc}
-use Rattle.std.proofs.Common.{get_or}
-use Rattle.slot_patch.specs.Piles.{AreLowered, IsTaken, laid, top_before}
-use Rattle.slot_patch.specs.declared.pair.Link.{Link}
+use Rattle.slot_patch.specs.Piles.{AreLowered, IsTaken, laid}
 use Rattle.slot_patch.specs.declared.piles.Piles.{Piles}
 use Rattle.slot_patch.proofs.Chains.{laid-step}
 use Rattle.slot_patch.proofs.Counts.{IsNoLess, laid-lowered, laid-taken}

@@ -1,4 +1,4 @@
-use Rattle.std.proofs.Common.{◌≡◌, ◌+◌, length, ap, refl, arith, None}
+use Rattle.std.proofs.Common.{length, ap, refl, arith, None}
 use Rattle.slot_patch.specs.declared.spreading.Spread.{Spread}
 use Rattle.slot_patch.proofs.Builders.{length-more}
 use Rattle.slot_patch.proofs.Merges.{spread-empty}

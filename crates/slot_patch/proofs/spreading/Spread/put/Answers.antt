@@ -1,4 +1,4 @@
-use Rattle.std.proofs.Common.{◌≡◌, ◌++◌, ◌∙◌, ℕ, List, length, ap, sym}
+use Rattle.std.proofs.Common.{◌++◌, ◌∙◌, ap, sym}
 use Rattle.slot_patch.specs.Ordered.{placed}
 use Rattle.slot_patch.specs.declared.spreading.Spread.{Spread}
 use Rattle.slot_patch.proofs.Merges.{spread-more}

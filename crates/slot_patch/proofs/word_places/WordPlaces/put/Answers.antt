@@ -1,6 +1,4 @@
-use Rattle.std.proofs.Common.{◌≡◌, ◌∙◌, refl, ap, sym}
-use Rattle.std.specs.HashMap.{get}
-use Rattle.slot_patch.specs.Finding.{same_key}
+use Rattle.std.proofs.Common.{◌∙◌, refl, ap, sym}
 use Rattle.slot_patch.specs.declared.key.Key.{Key}
 use Rattle.ternary_words.specs.declared.word.Word.{Word}
 use Rattle.slot_patch.specs.declared.word_places.WordPlaces.{WordPlaces}

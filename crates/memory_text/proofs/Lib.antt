@@ -1,0 +1,13 @@
+pub mod Resumed
+pub mod HeadingTexts
+pub mod LineTexts
+pub mod Texts
+pub mod Afterwards
+pub mod Extending
+pub mod Holding
+pub mod Numbering
+pub mod SlotLines
+pub mod Evenly
+pub mod Planned
+pub mod Leasts
+pub mod Leading

@@ -1,0 +1,33 @@
+-- What memories and plans keep.
+use Rattle.std.specs.Prelude.{◌≡◌, ℕ, ◌≤◌, ◌<◌, List, length, Option, Some, None, All, IsTrue}
+use Rattle.field_boxes.specs.Names.{name_at}
+use Rattle.ternary_words.specs.declared.entry.Entry.{Entry}
+use Rattle.slot_patch.specs.declared.plan.Put.{Put}
+use Rattle.table_text.specs.Names.{is_name}
+
+-- each name can be spelled
+abbrev pub AreSpelled : List (List ℕ) → Type 0
+AreSpelled names = All (λ name. IsTrue (is_name name)) names
+
+-- the later list has the names of the earlier one under their numbers, and where these can be spelled, all can
+pub record Extends (before now : List (List ℕ)) : Type 0 where
+  pub kept : (k : ℕ) → k ≤ length before → name_at now k ≡ name_at before k
+  pub more : length before ≤ length now
+  pub spelled : AreSpelled before → AreSpelled now
+
+-- the number of the decision in a slot, 0 in an empty one
+abbrev pub number_in : Option Entry → ℕ
+number_in None = 0
+number_in (Some e) = e.decision
+
+-- each decision in the slots is 0 or the number of a name
+abbrev pub AreNumbered : ℕ → List (Option Entry) → Type 0
+AreNumbered count slots = All (λ slot. number_in slot ≤ count) slots
+
+-- each decision of the writes is 0 or the number of a name
+abbrev pub AreNumberedPuts : ℕ → List Put → Type 0
+AreNumberedPuts count puts = All (λ p. number_in p.entry ≤ count) puts
+
+-- each write is to one of so many slots
+abbrev pub AreWithin : ℕ → List Put → Type 0
+AreWithin slots puts = All (λ p. p.slot < slots) puts

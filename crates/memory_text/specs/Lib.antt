@@ -1,0 +1,11 @@
+pub mod Memory
+pub mod MemoryText
+pub mod Heading
+pub mod Lines
+pub mod Reading
+pub mod Refused
+pub mod Views
+pub mod Kept
+pub mod Spreading
+pub mod Patching
+pub mod Patched
