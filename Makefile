@@ -37,6 +37,7 @@ try: ## try the program PROGRAM on random inputs
 	tools/try-audits $(PROGRAM)
 	tools/try-sessions $(PROGRAM)
 	tools/try-shorten $(PROGRAM)
+	tools/try-patches $(PROGRAM)
 	tools/try-orders $(PROGRAM)
 	tools/try-report $(PROGRAM)
 

@@ -4,17 +4,30 @@ import re
 
 from fuzzing.commands import COMMANDS, FILES, MAKERS, parted
 
+OF_ENTRIES = "first line|field form|value outside mask|decision|count of entries differs, stated [0-9]+ found [0-9]+"
+
 REASONS = {
     "list": (
         "no @|address|length|port form|port order|port range|protocol form|protocol mask|flags form|decision form|reserved word|extra column"
         "|one rule too many|byte not ASCII|too many ranges"
     ),
-    "table": "first line|word length|trit|padding|decision|count of entries differs, stated [0-9]+ found [0-9]+|not a prefix word|field form|value outside mask",
+    "table": f"{OF_ENTRIES}|word length|trit|padding|not a prefix word|slot width",
     "trace": "too few columns|not a number|value too large",
     "script": "unknown command|arguments",
     "session": "unknown command|arguments|rule",
+    "memory": f"{OF_ENTRIES}|slot",
+    "plan": "first line|field form|value outside mask|decision|slot|unknown write|count of writes differs, stated [0-9]+ found [0-9]+|slot width|slots",
 }
-LIMITS = {"list": 16_777_216, "table": 134_217_728, "trace": 67_108_864, "certificate": 268_435_456, "script": 1_048_576, "session": 1_048_576}
+LIMITS = {
+    "list": 16_777_216,
+    "table": 134_217_728,
+    "trace": 67_108_864,
+    "certificate": 268_435_456,
+    "script": 1_048_576,
+    "session": 1_048_576,
+    "memory": 134_217_728,
+    "plan": 134_217_728,
+}
 
 NUMBER = "(0|[1-9][0-9]*)"
 NAME = r"(miss|#[1-9][0-9]*|[A-Za-z0-9_.-]{1,32})"
@@ -25,6 +38,8 @@ WRONG = (
 )
 ENTRY = f"[0-9A-F]{{8}}/[0-9A-F]{{8}} [0-9A-F]{{8}}/[0-9A-F]{{8}} [0-9A-F]{{4}}/[0-9A-F]{{4}} [0-9A-F]{{4}}/[0-9A-F]{{4}} [0-9A-F]{{2}}/[0-9A-F]{{2}} {NAME}\n"
 TABLE = f"table 2 slot (104|144|288) composed {NUMBER} entries {NUMBER}\n({ENTRY})*"
+MEMORY = f"memory 1 slots {NUMBER} width (104|144|288) entries {NUMBER}\n({NUMBER} {ENTRY})*"
+PLAN = f"plan 1 slots {NUMBER} width (104|144|288) writes {NUMBER}\n(set {NUMBER} {ENTRY}|clear {NUMBER}\n)*"
 SPAN = f"{NUMBER}-{NUMBER}"
 STATE_LINE = f"rule {NUMBER} ((live|droppable)( {NUMBER}){{5}}|never)\n"
 SCRIPT_LINE = f"(begun {NUMBER}|busy|no room {NUMBER} {NUMBER} {NUMBER}|stage {NUMBER} of {NUMBER}( back)?|idle|device fault|{NAME})\n"
@@ -38,6 +53,10 @@ OUTPUTS = {
     "merge": TABLE,
     "trim": TABLE,
     "shorten": TABLE,
+    "place": MEMORY,
+    "patch": PLAN,
+    "apply": MEMORY,
+    "dump": TABLE,
     "audit": f"({STATE_LINE})*",
     "query": f"({SPAN} {SPAN} {SPAN} {SPAN} {SPAN}\n)*boxes {NUMBER}\n",
     "equiv": "equal\n",
@@ -135,6 +154,8 @@ def is_counted(name, lines):
             return all(line.split()[1] == str(number) for number, line in enumerate(lines, 1))
         case "query":
             return lines[-1] == f"boxes {len(lines) - 1}"
+        case "place" | "patch" | "apply" | "dump":
+            return lines[0].endswith(f" {len(lines) - 1}")
     return True
 
 

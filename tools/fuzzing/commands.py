@@ -4,7 +4,7 @@ import re
 
 from calling.options import VALUES as OPTIONS
 
-FILES = ("list", "table", "trace", "certificate", "script", "session")
+FILES = ("list", "table", "trace", "certificate", "script", "session", "memory", "plan")
 NUMBERS = {"seed": range(0, 2**31), "count": range(0, 65_537)}
 SPANS = {"source": 2**32 - 1, "destination": 2**32 - 1, "source port": 65_535, "destination port": 65_535, "protocol": 255}
 
@@ -46,10 +46,17 @@ COMMANDS = {
     "session": Command(("session", "list"), options=("--slots", "--limit", "--slot"), needed=("--slots",)),
     "trim": Command(("table",)),
     "shorten": Command(("list",), options=("--order", "--limit", "--slot"), counts_entries=True),
+    "place": Command(("table",), options=("--slots",), needed=("--slots",), counts_entries=True),
+    "patch": Command(("memory", "table"), counts_entries=True),
+    "apply": Command(("memory", "plan")),
+    "dump": Command(("memory",)),
 }
 
 # The commands that make a table of a list.
 MAKERS = ("expand", "compile", "arrange", "shorten")
+
+# The commands that may refuse texts that are right by themselves.
+PARTICULAR = ("cert", "check", "trim", "patch", "apply")
 
 
 def built_commands(usage):

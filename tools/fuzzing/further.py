@@ -5,6 +5,7 @@ import re
 
 from fuzzing import texts
 from fuzzing.commands import MAKERS
+from fuzzing.slots import Slots
 
 # Where what the run wrote stands, and what further runs write.
 MADE, FURTHER = "table of it", "further"
@@ -36,7 +37,7 @@ class Further:
         if name == "cert" and run.status == 0:
             os.rename("out", "certificate of it")
             return "" if self.run("check", "--", *files, "certificate of it")[0] == 0 else "check refuses it"
-        return ""
+        return Slots(self.run, self.read, self.rng).faults(run)
 
     def of_table(self, run):
         status, out, _ = self.run("migrate", MADE)

@@ -1,11 +1,13 @@
 """Draws texts of each kind, and spoils them. Used by tools/fuzz."""
 
 FIELD_BITS = (32, 32, 16, 16, 8)
+WIDTHS = (104, 144, 288)
 DECISIONS = ("accept", "deny", "log", "a-b.c_9", "X" * 32)
 TOKENS = (
     b"0", b"255", b"256", b"65535", b"65536", b"4294967295", b"4294967296", b"18446744073709551616", b"262144", b"262145", b"@", b"/", b":",
     b",", b"-", b"#", b"#1", b"#65537", b"*", b"miss", b"0x", b"0xFF", b"0XfF/0x00", b"\r", b"\n", b"\t", b" ", b"\x00", b"\x80", b"rows 0",
     b"table 1 slot 104 composed 0 entries 0", b"table 2 slot 288 composed 0 entries 1", b"begin 1", b"look", b"33", b"00", b"1e3", b"+1",
+    b"memory 1 slots 2 width 144 entries 0", b"plan 1 slots 2 width 144 writes 1", b"set 1 ", b"clear 2\n", b"clear 30 ",
 )
 
 
@@ -90,20 +92,70 @@ def trits(value, mask_bits, bits):
     return "".join("*" if not mask_bits >> place & 1 else str(value >> place & 1) for place in reversed(range(bits)))
 
 
+def columns(values, masks):
+    """A word as the compact text has it."""
+    return " ".join(f"{value:0{bits // 4}X}/{each:0{bits // 4}X}" for value, each, bits in zip(values, masks, FIELD_BITS))
+
+
+def drawn_word(random):
+    """The values and the masks of a word."""
+    masks = [mask(random, bits) for bits in FIELD_BITS]
+    return [value & each for value, each in zip(header(random), masks)], masks
+
+
+def entry(random):
+    """An entry as the compact text has it."""
+    return f"{columns(*drawn_word(random))} {decision(random)}"
+
+
+def lines_text(first, rest):
+    return "".join(f"{line}\n" for line in (first, *rest)).encode()
+
+
 def table(random):
     """A table in either version of its text."""
-    version, slot = random.choice((1, 2)), random.choice((104, 144, 288))
+    version, slot = random.choice((1, 2)), random.choice(WIDTHS)
     count = random.randrange(random.choice((2, 6, 20)))
-    lines = [f"table {version} slot {slot} composed {random.choice((count, 0, 262_144))} entries {count}"]
-    for _ in range(count):
-        masks = [mask(random, bits) for bits in FIELD_BITS]
-        values = [value & each for value, each in zip(header(random), masks)]
-        if version == 1:
-            word = "".join(map(trits, values, masks, FIELD_BITS)) + "*" * (slot - 104)
-        else:
-            word = " ".join(f"{value:0{bits // 4}X}/{each:0{bits // 4}X}" for value, each, bits in zip(values, masks, FIELD_BITS))
-        lines.append(f"{word} {decision(random)}")
-    return "".join(line + "\n" for line in lines).encode()
+    first = f"table {version} slot {slot} composed {random.choice((count, 0, 262_144))} entries {count}"
+    if version == 2:
+        return lines_text(first, (entry(random) for _ in range(count)))
+    words = ("".join(map(trits, *drawn_word(random), FIELD_BITS)) + "*" * (slot - 104) for _ in range(count))
+    return lines_text(first, (f"{word} {decision(random)}" for word in words))
+
+
+def memory(random):
+    """A memory of few slots, or of many that are empty."""
+    slots = random.choice((1, 2, 5, 12, 30, 262_144))
+    taken = sorted(random.sample(range(1, slots + 1), random.randint(0, min(slots, 12))))
+    first = f"memory 1 slots {slots} width {random.choice(WIDTHS)} entries {len(taken)}"
+    return lines_text(first, (f"{slot} {entry(random)}" for slot in taken))
+
+
+def write(random, slots):
+    slot = random.randint(1, slots)
+    return f"set {slot} {entry(random)}" if random.random() < 0.6 else f"clear {slot}"
+
+
+def plan(random, slots=None, width=None):
+    """A plan of any writes, for a memory of so many slots of this width."""
+    slots, width = slots or random.choice((1, 5, 30)), width or random.choice(WIDTHS)
+    count = random.randrange(random.choice((1, 4, 12)))
+    return lines_text(f"plan 1 slots {slots} width {width} writes {count}", (write(random, slots) for _ in range(count)))
+
+
+def size_of(memory):
+    """How many slots a memory's text says, and how wide they are."""
+    words = memory.split(None, 6)
+    return int(words[3]), int(words[5])
+
+
+def near_table(random, memory):
+    """A table for the slots of a memory that has some of its entries, with others among them."""
+    entries = [line.partition(" ")[2] for line in memory.decode().splitlines()[1:] if random.random() < 0.8]
+    for _ in range(random.randrange(4)):
+        place = random.randint(0, len(entries))
+        entries.insert(place, random.choice(entries) if entries and random.random() < 0.3 else entry(random))
+    return lines_text(f"table 2 slot {size_of(memory)[1]} composed {len(entries)} entries {len(entries)}", entries)
 
 
 def asked(random, greatest):
@@ -122,7 +174,16 @@ def certificate(random):
     return f"0-4294967295 0-4294967295 0-65535 0-65535 0-255 {claims}\nrows 1\n".encode()
 
 
-DRAW = {"list": rule_list, "table": table, "trace": trace, "script": script, "session": session, "certificate": certificate}
+DRAW = {
+    "list": rule_list,
+    "table": table,
+    "trace": trace,
+    "script": script,
+    "session": session,
+    "certificate": certificate,
+    "memory": memory,
+    "plan": plan,
+}
 
 
 def spoiled(random, text):

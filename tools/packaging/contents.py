@@ -11,7 +11,7 @@ from specifications import usage
 from specifications.antt import Specifications
 
 # The tools that need nothing but Python, with the files that they are made of.
-TOOLS = ("show", "flows", "calling/script.py", "packets/headers.py", "packets/lists.py", "packets/tables.py", "packets/texts.py")
+TOOLS = ("show", "flows", "calling/script.py", "packets/headers.py", "packets/lists.py", "packets/memories.py", "packets/tables.py", "packets/texts.py")
 
 DOCUMENTS = (".md", ".svg", ".png")
 

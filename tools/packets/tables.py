@@ -10,7 +10,7 @@ FIRST = re.compile(r"table 2 slot (\d+) composed (\d+) entries (\d+)\n")
 # A decision word, that of a rule without one, or that nothing is decided.
 NAME = r"(?:miss|#[1-9]\d{0,4}|[A-Za-z0-9_.-]{1,32})"
 
-ENTRY = re.compile(rf"{' '.join(rf'([0-9A-F]{{{width // 4}}})/([0-9A-F]{{{width // 4}}})' for width in WIDTHS)} ({NAME})\n")
+ENTRY = re.compile(rf"{' '.join(rf'([0-9A-Fa-f]{{{width // 4}}})/([0-9A-Fa-f]{{{width // 4}}})' for width in WIDTHS)} ({NAME})\n")
 
 COLUMNS = ("source", "destination", "source port", "destination port", "protocol", "decision")
 

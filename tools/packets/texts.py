@@ -26,7 +26,6 @@ PLAIN = re.compile(
     r"|busy|idle|device fault|list full|step|abort|stage|commit"
     r"|stage \d+ of \d+( back)?"
     r"|\d+ entries needed, limit \d+"
-    r"|(memory|plan) 1 slots \d+ width \d+ (entries|writes) \d+"
     rf"|{NAME}"
 )
 

@@ -188,9 +188,9 @@ class Change:
 
     @functools.cached_property
     def plan(self):
-        """The plan of writes from the old table to the new one in place; none where the program knows no such plans, or has no table."""
+        """The plan of writes from the old table to the new one in place; none where there is no table, or no plan in time."""
         both = [version.sizes["shorten"] for version in (self.old, self.new)]
-        if not all(size.is_made for size in both) or "\n  patch " not in self.razor.run().err:
+        if not all(size.is_made for size in both):
             return None
         slots = self.slots or max(size.count for size in both) * 6 // 5 + 1
         placed = self.old.run("place", "--slots", str(slots), self.old.table)

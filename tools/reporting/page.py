@@ -236,7 +236,7 @@ def bar(width):
 
 
 def plan(change):
-    """The writes that lead from the old table to the new one; nothing where the program plans none."""
+    """The writes that lead from the old table to the new one; nothing where there is no plan."""
     if change.plan is None:
         return None
     before, after = (version.sizes["shorten"].count for version in (change.old, change.new))
@@ -276,6 +276,7 @@ def bottom(change):
         ("boxes", f"razor query {new} SOURCE DESTINATION SOURCE-PORTS DESTINATION-PORTS PROTOCOL DECISION"),
         ("states of rules", f"razor audit {new}"),
         ("table", f"razor shorten {new} > TABLE"),
+        ("writes", f"razor place --slots {change.plan.slots if change.plan else 'N'} OLD-TABLE > MEMORY; razor patch MEMORY TABLE"),
         ("certificate", f"razor cert {new} TABLE | razor check {new} TABLE -"),
     )
     return element(

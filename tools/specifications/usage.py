@@ -9,7 +9,7 @@ NAME = "usage_text"
 OPTION = re.compile(r"(\[)?(--\w+) (\w+)\]?")
 
 # How the usage text calls words that are files.
-FILES = {"LIST", "TABLE", "TRACE", "CERT", "SCRIPT", "A", "B"}
+FILES = {"LIST", "TABLE", "TRACE", "CERT", "SCRIPT", "MEMORY", "PLAN", "A", "B"}
 
 
 @dataclasses.dataclass(frozen=True)

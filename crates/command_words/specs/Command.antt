@@ -34,3 +34,7 @@ pub data Command : Type 0 where
   Query : List ℕ → List Interval → Option (List ℕ) → Command
   Session : ℕ → Sizes → List ℕ → List ℕ → Command
   Trim : List ℕ → Command
+  Place : ℕ → List ℕ → Command
+  Patch : List ℕ → List ℕ → Command
+  Apply : List ℕ → List ℕ → Command
+  Dump : List ℕ → Command

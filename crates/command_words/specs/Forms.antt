@@ -1,7 +1,7 @@
 -- How the commands are spelled: their names, their options, and what their other words are called.
 use Rattle.std.specs.Prelude.{ℕ, List, [], ◌∷◌, codes}
 use Rattle.command_words.specs.declared.form.CommandName.{CommandName}
-use Rattle.command_words.specs.declared.form.CommandName.TheVariants.{Expand, Compile, Equiv, Cert, Check, Trace, Drive, Gen, Selfrun, Migrate, Arrange, Merge, Audit, Query, Session, Trim, Shorten}
+use Rattle.command_words.specs.declared.form.CommandName.TheVariants.{Expand, Compile, Equiv, Cert, Check, Trace, Drive, Gen, Selfrun, Migrate, Arrange, Merge, Audit, Query, Session, Trim, Shorten, Place, Patch, Apply, Dump}
 use Rattle.command_words.specs.declared.form.Need.{Need}
 use Rattle.command_words.specs.declared.form.Need.TheVariants.{Never, Maybe, Always}
 
@@ -27,9 +27,9 @@ ordered_form command name = record { command = command; name = name; limit = May
 abbrev pub plain_form : CommandName → List ℕ → List ℕ → Form
 plain_form command name label = record { command = command; name = name; limit = Never; slot = Never; slots = Never; order = Never; label = label }
 
--- the form of a command that runs a script over tables in a memory of some slots
-abbrev pub script_form : CommandName → List ℕ → Form
-script_form command name = record { command = command; name = name; limit = Never; slot = Never; slots = Always; order = Never; label = codes "SCRIPT TABLE .." }
+-- the form of a command that works with tables in a memory of some slots
+abbrev pub slots_form : CommandName → List ℕ → List ℕ → Form
+slots_form command name label = record { command = command; name = name; limit = Never; slot = Never; slots = Always; order = Never; label = label }
 
 -- the form of a command that runs a session over a list and a memory of some slots
 abbrev pub session_form : CommandName → List ℕ → Form
@@ -44,7 +44,7 @@ forms =
     ∷ plain_form Cert (codes "cert") (codes "LIST TABLE")
     ∷ plain_form Check (codes "check") (codes "LIST TABLE CERT")
     ∷ plain_form Trace (codes "trace") (codes "TABLE TRACE")
-    ∷ script_form Drive (codes "drive")
+    ∷ slots_form Drive (codes "drive") (codes "SCRIPT TABLE ..")
     ∷ plain_form Gen (codes "gen") (codes "SEED N")
     ∷ plain_form Selfrun (codes "selfrun") (codes "SEED N")
     ∷ plain_form Migrate (codes "migrate") (codes "TABLE")
@@ -55,4 +55,8 @@ forms =
     ∷ session_form Session (codes "session")
     ∷ plain_form Trim (codes "trim") (codes "TABLE")
     ∷ ordered_form Shorten (codes "shorten")
+    ∷ slots_form Place (codes "place") (codes "TABLE")
+    ∷ plain_form Patch (codes "patch") (codes "MEMORY TABLE")
+    ∷ plain_form Apply (codes "apply") (codes "MEMORY PLAN")
+    ∷ plain_form Dump (codes "dump") (codes "MEMORY")
     ∷ []

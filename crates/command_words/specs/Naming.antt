@@ -6,7 +6,7 @@ use Rattle.razor_base.specs.declared.limits.TheConstants.{MOST_RULES}
 use Rattle.field_boxes.specs.Headline.Classifier.{Interval}
 use Rattle.command_words.specs.declared.form.CommandName.{CommandName}
 use Rattle.command_words.specs.declared.form.CommandName.TheVariants as names
-use Rattle.command_words.specs.Command.{Command, Sizes, Expand, Compile, Arrange, Shorten, Make, Equiv, Cert, Check, Trace, Drive, Gen, Selfrun, Migrate, Merge, Audit, Query, Session, Trim}
+use Rattle.command_words.specs.Command.{Command, Sizes, Expand, Compile, Arrange, Shorten, Make, Equiv, Cert, Check, Trace, Drive, Gen, Selfrun, Migrate, Merge, Audit, Query, Session, Trim, Place, Patch, Apply, Dump}
 use Rattle.command_words.specs.Questions.{decision_asked, spans_asked}
 use Rattle.command_words.specs.Orders.{Best, Wanted}
 use Rattle.command_words.specs.Numbers.{number_between}
@@ -86,3 +86,7 @@ command_named names.Query settings words = asking Query words
 command_named names.Session settings words = over_two (Session settings.slots settings.sizes) words
 command_named names.Trim settings words = over_one Trim words
 command_named names.Shorten settings words = over_one (Make (Shorten settings.order) settings.sizes) words
+command_named names.Place settings words = over_one (Place settings.slots) words
+command_named names.Patch settings words = over_two Patch words
+command_named names.Apply settings words = over_two Apply words
+command_named names.Dump settings words = over_one Dump words

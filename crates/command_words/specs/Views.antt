@@ -8,7 +8,7 @@ use Rattle.command_words.specs.declared.reading.WordKind.{WordKind}
 use Rattle.command_words.specs.declared.reading.WordKind.TheVariants as code
 use Rattle.command_words.specs.declared.settings.Settings as code_settings
 use Rattle.command_words.specs.declared.sizes.Sizes as code_sizes
-use Rattle.command_words.specs.Command.{Command, Method, Sizes, Expand, Compile, Arrange, Shorten, Make, Equiv, Cert, Check, Trace, Gen, Selfrun, Migrate, Merge, Audit, Query, Session, Trim}
+use Rattle.command_words.specs.Command.{Command, Method, Sizes, Expand, Compile, Arrange, Shorten, Make, Equiv, Cert, Check, Trace, Gen, Selfrun, Migrate, Merge, Audit, Query, Session, Trim, Place, Patch, Apply, Dump}
 use Rattle.command_words.specs.declared.command.Method as code_method
 use Rattle.command_words.specs.declared.command.Method.TheVariants as methods
 use Rattle.command_words.specs.declared.wanted.Wanted as code_wanted
@@ -80,3 +80,7 @@ spelled_over words (asked.Audit list) = Audit list.now
 spelled_over words (asked.Query question) = Query question.list.now (intervals_of question.spans) (name_in question.decision.now)
 spelled_over words (asked.Session slots sizes files) = Session slots.count (sizes_of sizes) files.first.now files.second.now
 spelled_over words (asked.Trim table) = Trim table.now
+spelled_over words (asked.Place slots table) = Place slots.count table.now
+spelled_over words (asked.Patch both) = Patch both.first.now both.second.now
+spelled_over words (asked.Apply both) = Apply both.first.now both.second.now
+spelled_over words (asked.Dump memory) = Dump memory.now

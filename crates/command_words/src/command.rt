@@ -59,4 +59,15 @@ pub enum Command<'a> {
     },
     /// Writes a table without its redundant entries.
     Trim(&'a str),
+    /// Writes a memory of so many slots in which a table stands.
+    Place {
+        slots: Slots,
+        table: &'a str,
+    },
+    /// Writes a plan that leads from a memory to a table.
+    Patch(TwoFiles<'a>),
+    /// Writes a memory after the writes of a plan.
+    Apply(TwoFiles<'a>),
+    /// Writes the table that stands in a memory.
+    Dump(&'a str),
 }

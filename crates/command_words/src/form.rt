@@ -2,7 +2,7 @@
 ghost use Rattle.std.specs.Prelude.{◌≡◌, find, map};
 ghost use Rattle.std.specs.Option.{option_copied, option_map};
 ghost use Rattle.std.specs.Str.{bytes_eq};
-ghost use Rattle.command_words.specs.Forms.{forms, ordered_form, plain_form, script_form, session_form, table_form};
+ghost use Rattle.command_words.specs.Forms.{forms, ordered_form, plain_form, session_form, slots_form, table_form};
 ghost use Rattle.command_words.specs.Views.{form_seen};
 
 /// The commands that are built.
@@ -25,6 +25,10 @@ pub(crate) enum CommandName {
     Session,
     Trim,
     Shorten,
+    Place,
+    Patch,
+    Apply,
+    Dump,
 }
 
 /// Whether a command takes an option: never, if it is there, or it has to be there.
@@ -93,9 +97,9 @@ fn plain_form(command: CommandName, name: &'static str, label: &'static str) -> 
     }
 }
 
-/// The form of a command that runs a script over tables in a memory of some slots.
-fn script_form(command: CommandName, name: &'static str) -> CommandForm
-    ensures { form_seen result ≡ script_form command name.now }
+/// The form of a command that works with tables in a memory of some slots.
+fn slots_form(command: CommandName, name: &'static str, label: &'static str) -> CommandForm
+    ensures { form_seen result ≡ slots_form command name.now label.now }
 {
     CommandForm {
         command,
@@ -104,7 +108,7 @@ fn script_form(command: CommandName, name: &'static str) -> CommandForm
         slot: Need::Never,
         slots: Need::Always,
         order: Need::Never,
-        label: "SCRIPT TABLE ..",
+        label,
     }
 }
 
@@ -125,7 +129,7 @@ fn session_form(command: CommandName, name: &'static str) -> CommandForm
 
 /// The forms of the commands that are built, in the order of the usage text.
 #[tactic(auto, unfolding(crate::specs::Forms::forms))]
-pub(crate) fn forms() -> [CommandForm; 17]
+pub(crate) fn forms() -> [CommandForm; 21]
     ensures { map form_seen result ≡ forms }
 {
     [
@@ -135,7 +139,7 @@ pub(crate) fn forms() -> [CommandForm; 17]
         plain_form(CommandName::Cert, "cert", "LIST TABLE"),
         plain_form(CommandName::Check, "check", "LIST TABLE CERT"),
         plain_form(CommandName::Trace, "trace", "TABLE TRACE"),
-        script_form(CommandName::Drive, "drive"),
+        slots_form(CommandName::Drive, "drive", "SCRIPT TABLE .."),
         plain_form(CommandName::Gen, "gen", "SEED N"),
         plain_form(CommandName::Selfrun, "selfrun", "SEED N"),
         plain_form(CommandName::Migrate, "migrate", "TABLE"),
@@ -146,6 +150,10 @@ pub(crate) fn forms() -> [CommandForm; 17]
         session_form(CommandName::Session, "session"),
         plain_form(CommandName::Trim, "trim", "TABLE"),
         ordered_form(CommandName::Shorten, "shorten"),
+        slots_form(CommandName::Place, "place", "TABLE"),
+        plain_form(CommandName::Patch, "patch", "MEMORY TABLE"),
+        plain_form(CommandName::Apply, "apply", "MEMORY PLAN"),
+        plain_form(CommandName::Dump, "dump", "MEMORY"),
     ]
 }
 

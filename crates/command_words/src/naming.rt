@@ -74,5 +74,12 @@ pub(crate) fn named<'a>(
         }),
         CommandName::Trim => Some(Command::Trim(one_file(words)?)),
         CommandName::Shorten => making(Method::Shorten(order), sizes, words),
+        CommandName::Place => Some(Command::Place {
+            slots,
+            table: one_file(words)?,
+        }),
+        CommandName::Patch => Some(Command::Patch(two_files(words)?)),
+        CommandName::Apply => Some(Command::Apply(two_files(words)?)),
+        CommandName::Dump => Some(Command::Dump(one_file(words)?)),
     }
 }

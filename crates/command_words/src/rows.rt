@@ -3,7 +3,7 @@
 
 ghost use Rattle.std.specs.Prelude.{◌≡◌, ◌∷◌, [], ◌++◌, Some, None, codes};
 ghost use Rattle.std.specs.List.{flat_map};
-ghost use Rattle.command_words.specs.Command.{Arrange, Audit, Cert, Compile, Expand, Check, Drive, Equiv, Gen, Make, Query, Selfrun, Session, Shorten, Trim};
+ghost use Rattle.command_words.specs.Command.{Apply, Arrange, Audit, Cert, Compile, Expand, Check, Drive, Dump, Equiv, Gen, Make, Patch, Place, Query, Selfrun, Session, Shorten, Trim};
 ghost use Rattle.command_words.specs.Orders.{Best, In};
 ghost use Rattle.command_words.specs.Questions.{span};
 ghost use Rattle.command_words.specs.Spelling.{command_of};
@@ -60,6 +60,20 @@ pub fn worked_short_tables()
     ensures table { command_of (codes "trim" ∷ codes "table" ∷ []) ≡ Some (Trim (codes "table")) }
     ensures two_tables { command_of (codes "trim" ∷ codes "a" ∷ codes "b" ∷ []) ≡ None }
     ensures no_option { command_of (codes "trim" ∷ codes "--slot" ∷ codes "104" ∷ codes "table" ∷ []) ≡ None }
+{}
+
+/// A table is placed in so many slots, which have to be said; a memory is patched to a table, a plan is applied to it, and it is
+/// dumped as it stands.
+pub fn worked_memories()
+    ensures placed { command_of (codes "place" ∷ codes "--slots" ∷ codes "8" ∷ codes "table" ∷ []) ≡ Some (Place 8 (codes "table")) }
+    ensures no_slots { command_of (codes "place" ∷ codes "table" ∷ []) ≡ None }
+    ensures none { command_of (codes "place" ∷ codes "--slots=0" ∷ codes "table" ∷ []) ≡ None }
+    ensures width { command_of (codes "place" ∷ codes "--slots=8" ∷ codes "--slot=144" ∷ codes "table" ∷ []) ≡ None }
+    ensures patched { command_of (codes "patch" ∷ codes "memory" ∷ codes "table" ∷ []) ≡ Some (Patch (codes "memory") (codes "table")) }
+    ensures applied { command_of (codes "apply" ∷ codes "memory" ∷ codes "plan" ∷ []) ≡ Some (Apply (codes "memory") (codes "plan")) }
+    ensures same { command_of (codes "apply" ∷ codes "memory" ∷ codes "memory" ∷ []) ≡ None }
+    ensures dumped { command_of (codes "dump" ∷ codes "memory" ∷ []) ≡ Some (Dump (codes "memory")) }
+    ensures two { command_of (codes "dump" ∷ codes "a" ∷ codes "b" ∷ []) ≡ None }
 {}
 
 /// The first `--` that is no value ends the options. Before it a word with a `-` in front is an option of the
@@ -176,5 +190,9 @@ pub fn worked_usage()
         ∷ codes "  session --slots N [--limit N] [--slot W] SCRIPT LIST"
         ∷ codes "  trim TABLE"
         ∷ codes "  shorten [--order P] [--limit N] [--slot W] LIST"
+        ∷ codes "  place --slots N TABLE"
+        ∷ codes "  patch MEMORY TABLE"
+        ∷ codes "  apply MEMORY PLAN"
+        ∷ codes "  dump MEMORY"
         ∷ []) }
 {}

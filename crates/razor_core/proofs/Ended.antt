@@ -15,7 +15,7 @@ use Rattle.razor_core.specs.Make.{IsNeeded, IsNotMade, IsOrderOf, IsRoom, IsWant
 use Rattle.razor_core.specs.Outcome.{Outcome}
 use Rattle.razor_core.specs.Gives.{Begins, Gives}
 use Rattle.razor_core.specs.Outside.{Outside, AreKept, Tells}
-use Rattle.razor_core.specs.Standing.{StandsCut, StandsShort, WritesInTurn}
+use Rattle.razor_core.specs.Standing.{IsCutOff, StandsBroken, StandsCut, StandsShort, WritesInTurn}
 use Rattle.razor_core.specs.Taking.{EndsTurn}
 use Rattle.razor_core.specs.Turns.{Stop, bad_line, too_long, too_many, turns_of}
 use Rattle.razor_core.specs.Stopping.{IsFree, MayGoOn}
@@ -125,19 +125,19 @@ begins_of : (command : Command) (values : List Value) (outcome : Outcome) → Gi
 begins_of (Session slots sizes script file) (session_value events ∷ list_value list ∷ values) outcome h = record { front = events; rest = []; parts = sym (append-nil events); edits = h }
 begins_of command values outcome h = h
 
--- a write failed
-pub cut_off_ends : (command : Command) (before after : Outside) (values : List Value) (outcome : Outcome) → Passed before (inputs command) values → IsFree command values ⊎ WritesInTurn command ⊎ MayGoOn command → Gives command values outcome →
+-- a write failed, of a command that writes when its turns have passed
+pub cut_off_ends : (command : Command) (before after : Outside) → (IsCutOff command before after → StandsBroken command before after) → (values : List Value) (outcome : Outcome) → Passed before (inputs command) values → IsFree command values ⊎ WritesInTurn command ⊎ MayGoOn command → Gives command values outcome →
     Rose before.write_faults after.write_faults → AppendsFront before.written after.written outcome.text → Ends command before after WriteFault
-cut_off_ends command before after values outcome passed free gives rose written = (
+cut_off_ends command before after broken values outcome passed free gives rose written = (
   rose,
-  (λ tells. record {
+  (λ tells. broken (record {
     values = values;
     outcome = outcome;
     turns = turns_pass before (inputs command) values passed tells;
     free = free;
     gives = begins_of command values outcome gives;
     written = written;
-  }),
+  })),
   pass_behind before after (inputs command) values passed,
 )
 

@@ -5,13 +5,13 @@ use Rattle.std.specs.Io.KnownBytes.{Keeps}
 use Rattle.trace_run.specs.Outcome.{GoesOn}
 use Rattle.trace_run.specs.Trace as traces
 use Rattle.trace_run.specs.Trace.{trace_within}
-use Rattle.command_words.specs.Command.{Command, Make, Equiv, Cert, Check, Trace, Drive, Gen, Selfrun, Migrate, Merge, Audit, Query, Session, Shorten, Trim}
+use Rattle.command_words.specs.Command.{Command, Make, Equiv, Cert, Check, Trace, Drive, Gen, Selfrun, Migrate, Merge, Audit, Query, Session, Shorten, Trim, Place, Patch, Apply, Dump}
 use Rattle.razor_base.specs.Faults.{Rose}
 use Rattle.razor_core.specs.declared.ending.Ending.{Ending}
 use Rattle.razor_core.specs.declared.ending.Ending.TheVariants.{Done, No, BadLine as Bad, TooLong, TooMany, ReadFault, WriteFault, Memory}
-use Rattle.razor_core.specs.Inputs.{BadLine, Value, list_value, table_value, lines_value, inputs, most_bytes, text_of_trace}
+use Rattle.razor_core.specs.Inputs.{BadLine, Value, list_value, table_value, memory_value, plan_value, lines_value, inputs, most_bytes, text_of_trace}
 use Rattle.razor_core.specs.Outside.{Outside, Tells}
-use Rattle.razor_core.specs.Standing.{IsCutOff, StandsCut, StandsShort, WritesInTurn, WritesNothing}
+use Rattle.razor_core.specs.Standing.{IsCutOff, StandsBroken, StandsCut, StandsShort, WritesInTurn, WritesNothing}
 use Rattle.razor_core.specs.Trace.{HasBadLine, bad_line_of, taken_of}
 use Rattle.razor_core.specs.Deciding.{AreKeptBehind}
 use Rattle.razor_core.specs.Turns.{Stop, bad_line, too_long, too_many, stop_status, turns_of}
@@ -57,6 +57,16 @@ later_alike (Selfrun seed rules) values (too_many needed limit) (too_many more m
 later_alike (Selfrun seed rules) values (too_many needed limit) b h k = absurd k
 later_alike (Trim table) (table_value entries ∷ values) (bad_line name bad) (bad_line other worse) h k = refl
 later_alike (Trim table) (table_value entries ∷ values) (bad_line name bad) b h k = absurd k
+later_alike (Place slots file) (table_value table ∷ values) (too_many needed limit) (too_many more most) h k = refl
+later_alike (Place slots file) (table_value table ∷ values) (too_many needed limit) b h k = absurd k
+later_alike (Patch memory table) (memory_value held ∷ table_value wanted ∷ values) (bad_line name bad) (bad_line other worse) h k = refl
+later_alike (Patch memory table) (memory_value held ∷ table_value wanted ∷ values) (bad_line name bad) (too_many needed limit) h k = absurd (h.1 k.0)
+later_alike (Patch memory table) (memory_value held ∷ table_value wanted ∷ values) (bad_line name bad) b h k = absurd k
+later_alike (Patch memory table) (memory_value held ∷ table_value wanted ∷ values) (too_many needed limit) (too_many more most) h k = refl
+later_alike (Patch memory table) (memory_value held ∷ table_value wanted ∷ values) (too_many needed limit) (bad_line name bad) h k = absurd (k.1 h.0)
+later_alike (Patch memory table) (memory_value held ∷ table_value wanted ∷ values) (too_many needed limit) b h k = absurd k
+later_alike (Apply memory plan) (memory_value held ∷ plan_value planned ∷ values) (bad_line name bad) (bad_line other worse) h k = refl
+later_alike (Apply memory plan) (memory_value held ∷ plan_value planned ∷ values) (bad_line name bad) b h k = absurd k
 later_alike command values a b h k = absurd h
 
 -- what ends a command has one status
@@ -112,7 +122,7 @@ write_fault_by : (command : Command) (before after : Outside) (ending : Ending) 
 write_fault_by command before after WriteFault h e = h.0
 write_fault_by command before after ending h e = absurd (omega (arith, e))
 
-cut_off_by : (command : Command) (before after : Outside) (ending : Ending) → Ends command before after ending → status_of ending ≡ 6 → Tells before command → IsCutOff command before after
+cut_off_by : (command : Command) (before after : Outside) (ending : Ending) → Ends command before after ending → status_of ending ≡ 6 → Tells before command → StandsBroken command before after
 cut_off_by command before after WriteFault h e tells = h.1 tells
 cut_off_by command before after ending h e tells = absurd (omega (arith, e))
 
@@ -167,6 +177,11 @@ no_by_stop : (command : Command) (before after : Outside) (stop : Stop) → (don
 no_by_stop command before after stop done (inl free) s = absurd (pass_or_stopped command before done.values stop (record { turns = done.pass.turns; free = free }) s)
 no_by_stop command before after stop done (inr may) s = absurd (says_yes command done.values done.outcome may done.gives done.answered)
 
+-- what stands where a write failed says what was cut off
+broken_cut : (command : Command) (before after : Outside) → StandsBroken command before after → IsCutOff command before after
+broken_cut (Trace table trace) before after h = h.0
+broken_cut command before after h = h
+
 stopped_by_turns : (command : Command) (before after : Outside) (ending : Ending) → Ends command before after ending → Tells before command → (stop : Stop) → IsStopped command before stop → IsStatusOfStop command stop (status_of ending)
 stopped_by_turns command before after (Done summary) h tells stop s = let done = h.1 tells in done_by_stop command before stop done.values done.pass.turns done.pass.free s
 stopped_by_turns command before after No h tells stop s = let done = h.1 tells in no_by_stop command before after stop done done.pass.free s
@@ -174,7 +189,7 @@ stopped_by_turns command before after (Bad file line reason) h tells stop s = in
 stopped_by_turns command before after (TooLong file limit) h tells stop s = inl (one_status command before (too_long file.now limit) stop (h.stopped tells) s)
 stopped_by_turns command before after (TooMany needed limit) h tells stop s = inl (one_status command before (too_many needed limit) stop (h.stopped tells) s)
 stopped_by_turns command before after (ReadFault file) h tells stop s = inr (inl refl)
-stopped_by_turns command before after WriteFault h tells stop s = cut_by_stop command before stop (h.1 tells).values (h.1 tells).turns (h.1 tells).free s
+stopped_by_turns command before after WriteFault h tells stop s = let cut = broken_cut command before after (h.1 tells) in cut_by_stop command before stop cut.values cut.turns cut.free s
 stopped_by_turns command before after Memory h tells stop s = inr (inr (inl refl))
 
 known_by : (ending : Ending) → (status_of ending ≤ 7) × (status_of ending ≢ 2)
@@ -199,6 +214,10 @@ cut_unchanged (Selfrun seed rules) before after file last h = h
 cut_unchanged (Migrate table) before after file last h = h
 cut_unchanged (Merge table) before after file last h = h
 cut_unchanged (Trim table) before after file last h = h
+cut_unchanged (Place slots table) before after file last h = h
+cut_unchanged (Patch memory table) before after file last h = h
+cut_unchanged (Apply memory plan) before after file last h = h
+cut_unchanged (Dump memory) before after file last h = h
 cut_unchanged (Audit list) before after file last h = h
 cut_unchanged (Query list box name) before after file last h = h
 cut_unchanged (Session slots sizes script list) before after file last h = h
@@ -215,6 +234,10 @@ short_unchanged (Selfrun seed rules) before after last h = h
 short_unchanged (Migrate table) before after last h = h
 short_unchanged (Merge table) before after last h = h
 short_unchanged (Trim table) before after last h = h
+short_unchanged (Place slots table) before after last h = h
+short_unchanged (Patch memory table) before after last h = h
+short_unchanged (Apply memory plan) before after last h = h
+short_unchanged (Dump memory) before after last h = h
 short_unchanged (Audit list) before after last h = h
 short_unchanged (Query list box name) before after last h = h
 short_unchanged (Session slots sizes script list) before after last h = absurd (last refl)

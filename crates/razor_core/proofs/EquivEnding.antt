@@ -74,5 +74,5 @@ answered_ends left right before after first second (Differ header a b) ending re
 pub cut_verdict_ends : (left right : List ℕ) (before after : Outside) (first second : RuleList) (verdict : Verdict) → ReadBoth left right before after first second → IsListVerdict first second verdict →
     Rose before.write_faults after.write_faults → AppendsFront before.written after.written (verdict_text verdict (filter_list first).rules (filter_list second).rules) → Ends (Equiv left right) before after WriteFault
 cut_verdict_ends left right before after first second verdict reads is rose written =
-    cut_off_ends (Equiv left right) before after (value_of first ∷ value_of second ∷ []) (outcome_of verdict first second) (both_passed left right before after first second reads) (inl (λ stop later. later))
+    cut_off_ends (Equiv left right) before after (λ cut. cut) (value_of first ∷ value_of second ∷ []) (outcome_of verdict first second) (both_passed left right before after first second reads) (inl (λ stop later. later))
     (compares verdict first second is) rose (subst (AppendsFront before.written after.written) (text_is verdict first second) written)

@@ -7,6 +7,8 @@ pub mod Endings
 pub mod Tables
 pub mod TraceEnding
 pub mod TrimEnding
+pub mod SlotEnding
+pub mod SlotLaws
 pub mod Turns
 pub mod CertEnding
 pub mod CheckEnding

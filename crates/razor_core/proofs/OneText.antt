@@ -13,7 +13,7 @@ use Rattle.razor_core.specs.Inputs.{Value, inputs, read_by}
 use Rattle.razor_core.specs.OneText.{IsEndOf}
 use Rattle.razor_core.specs.Outcome.{Outcome}
 use Rattle.razor_core.specs.Outside.{Outside, Tells}
-use Rattle.razor_core.specs.Standing.{StandsShort}
+use Rattle.razor_core.specs.Standing.{IsCutOff, StandsBroken, StandsShort}
 use Rattle.razor_core.specs.Stopping.{IsFree}
 use Rattle.razor_core.proofs.Ended.{cut_off_ends, done_ends}
 use Rattle.razor_core.proofs.Turns.{AllRead, Passed, pass_behind}
@@ -30,6 +30,7 @@ pub record WritesOne (command : Command) (before after : Outside) (values : List
   pub read : Tells before command → AllRead after (read_by command true)
   pub line : IsDoneLine command []
   pub short : Keeps before.written after.written → StandsShort command before after
+  pub broken : IsCutOff command before after → StandsBroken command before after
 
 module _ (command : Command) (before after : Outside) (values : List Value) (Is : List ℕ → Type 0) (one : WritesOne command before after values Is) where
   done_as : (summary : Summary) → summary ≡ Nothing → (text : List ℕ) → Is text → Appends before.written after.written text → Ends command before after (Done summary)
@@ -43,5 +44,5 @@ module _ (command : Command) (before after : Outside) (values : List Value) (Is 
   text_ends (TooLong file limit) h = absurd h
   text_ends (TooMany needed limit) h = absurd h
   text_ends (ReadFault file) h = absurd h
-  text_ends WriteFault h = cut_off_ends command before after values (said h.1.0) one.passed (inl one.free) (one.gives h.1.0 h.1.1) h.0 h.1.2
+  text_ends WriteFault h = cut_off_ends command before after one.broken values (said h.1.0) one.passed (inl one.free) (one.gives h.1.0 h.1.1) h.0 h.1.2
   text_ends Memory h = (h.0, one.short h.1, pass_behind before after (inputs command) values one.passed)

@@ -46,7 +46,7 @@ module _ (seed rules : ℕ) (before after : Outside) where
 
   -- a write failed
   pub cut_off : (summary : Summary) → IsSummary seed rules summary → HasRoom seed rules → Rose before.write_faults after.write_faults → AppendsFront before.written after.written (summary_line rules summary) → Ends (Selfrun seed rules) before after WriteFault
-  cut_off summary is room rose written = cut_off_ends (Selfrun seed rules) before after [] (outcome summary) tt (inl (free room)) (gives summary is) rose written
+  cut_off summary is room rose written = cut_off_ends (Selfrun seed rules) before after (λ cut. cut) [] (outcome summary) tt (inl (free room)) (gives summary is) rose written
 
   -- more entries are needed
   pub too_many_stop : (needed limit : ℕ) → IsLeastCost stated (generated seed rules).rules needed → limit ≡ 262144 → 262144 < needed → Keeps before.written after.written → Stops (Selfrun seed rules) before after (too_many needed limit)

@@ -1,7 +1,8 @@
 -- How a command ends that answers a trace.
 use Rattle.std.proofs.Common.{◌≡◌, ◌≢◌, ℕ, ◌+◌, ◌≤◌, List, [], ◌∷◌, ◌++◌, Some, None, length, inl, inr, le-leb, refl, subst, sym, ap, arith, ◌∙◌}
+use Rattle.std.proofs.KnownBytes.{Appends-kept, Appends-nil, Consumes-kept, Consumes-nil}
 use Rattle.std.specs.Prelude.{Bool, true, Option, IfSome, IsErrOf, Ok, Err, Result, map, option_map, take, unwrap_or, if◌then◌else◌}
-use Rattle.std.specs.Io.KnownBytes.{Appends, Keeps}
+use Rattle.std.specs.Io.KnownBytes.{Appends, Consumes, Keeps}
 use Rattle.razor_base.specs.Faults.{Rose}
 use Rattle.razor_base.specs.Input.{TakesAtMost}
 use Rattle.razor_base.specs.Output.{AppendsFront}
@@ -14,6 +15,7 @@ use Rattle.ternary_words.specs.declared.table.Table as code_table
 use Rattle.trace_run.specs.Answers as runs
 use Rattle.trace_run.specs.Outcome as run_outcomes
 use Rattle.trace_run.specs.Outcome.{GoesOn, IsCut, IsWhole}
+use Rattle.trace_run.specs.Pace.{IsPaced}
 use Rattle.trace_run.specs.Progress.{OnWriteFault, UnlessWriteFault}
 use Rattle.trace_run.specs.Trace as traces
 use Rattle.trace_run.specs.Trace.{trace_of, trace_within, whole_lines}
@@ -28,7 +30,7 @@ use Rattle.razor_core.specs.declared.line_reason.LineReason.TheVariants.{OfTrace
 use Rattle.razor_core.specs.Inputs.{BadLine, Input, Value, inputs, table_input, table_value, text_of_trace, trace_input, lines_value}
 use Rattle.razor_core.specs.Outcome.{Outcome}
 use Rattle.razor_core.specs.Outside.{Outside, Tells, bytes_at}
-use Rattle.razor_core.specs.Trace.{IsEndOfRun, AnswersCut, answer_line, answers_text, bad_line_of, taken_of}
+use Rattle.razor_core.specs.Trace.{IsEndOfRun, IsPacedTrace, AnswersCut, answer_line, answers_text, bad_line_of, taken_of}
 use Rattle.razor_core.specs.Standing.{IsCutOff, Stands, WroteFor}
 use Rattle.razor_core.specs.Taking.{TakesTurn}
 use Rattle.razor_core.specs.Turns.{Stop, bad_line, too_long, too_many, turn, turns_of}
@@ -53,6 +55,7 @@ pub record Ran (table trace : List ℕ) (before after : Outside) (entries : Tabl
   pub write_fault : OnWriteFault ended (Rose before.write_faults after.write_faults)
   pub calm : UnlessWriteFault ended (after.write_faults ≡ before.write_faults)
   pub near : TakesAtMost middle (after.remaining trace) (most + 65536)
+  pub paced : IsPaced answers before.written after.written middle (after.remaining trace)
 
 -- a bank into which the table was loaded answers as the table
 headers_answered : (names : List (List ℕ)) (entries : List Entry) (slots : List (Option Stored)) → ((header : List ℕ) → runs.answer_in names slots header ≡ answer (map (entry_of names) entries) header) → (table : Table) →
@@ -84,6 +87,17 @@ some_bad o bad e = ap (option_map bad_line_of) e
 
 same_entries : (turned : Result Value Stop) (a b : Table) → turned ≡ Ok (table_value a) → turned ≡ Ok (table_value b) → a ≡ b
 same_entries turned a b p q = cc
+
+-- nothing was read of the trace, and nothing written
+pub unread : (table trace : List ℕ) (before after : Outside) → Keeps before.written after.written → Keeps (before.remaining trace) (after.remaining trace) → IsPacedTrace table trace before after
+unread table trace before after still kept entries turned = record {
+  seen = [];
+  last = [];
+  read = Consumes-kept (before.remaining trace) (before.remaining trace) (after.remaining trace) [] (Consumes-nil (before.remaining trace)) kept;
+  near = omega arith;
+  more = [];
+  answered = Appends-kept before.written before.written after.written [] (Appends-nil before.written) still;
+}
 
 module _ (table trace : List ℕ) (before after : Outside) (entries : Table) (answers : List (List ℕ) → List ℕ) (middle : Option (List ℕ)) (faults : ℕ) where
   abbrev pub IsRan : Result ℕ TraceError → Type 0
@@ -217,6 +231,20 @@ module _ (table trace : List ℕ) (before after : Outside) (entries : Table) (an
     written = begun ended ran (taken_of text).headers front;
   }
 
+  -- what was read of the trace was answered, but for one piece
+  paced : (ended : Result ℕ TraceError) → IsRan ended → Tells before (Trace table trace) → IsPacedTrace table trace before after
+  paced ended ran tells other turned =
+      let p = ran.paced in
+      let same = same_entries (turn (table_input table) (bytes_at before table)) entries other (first_turn ended ran tells) turned in record {
+        seen = p.seen;
+        last = p.last;
+        read = subst (λ (o : Option (List ℕ)). Consumes o (after.remaining trace) (p.seen ++ p.last)) (kept_told (before.remaining trace) middle ran.kept tells.1.0) p.read;
+        near = p.near;
+        more = p.more;
+        answered = subst (λ (es : Table). Appends before.written after.written (answers_text es (trace_of (whole_lines p.seen)).headers ++ p.more)) same
+            (subst (λ text. Appends before.written after.written (text ++ p.more)) (ran.answer (trace_of (whole_lines p.seen)).headers) p.answered);
+      }
+
   front_of : (ended : Result ℕ TraceError) → IsRan ended → Tells before (Trace table trace) → IfSome middle (λ all. AppendsFront before.written after.written (answers (trace_within most all).headers)) →
       AppendsFront before.written after.written (answers (taken_of text).headers)
   front_of ended ran tells h = at_text (λ all. AppendsFront before.written after.written (answers (trace_within most all).headers)) ended ran tells h
@@ -238,6 +266,6 @@ module _ (table trace : List ℕ) (before after : Outside) (entries : Table) (an
   )
   run_ends (Err errors.ReadFault) ending ran is = absurd is
   run_ends (Err errors.WriteFault) ending ran is = subst (Ends (Trace table trace) before after) (sym is)
-      (ran.write_fault, (λ tells. cut_off (Err errors.WriteFault) ran tells (front_of (Err errors.WriteFault) ran tells ran.outcome)), behind (Err errors.WriteFault) ran)
+      (ran.write_fault, (λ tells. (cut_off (Err errors.WriteFault) ran tells (front_of (Err errors.WriteFault) ran tells ran.outcome), paced (Err errors.WriteFault) ran tells)), behind (Err errors.WriteFault) ran)
   run_ends (Err errors.Memory) ending ran is = subst (Ends (Trace table trace) before after) (sym is)
-      (ran.calm, (λ tells. inr (cut_off (Err errors.Memory) ran tells (front_of (Err errors.Memory) ran tells ran.outcome))), behind (Err errors.Memory) ran)
+      (ran.calm, (λ tells. (inr (cut_off (Err errors.Memory) ran tells (front_of (Err errors.Memory) ran tells ran.outcome)), paced (Err errors.Memory) ran tells)), behind (Err errors.Memory) ran)

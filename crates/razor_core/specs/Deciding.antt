@@ -4,7 +4,7 @@ use Rattle.std.specs.Io.KnownBytes.{Consumes}
 use Rattle.razor_base.specs.Faults.{Rose}
 use Rattle.razor_base.specs.Input.{TakesAtMost}
 use Rattle.razor_base.specs.declared.limits.TheConstants.{MOST_ENTRIES, PIECE_BYTES}
-use Rattle.command_words.specs.Command.{Command, Make, Selfrun}
+use Rattle.command_words.specs.Command.{Command, Make, Patch, Place, Selfrun}
 use Rattle.razor_core.specs.Inputs.{Input, Kind, Value, inputs, most_bytes}
 use Rattle.razor_core.specs.Outside.{Outside, AreKept}
 use Rattle.razor_core.specs.Turns.{Stop, bad_line, too_long, too_many, turn}
@@ -27,6 +27,8 @@ AreKeptBehind before after (input ∷ others) = AreKept before after others ⊎ 
 abbrev pub IsAbove : Command → ℕ → ℕ → Type 0
 IsAbove (Make method sizes list) needed limit = (limit ≡ sizes.limit) × (limit < needed)
 IsAbove (Selfrun seed rules) needed limit = (limit ≡ MOST_ENTRIES) × (limit < needed)
+IsAbove (Place slots table) needed limit = (limit ≡ slots) × (limit < needed)
+IsAbove (Patch memory table) needed limit = (limit ≤ MOST_ENTRIES) × (limit < needed)
 IsAbove command needed limit = ⊥
 
 -- the input is longer than this limit, which is that of its kind, and at most one piece more was read of it

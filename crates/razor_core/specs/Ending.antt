@@ -9,7 +9,7 @@ use Rattle.razor_core.specs.declared.ending.Summary.{Summary}
 use Rattle.razor_core.specs.declared.ending.Summary.TheVariants.{Nothing, Rules, Ordered}
 use Rattle.razor_core.specs.Inputs.{Value, inputs, read_by}
 use Rattle.razor_core.specs.Outside.{Outside, Tells, AreReadThrough}
-use Rattle.razor_core.specs.Standing.{IsCutOff, Stands, StandsCut, StandsShort, WritesNothing}
+use Rattle.razor_core.specs.Standing.{Stands, StandsBroken, StandsCut, StandsShort, WritesNothing}
 use Rattle.razor_core.specs.Turns.{Stop, bad_line, too_long, too_many, stop_status}
 use Rattle.razor_core.specs.Stopping.{GoesThrough, IsStopped}
 use Rattle.razor_core.specs.Deciding.{AreKeptBehind, FailsToRead, IsStopOf}
@@ -83,5 +83,5 @@ Ends command before after (Bad file line reason) = Stops command before after (b
 Ends command before after (TooLong file limit) = Stops command before after (too_long file.now limit)
 Ends command before after (TooMany needed limit) = Stops command before after (too_many needed limit)
 Ends command before after (ReadFault file) = FailsToRead command before after file.now × StandsCut command before after file.now
-Ends command before after WriteFault = Rose before.write_faults after.write_faults × (Tells before command → IsCutOff command before after) × AreKeptBehind before after (inputs command)
+Ends command before after WriteFault = Rose before.write_faults after.write_faults × (Tells before command → StandsBroken command before after) × AreKeptBehind before after (inputs command)
 Ends command before after Memory = (after.write_faults ≡ before.write_faults) × StandsShort command before after × AreKeptBehind before after (inputs command)

@@ -5,18 +5,22 @@ use Rattle.filter_reader.specs.Headline.FilterList as lists
 use Rattle.table_text.specs.Reading as tables
 use Rattle.bank_update.specs.Script as scripts
 use Rattle.edit_session.specs.SessionText as sessions
+use Rattle.memory_text.specs.Memory.{Memory, Plan}
+use Rattle.memory_text.specs.Reading as memories
 use Rattle.ternary_words.specs.Headline.Table.{Table}
-use Rattle.command_words.specs.Command.{Command, Make, Equiv, Cert, Check, Trace, Drive, Gen, Selfrun, Migrate, Merge, Audit, Query, Session, Trim}
+use Rattle.command_words.specs.Command.{Command, Make, Equiv, Cert, Check, Trace, Drive, Gen, Selfrun, Migrate, Merge, Audit, Query, Session, Trim, Place, Patch, Apply, Dump}
 use Rattle.razor_core.specs.declared.line_reason.LineReason.{LineReason}
-use Rattle.razor_core.specs.declared.line_reason.LineReason.TheVariants.{OfList, OfTable, OfScript, OfSession}
+use Rattle.razor_core.specs.declared.line_reason.LineReason.TheVariants.{OfList, OfTable, OfScript, OfSession, OfSlots}
 
--- the kinds of texts: lists, tables, scripts, which name so many tables, and sessions are read whole; traces and
+-- the kinds of texts: lists, tables, scripts, which name so many tables, sessions, memories and plans are read whole; traces and
 -- certificates are taken line by line
 pub data Kind : Type 0 where
   text_of_list : Kind
   text_of_table : Kind
   text_of_script : ℕ → Kind
   text_of_session : Kind
+  text_of_memory : Kind
+  text_of_plan : Kind
   text_of_trace : Kind
   text_of_certificate : Kind
 
@@ -45,6 +49,14 @@ script_input tables name = record { name = name; kind = text_of_script tables }
 abbrev pub session_input : List ℕ → Input
 session_input name = record { name = name; kind = text_of_session }
 
+-- a memory under this name
+abbrev pub memory_input : List ℕ → Input
+memory_input name = record { name = name; kind = text_of_memory }
+
+-- a plan under this name
+abbrev pub plan_input : List ℕ → Input
+plan_input name = record { name = name; kind = text_of_plan }
+
 -- a trace under this name
 abbrev pub trace_input : List ℕ → Input
 trace_input name = record { name = name; kind = text_of_trace }
@@ -69,6 +81,10 @@ inputs (Audit list) = list_input list ∷ []
 inputs (Query list box name) = list_input list ∷ []
 inputs (Session slots sizes script list) = session_input script ∷ list_input list ∷ []
 inputs (Trim table) = table_input table ∷ []
+inputs (Place slots table) = table_input table ∷ []
+inputs (Patch memory table) = memory_input memory ∷ table_input table ∷ []
+inputs (Apply memory plan) = memory_input memory ∷ plan_input plan ∷ []
+inputs (Dump memory) = memory_input memory ∷ []
 
 -- the inputs that a command reads to their end where its answer is yes, or no: a certificate that is wrong needn't be
 abbrev pub read_by : Command → Bool → List Input
@@ -81,6 +97,8 @@ most_bytes text_of_list = MOST_LIST_BYTES
 most_bytes text_of_table = MOST_TABLE_BYTES
 most_bytes (text_of_script tables) = MOST_SCRIPT_BYTES
 most_bytes text_of_session = MOST_SCRIPT_BYTES
+most_bytes text_of_memory = MOST_TABLE_BYTES
+most_bytes text_of_plan = MOST_TABLE_BYTES
 most_bytes text_of_trace = MOST_TRACE_BYTES
 most_bytes text_of_certificate = MOST_CERTIFICATE_BYTES
 
@@ -90,6 +108,8 @@ is_too_long text_of_list bytes = nat_lt (most_bytes text_of_list) bytes
 is_too_long text_of_table bytes = nat_lt (most_bytes text_of_table) bytes
 is_too_long (text_of_script tables) bytes = nat_lt (most_bytes (text_of_script tables)) bytes
 is_too_long text_of_session bytes = nat_lt (most_bytes text_of_session) bytes
+is_too_long text_of_memory bytes = nat_lt (most_bytes text_of_memory) bytes
+is_too_long text_of_plan bytes = nat_lt (most_bytes text_of_plan) bytes
 is_too_long text_of_trace bytes = false
 is_too_long text_of_certificate bytes = false
 
@@ -99,6 +119,8 @@ pub data Value : Type 0 where
   table_value : Table → Value
   script_value : List scripts.Event → Value
   session_value : List sessions.SessionEvent → Value
+  memory_value : Memory → Value
+  plan_value : Plan → Value
   lines_value : List ℕ → Value
 
 -- a bad line of a text, counted from 1, and its first reason
@@ -126,11 +148,23 @@ abbrev pub as_session : Result (List sessions.SessionEvent) sessions.BadLine →
 as_session (Ok events) = Ok (session_value events)
 as_session (Err bad) = Err (record { line = bad.line; reason = OfSession bad.reason })
 
+-- a memory, or its first bad line
+abbrev pub as_memory : Result Memory memories.BadLine → Result Value BadLine
+as_memory (Ok memory) = Ok (memory_value memory)
+as_memory (Err bad) = Err (record { line = bad.line; reason = OfSlots bad.reason })
+
+-- a plan, or its first bad line
+abbrev pub as_plan : Result Plan memories.BadLine → Result Value BadLine
+as_plan (Ok plan) = Ok (plan_value plan)
+as_plan (Err bad) = Err (record { line = bad.line; reason = OfSlots bad.reason })
+
 -- what a text spells, or its first bad line
 abbrev pub spelled_by : Kind → List ℕ → Result Value BadLine
 spelled_by text_of_list text = as_list (lists.list_of text)
 spelled_by text_of_table text = as_table (tables.table_in_text text)
 spelled_by (text_of_script tables) text = as_script (scripts.script_of tables text)
 spelled_by text_of_session text = as_session (sessions.session_of text)
+spelled_by text_of_memory text = as_memory (memories.memory_in_text text)
+spelled_by text_of_plan text = as_plan (memories.plan_in_text text)
 spelled_by text_of_trace text = Ok (lines_value text)
 spelled_by text_of_certificate text = Ok (lines_value text)

@@ -13,6 +13,7 @@ pub mod Selfrun
 pub mod Migrate
 pub mod Merge
 pub mod Trim
+pub mod Slots
 pub mod Session
 pub mod OneText
 pub mod Audit

@@ -10,7 +10,7 @@ use Rattle.razor_core.specs.Turns.{Stop, stop_status, too_many}
 use Rattle.razor_core.specs.Stopping.{MayGoOn, Pass, IsStopped}
 use Rattle.razor_core.specs.Deciding.{AreKeptBehind, FailsToRead, IsStopOf}
 use Rattle.razor_core.specs.Ending.{IsDone, IsDoneLine, MaySayNo}
-use Rattle.razor_core.specs.Standing.{IsCutOff, Stands, StandsCut, StandsShort, WritesInTurn, WritesNothing}
+use Rattle.razor_core.specs.Standing.{Stands, StandsBroken, StandsCut, StandsShort, WritesInTurn, WritesNothing}
 use Rattle.razor_core.specs.Messages.{usage_text, stop_line, read_fault_line, write_fault_line, memory_line}
 
 -- the status where all turns pass, where reading, writing and memory allow it
@@ -61,11 +61,12 @@ pub record KeepsPromise (command : Command) (before after : Outside) (line : Lis
   pub ended : (status ≡ 3) ⊎ (status ≡ 4) → IsEnded command before after line status
   -- 5: a read failed
   pub read_fault : status ≡ 5 → IsUnread command before after line
-  -- 6: the output's count of faults rose, and a front of what 0 would have added was written
+  -- 6: the output's count of faults rose, a front of what 0 would have added was written, and of a trace at most one piece more was
+  -- read than was answered
   pub write_fault : status ≡ 6 → Rose before.write_faults after.write_faults
   pub write_line : status ≡ 6 → line ≡ write_fault_line
-  pub cut_off : status ≡ 6 → Tells before command → IsCutOff command before after
-  -- 7: no write failed, and what had been written by then
+  pub cut_off : status ≡ 6 → Tells before command → StandsBroken command before after
+  -- 7: no write failed, and what had been written by then; a trace is read no further than with 6
   pub calm : status ≡ 7 → after.write_faults ≡ before.write_faults
   pub short : status ≡ 7 → StandsShort command before after
   pub short_line : status ≡ 7 → line ≡ memory_line

@@ -9,10 +9,12 @@ use Rattle.bank_update.specs.declared.reason.ScriptReason.{ScriptReason}
 use Rattle.bank_update.specs.declared.reason.ScriptReason.TheVariants.{Command, Arguments}
 use Rattle.edit_session.specs.declared.reason.SessionReason.{SessionReason}
 use Rattle.edit_session.specs.declared.reason.SessionReason.TheVariants as sessions
+use Rattle.memory_text.specs.declared.error.SlotReason.{SlotReason}
+use Rattle.memory_text.specs.declared.error.SlotReason.TheVariants as slots
 use Rattle.trace_run.specs.declared.reason.TraceReason.{TraceReason}
 use Rattle.trace_run.specs.declared.reason.TraceReason.TheVariants.{Short, Digits, Large}
 use Rattle.razor_core.specs.declared.line_reason.LineReason.{LineReason}
-use Rattle.razor_core.specs.declared.line_reason.LineReason.TheVariants.{NotPrefix, OfList, OfTable, OfScript, OfSession, OfTrace}
+use Rattle.razor_core.specs.declared.line_reason.LineReason.TheVariants.{NotPrefix, OfList, OfTable, OfScript, OfSession, OfTrace, OfSlots, SlotCount, SlotWidth}
 
 -- of a list
 abbrev pub list_reason_text : Reason → List ℕ
@@ -60,6 +62,13 @@ trace_reason_text Short = codes "too few columns"
 trace_reason_text Digits = codes "not a number"
 trace_reason_text Large = codes "value too large"
 
+-- of a memory or a plan, without the counts that may follow
+abbrev pub slot_reason_text : SlotReason → List ℕ
+slot_reason_text (slots.OfTable reason) = table_reason_text reason
+slot_reason_text slots.Slot = codes "slot"
+slot_reason_text slots.UnknownWrite = codes "unknown write"
+slot_reason_text (slots.Writes stated found) = codes "count of writes differs"
+
 -- of a line
 abbrev pub reason_text : LineReason → List ℕ
 reason_text (OfList reason) = list_reason_text reason
@@ -68,8 +77,11 @@ reason_text NotPrefix = codes "not a prefix word"
 reason_text (OfScript reason) = script_reason_text reason
 reason_text (OfSession reason) = session_reason_text reason
 reason_text (OfTrace reason) = trace_reason_text reason
+reason_text (OfSlots reason) = slot_reason_text reason
+reason_text SlotWidth = codes "slot width"
+reason_text SlotCount = codes "slots"
 
--- how many entries a table states, and how many were found
+-- how many lines are stated, and how many were found
 abbrev pub two_counts : ℕ → ℕ → List ℕ
 two_counts stated found = codes ", stated " ++ decimal stated ++ codes " found " ++ decimal found
 
@@ -84,6 +96,13 @@ table_counts_text (Count stated found) = two_counts stated found
 table_counts_text FieldForm = []
 table_counts_text OutsideMask = []
 
+-- the counts of a memory or a plan where they differ
+abbrev pub slot_counts_text : SlotReason → List ℕ
+slot_counts_text (slots.OfTable reason) = table_counts_text reason
+slot_counts_text slots.Slot = []
+slot_counts_text slots.UnknownWrite = []
+slot_counts_text (slots.Writes stated found) = two_counts stated found
+
 -- the counts behind a reason
 abbrev pub counts_text : LineReason → List ℕ
 counts_text (OfList reason) = []
@@ -92,3 +111,6 @@ counts_text NotPrefix = []
 counts_text (OfScript reason) = []
 counts_text (OfSession reason) = []
 counts_text (OfTrace reason) = []
+counts_text (OfSlots reason) = slot_counts_text reason
+counts_text SlotWidth = []
+counts_text SlotCount = []

@@ -9,7 +9,7 @@ use Rattle.razor_core.specs.Outcome.{Outcome}
 use Rattle.razor_core.specs.Gives.{Begins, Gives}
 use Rattle.razor_core.specs.Turns.{Stop, turns_of}
 use Rattle.razor_core.specs.Stopping.{IsFree, MayGoOn}
-use Rattle.razor_core.specs.Trace.{AnswersCut}
+use Rattle.razor_core.specs.Trace.{AnswersCut, IsPacedTrace}
 use Rattle.razor_core.specs.Check.{IsRightSoFar}
 
 -- the command writes while it takes its last input, and not only after all that may end it
@@ -44,15 +44,21 @@ pub record IsCutOff (command : Command) (before after : Outside) : Type 0 where
   pub gives : Begins command values outcome
   pub written : AppendsFront before.written after.written outcome.text
 
+-- what stands where a write failed: what was written, and how much of a trace was read
+abbrev pub StandsBroken : Command → Outside → Outside → Type 0
+StandsBroken (Trace table trace) before after = IsCutOff (Trace table trace) before after × IsPacedTrace table trace before after
+StandsBroken command before after = IsCutOff command before after
+
 -- what was written where a read under the file word failed, and that no line had ended the command before
 abbrev pub StandsCut : Command → Outside → Outside → List ℕ → Type 0
 StandsCut (Trace table trace) before after file = Tells before (Trace table trace) → AnswersCut table trace file before after
 StandsCut (Check list table certificate) before after file = Keeps before.written after.written × (Tells before (Check list table certificate) → file ≡ certificate → IsRightSoFar list table certificate before after)
 StandsCut command before after file = Keeps before.written after.written
 
--- what was written where memory was refused
+-- what was written where memory was refused, and how much of a trace was read
 abbrev pub StandsShort : Command → Outside → Outside → Type 0
-StandsShort (Trace table trace) before after = Tells before (Trace table trace) → Keeps before.written after.written ⊎ IsCutOff (Trace table trace) before after
+StandsShort (Trace table trace) before after =
+    Tells before (Trace table trace) → (Keeps before.written after.written ⊎ IsCutOff (Trace table trace) before after) × IsPacedTrace table trace before after
 StandsShort (Cert list table) before after = Tells before (Cert list table) → Keeps before.written after.written ⊎ IsCutOff (Cert list table) before after
 StandsShort (Drive slots script tables) before after = Tells before (Drive slots script tables) → Keeps before.written after.written ⊎ IsCutOff (Drive slots script tables) before after
 StandsShort (Session slots sizes script list) before after = Tells before (Session slots sizes script list) → Keeps before.written after.written ⊎ IsCutOff (Session slots sizes script list) before after

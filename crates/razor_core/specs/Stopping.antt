@@ -2,13 +2,14 @@
 use Rattle.std.specs.Prelude.{◌≡◌, ◌⊎◌, List, ◌∷◌, Ok, Err}
 use Rattle.razor_base.specs.declared.limits.TheConstants.{MOST_ENTRIES}
 use Rattle.list_generator.specs.DrawnRules.{generated}
-use Rattle.command_words.specs.Command.{Command, Compile, Shorten, Make, Cert, Check, Trace, Selfrun, Trim}
+use Rattle.command_words.specs.Command.{Command, Compile, Shorten, Make, Cert, Check, Trace, Selfrun, Trim, Place, Patch, Apply}
 use Rattle.razor_core.specs.Turns.{Stop, turns_of}
 use Rattle.razor_core.specs.Make.{NeedsMore}
 use Rattle.razor_core.specs.Cert.{HasOther}
 use Rattle.razor_core.specs.Check.{HasTooMuch}
 use Rattle.razor_core.specs.Trace.{EndsTrace}
-use Rattle.razor_core.specs.Inputs.{Value, list_value, table_value, lines_value, inputs}
+use Rattle.razor_core.specs.Slots.{CannotLead, LacksSlots, MisfitsPlan}
+use Rattle.razor_core.specs.Inputs.{Value, list_value, table_value, memory_value, plan_value, lines_value, inputs}
 use Rattle.razor_core.specs.Outside.{Outside}
 
 -- what ends a command later, while it works on what its inputs came to
@@ -19,6 +20,9 @@ StopsLater (Check list table certificate) (list_value rules ∷ table_value entr
 StopsLater (Trace table trace) (table_value entries ∷ lines_value text ∷ values) stop = EndsTrace trace text stop
 StopsLater (Selfrun seed rules) values stop = NeedsMore Compile (generated seed rules).rules MOST_ENTRIES stop
 StopsLater (Trim table) (table_value entries ∷ values) stop = HasOther table entries stop
+StopsLater (Place slots file) (table_value table ∷ values) stop = LacksSlots slots table stop
+StopsLater (Patch memory table) (memory_value held ∷ table_value wanted ∷ values) stop = CannotLead table held wanted stop
+StopsLater (Apply memory plan) (memory_value held ∷ plan_value planned ∷ values) stop = MisfitsPlan plan held planned stop
 StopsLater command values stop = ⊥
 
 -- nothing ends the command later

@@ -8,11 +8,14 @@ use Rattle.filter_reader.specs.declared.list.RuleList.{RuleList}
 use Rattle.filter_reader.specs.FirstSeen.{first_seen}
 use Rattle.filter_reader.specs.Lists.{filter_list}
 use Rattle.table_text.specs.Names.{is_name}
+use Rattle.memory_text.specs.Views.{memory_of, plan_of}
+use Rattle.memory_text.specs.declared.memory.SlotMemory.{SlotMemory}
+use Rattle.memory_text.specs.declared.plan.SlotPlan.{SlotPlan}
 use Rattle.ternary_words.specs.declared.table.Table.{Table}
 use Rattle.ternary_words.specs.Views.{table_of}
 use Rattle.razor_core.specs.declared.ending.Ending.{Ending}
 use Rattle.razor_core.specs.declared.ending.Ending.TheVariants.{Done, No, BadLine as Bad, TooLong, TooMany, ReadFault, WriteFault, Memory}
-use Rattle.razor_core.specs.Inputs.{Input, Kind, Value, is_too_long, spelled_by, list_value, most_bytes, table_value}
+use Rattle.razor_core.specs.Inputs.{Input, Kind, Value, is_too_long, spelled_by, list_value, memory_value, most_bytes, plan_value, table_value}
 use Rattle.razor_core.specs.Turns.{turn, bad_line, too_long}
 use Rattle.razor_core.specs.Deciding.{IsReadFault}
 
@@ -23,6 +26,14 @@ value_of list = list_value (filter_list list)
 -- the value of a table of the code
 abbrev pub table_value_of : Table → Value
 table_value_of table = table_value (table_of table)
+
+-- the value of a memory of the code
+abbrev pub memory_value_of : SlotMemory → Value
+memory_value_of memory = memory_value (memory_of memory)
+
+-- the value of a plan of the code
+abbrev pub plan_value_of : SlotPlan → Value
+plan_value_of plan = plan_value (plan_of plan)
 
 -- the names of a list that was read: each is a name of a table, and they stand as they are first seen
 pub record IsListRead (list : RuleList) : Type 0 where

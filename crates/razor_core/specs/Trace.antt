@@ -9,6 +9,7 @@ use Rattle.trace_run.specs.Trace.{trace_of, trace_within, whole_lines}
 use Rattle.trace_run.specs.declared.error.TraceError.{TraceError}
 use Rattle.trace_run.specs.declared.error.TraceError.TheVariants as errors
 use Rattle.trace_run.specs.Outcome.{IsCut, GoesOn}
+use Rattle.trace_run.specs.Pace.{IsPaced}
 use Rattle.razor_core.specs.Turns.{Stop, bad_line, too_long, turn}
 use Rattle.razor_core.specs.Outcome.{Outcome}
 use Rattle.razor_core.specs.Inputs.{BadLine, most_bytes, text_of_trace, table_value, table_input}
@@ -58,6 +59,11 @@ pub record AnswersCut (table trace file : List ℕ) (before after : Outside) : T
   pub in_trace : file ≡ trace → (entries : Table) → turn (table_input table) (bytes_at before table) ≡ Ok (table_value entries) →
       (seen : List ℕ) × IsCut (most_bytes text_of_trace) (before.remaining trace) (after.remaining trace) seen
       × Appends before.written after.written (answers_text entries (taken_before seen).headers)
+
+-- what was read of the trace was answered, but for one piece that was read last
+abbrev pub IsPacedTrace : List ℕ → List ℕ → Outside → Outside → Type 0
+IsPacedTrace table trace before after = (entries : Table) → turn (table_input table) (bytes_at before table) ≡ Ok (table_value entries) →
+    IsPaced (answers_text entries) before.written after.written (before.remaining trace) (after.remaining trace)
 
 -- the ending of a command whose run over the trace with this name ended so
 abbrev pub IsEndOfRun : List ℕ → Result ℕ TraceError → Ending → Type 0

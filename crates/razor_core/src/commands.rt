@@ -8,6 +8,7 @@ ghost use Rattle.command_words.specs.Asked.{meant};
 ghost use Rattle.razor_core.specs.Outside.{seen, IsNoInput};
 ghost use Rattle.razor_core.specs.Ending.{Ends};
 
+mod apply;
 mod arrange;
 mod audit;
 mod cert;
@@ -15,6 +16,7 @@ mod check;
 mod compile;
 mod difference;
 mod drive;
+mod dump;
 mod equiv;
 mod expand;
 mod generate;
@@ -22,6 +24,8 @@ mod made;
 mod make;
 mod merge;
 mod migrate;
+mod patch;
+mod place;
 mod query;
 mod selfrun;
 mod session;
@@ -30,16 +34,20 @@ mod trace;
 mod trim;
 
 use crate::ending::Ending;
+use apply::apply_plan;
 use audit::audit_list;
 use cert::certify;
 use check::check_certificate;
 use command_words::{Asked, Command};
 use drive::run_script;
+use dump::dump_memory;
 use equiv::compare_lists;
 use generate::draw_list;
 use make::make_table;
 use merge::merge_table;
 use migrate::migrate_table;
+use patch::plan_patch;
+use place::place_table;
 use query::query_list;
 use razor_base::{Desk, Sink};
 use selfrun::run_load;
@@ -84,5 +92,9 @@ pub fn run<'a, D: Desk, K: Sink>(
             files,
         } => run_session(alloc, slots, sizes, files, desk, out),
         Command::Trim(file) => trim_table(alloc, file, desk, out),
+        Command::Place { slots, table } => place_table(alloc, slots, table, desk, out),
+        Command::Patch(files) => plan_patch(alloc, files, desk, out),
+        Command::Apply(files) => apply_plan(alloc, files, desk, out),
+        Command::Dump(file) => dump_memory(alloc, file, desk, out),
     }
 }

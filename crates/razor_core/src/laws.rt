@@ -2,12 +2,13 @@
 //! nothing.
 ghost use Rattle.std.specs.Prelude.{◌≡◌, ℕ, List, Option, Some};
 ghost use Rattle.field_boxes.specs.Headline.Classifier.{Interval};
-ghost use Rattle.command_words.specs.Command.{Arrange, Audit, Cert, Check, Compile, Drive, Equiv, Expand, Gen, Make, Merge, Migrate, Query, Selfrun, Session, Shorten, Sizes, Trace, Trim};
+ghost use Rattle.command_words.specs.Command.{Apply, Arrange, Audit, Cert, Check, Compile, Drive, Dump, Equiv, Expand, Gen, Make, Merge, Migrate, Patch, Place, Query, Selfrun, Session, Shorten, Sizes, Trace, Trim};
 ghost use Rattle.command_words.specs.Orders.{Wanted};
 ghost use Rattle.razor_core.specs.Headlines.{Adds, AgreeByName, AreEqualLists, IsAnswered, IsArrangedText, IsAudited, IsCertified, IsCompiledText, IsDriven, IsEdited, IsExpandedText, IsMergedText, IsMigrated, IsQueried, IsShortenedText, IsTrimmedText};
 ghost use Rattle.razor_core.specs.Outside.{Outside, Tells};
 ghost use Rattle.razor_core.specs.Promise.{KeepsPromise};
 ghost use Rattle.razor_core.specs.Selfrun.{Summarises};
+ghost use Rattle.razor_core.specs.Slots.{IsAppliedText, IsDumped, IsPatchText, IsPlaced};
 ghost use Rattle.list_generator.specs.DrawnRules.{generated};
 ghost use Rattle.filter_reader.specs.ListText.{list_text};
 
@@ -103,6 +104,35 @@ pub fn trimmed_tables_answer_alike()
     ensures { (before after : Outside) (line : List ℕ) (file text : List ℕ) →
         KeepsPromise (Trim file) before after line 0 → before.remaining file ≡ Some text →
         Adds before after (IsTrimmedText text) }
+{}
+
+/// What `place` has written is a memory in whose slots the table that was read stands in order, evenly.
+pub fn placed_tables_stand_in_their_slots()
+    ensures { (before after : Outside) (line : List ℕ) (slots : ℕ) (file text : List ℕ) →
+        KeepsPromise (Place slots file) before after line 0 → before.remaining file ≡ Some text →
+        Adds before after (IsPlaced slots text) }
+{}
+
+/// What `patch` has written is a plan that leads from the memory to the table: between any two writes each header is answered as
+/// before the first one or as behind the last one, and there are slots enough for both.
+pub fn patches_lead_to_their_tables()
+    ensures { (before after : Outside) (line : List ℕ) (memory table first second : List ℕ) →
+        KeepsPromise (Patch memory table) before after line 0 → before.remaining memory ≡ Some first → before.remaining table ≡ Some second →
+        Adds before after (IsPatchText first second) }
+{}
+
+/// What `apply` has written is the memory after the writes of the plan.
+pub fn applied_plans_are_written()
+    ensures { (before after : Outside) (line : List ℕ) (memory plan first second : List ℕ) →
+        KeepsPromise (Apply memory plan) before after line 0 → before.remaining memory ≡ Some first → before.remaining plan ≡ Some second →
+        Adds before after (IsAppliedText first second) }
+{}
+
+/// What `dump` has written is the table that stands in the memory that was read.
+pub fn dumped_tables_are_those_of_their_memories()
+    ensures { (before after : Outside) (line : List ℕ) (file text : List ℕ) →
+        KeepsPromise (Dump file) before after line 0 → before.remaining file ≡ Some text →
+        Adds before after (IsDumped text) }
 {}
 
 /// What `audit` has written is the state of each rule.

@@ -12,10 +12,11 @@
 //! - 1: likewise, and the answer is no: the least header on which two lists, or a list and a table, differ, or the
 //!   first wrong row of a certificate.
 //! - Every other status has its cause: the words are no command (2), the first bad line with its first reason (3), a
-//!   byte after a limit or more entries than the limit (4), a counted fault of a read (5) or of a write (6), out of
-//!   memory (7).
+//!   byte after a limit or more entries than the limit or the slots (4), a counted fault of a read (5) or of a write
+//!   (6), out of memory (7).
 //! - What is said on standard error is the line of the status, and a fault there changes nothing else. No input is
-//!   touched but those that the words name, and with 3, 4 and 5 none behind the one that ends the command.
+//!   touched but those that the words name, and with 3 to 7 none behind the one that ends the command. A trace is
+//!   answered while it is read: with 6 and 7 at most one piece of it was read past what was answered.
 //!
 //! Assumed where it speaks of bytes: the desk and the output tell theirs, which those of the system don't. Left free:
 //! when memory is out, and how short a table is beyond its bounds.
@@ -24,7 +25,7 @@
 //! |---|---|
 //! | `top` | the call, and what it promises |
 //! | `commands` | what each command does, a file a command |
-//! | `taking`, `texts` | taking the turn of an input that is read whole: lists, tables and scripts |
+//! | `taking`, `texts` | taking the turn of an input that is read whole: lists, tables, scripts, memories and plans |
 //! | `ending`, `line_reason` | how a command ends, and its status |
 //! | `message`, `reason` | the line that is said of an ending |
 //! | `laws` | what status 0 of each command means over bytes |

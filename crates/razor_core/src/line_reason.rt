@@ -2,6 +2,7 @@
 use bank_update::ScriptReason;
 use edit_session::SessionReason;
 use filter_reader::Reason;
+use memory_text::SlotReason;
 use table_text::TableReason;
 use trace_run::TraceReason;
 
@@ -15,4 +16,9 @@ pub enum LineReason {
     OfScript(ScriptReason),
     OfSession(SessionReason),
     OfTrace(TraceReason),
+    OfSlots(SlotReason),
+    /// The slots of a table or a plan have another width than those of the memory.
+    SlotWidth,
+    /// A plan is for another number of slots than the memory has.
+    SlotCount,
 }

@@ -1,11 +1,12 @@
 //! What is wrong with a line of an input, in words.
 ghost use Rattle.std.specs.Prelude.{◌≡◌, [], MatchOption};
-ghost use Rattle.razor_core.specs.Reasons.{counts_text, list_reason_text, reason_text, script_reason_text, session_reason_text, table_counts_text, table_reason_text, trace_reason_text, two_counts};
+ghost use Rattle.razor_core.specs.Reasons.{counts_text, list_reason_text, reason_text, script_reason_text, session_reason_text, slot_counts_text, slot_reason_text, table_counts_text, table_reason_text, trace_reason_text, two_counts};
 
 use crate::line_reason::LineReason;
 use bank_update::ScriptReason;
 use edit_session::SessionReason;
 use filter_reader::Reason;
+use memory_text::SlotReason;
 use table_text::TableReason;
 use trace_run::TraceReason;
 
@@ -20,20 +21,26 @@ pub fn reason_words(reason: LineReason) -> &'static str
         LineReason::OfScript(reason) => script_words(reason),
         LineReason::OfSession(reason) => session_words(reason),
         LineReason::OfTrace(reason) => trace_words(reason),
+        LineReason::OfSlots(reason) => slot_words(reason),
+        LineReason::SlotWidth => "slot width",
+        LineReason::SlotCount => "slots",
     }
 }
 
-/// How many entries a table states and how many were found, where that is what is wrong.
+/// How many lines a table, a memory or a plan states and how many were found, where that is what is wrong.
 pub fn counts(reason: LineReason) -> Option<(u32, u64)>
     ensures { MatchOption result (counts_text reason ≡ []) (λ counts. counts_text reason ≡ two_counts counts.0 counts.1) }
 {
     match reason {
         LineReason::OfList(_)
         | LineReason::NotPrefix
+        | LineReason::SlotWidth
+        | LineReason::SlotCount
         | LineReason::OfScript(_)
         | LineReason::OfSession(_)
         | LineReason::OfTrace(_) => None,
         LineReason::OfTable(reason) => table_counts(reason),
+        LineReason::OfSlots(reason) => slot_counts(reason),
     }
 }
 
@@ -49,6 +56,28 @@ fn table_counts(reason: TableReason) -> Option<(u32, u64)>
         | TableReason::Decision
         | TableReason::FieldForm
         | TableReason::OutsideMask => None,
+    }
+}
+
+fn slot_counts(reason: SlotReason) -> Option<(u32, u64)>
+    ensures { MatchOption result (slot_counts_text reason ≡ []) (λ counts. slot_counts_text reason ≡ two_counts counts.0 counts.1) }
+{
+    match reason {
+        SlotReason::OfTable(reason) => table_counts(reason),
+        SlotReason::Writes { stated, found } => Some((stated, found)),
+        SlotReason::Slot | SlotReason::UnknownWrite => None,
+    }
+}
+
+/// What is wrong with a line of a memory or a plan, in words.
+fn slot_words(reason: SlotReason) -> &'static str
+    ensures { result.now ≡ slot_reason_text reason }
+{
+    match reason {
+        SlotReason::OfTable(reason) => table_words(reason),
+        SlotReason::Slot => "slot",
+        SlotReason::UnknownWrite => "unknown write",
+        SlotReason::Writes { .. } => "count of writes differs",
     }
 }
 

@@ -4,8 +4,8 @@ ghost use Rattle.razor_base.specs.declared.limits.TheConstants.{MOST_SCRIPT_BYTE
 ghost use Rattle.bank_update.specs.Script.{IsWithin};
 ghost use Rattle.edit_session.specs.SessionText.{is_add};
 ghost use Rattle.table_text.specs.Names.{is_name};
-ghost use Rattle.razor_core.specs.Inputs.{script_value, session_value, text_of_list, text_of_script, text_of_session, text_of_table};
-ghost use Rattle.razor_core.specs.Taking.{IsListRead, table_value_of, value_of};
+ghost use Rattle.razor_core.specs.Inputs.{script_value, session_value, text_of_list, text_of_memory, text_of_plan, text_of_script, text_of_session, text_of_table};
+ghost use Rattle.razor_core.specs.Taking.{IsListRead, memory_value_of, plan_value_of, table_value_of, value_of};
 
 use crate::ending::Ending;
 use crate::line_reason::LineReason;
@@ -13,6 +13,7 @@ use crate::taking::WholeText;
 use bank_update::{Script, ScriptError, read_script};
 use edit_session::{Session, SessionError, read_session};
 use filter_reader::{ListError, RuleList, read_list};
+use memory_text::{SlotError, SlotMemory, SlotPlan, read_memory, read_plan};
 use razor_base::limits::{MOST_LIST_BYTES, MOST_SCRIPT_BYTES, MOST_TABLE_BYTES};
 use std::alloc::Global;
 use table_text::{TableError, read_table};
@@ -31,6 +32,14 @@ pub struct TableText;
 pub struct ScriptText {
     pub tables: u32,
 }
+
+/// Memories.
+#[derive(Clone, Copy)]
+pub struct MemoryText;
+
+/// Plans of writes to memories.
+#[derive(Clone, Copy)]
+pub struct PlanText;
 
 /// Editing sessions.
 #[derive(Clone, Copy)]
@@ -114,6 +123,67 @@ impl WholeText for ScriptText {
                 reason: LineReason::OfScript(reason),
             }),
             Err(ScriptError::Memory) => Err(Ending::Memory),
+        }
+    }
+
+    ghost whole = { λ text bytes. refl };
+}
+
+impl WholeText for MemoryText {
+    type Spelled = SlotMemory;
+
+    ghost kind = { λ text. text_of_memory };
+
+    ghost value = { memory_value_of };
+
+    ghost holds = { λ text memory. Unit {0} };
+
+    fn most(&self) -> u64 {
+        MOST_TABLE_BYTES
+    }
+
+    fn read<'a>(
+        &self,
+        alloc: Global,
+        file: &'a str,
+        text: &[u8],
+    ) -> Result<SlotMemory, Ending<'a>> {
+        match read_memory(alloc, text) {
+            Ok(memory) => Ok(memory),
+            Err(SlotError::BadLine { line, reason }) => Err(Ending::BadLine {
+                file,
+                line,
+                reason: LineReason::OfSlots(reason),
+            }),
+            Err(SlotError::Memory) => Err(Ending::Memory),
+        }
+    }
+
+    ghost whole = { λ text bytes. refl };
+}
+
+impl WholeText for PlanText {
+    type Spelled = SlotPlan;
+
+    ghost kind = { λ text. text_of_plan };
+
+    ghost value = { plan_value_of };
+
+    ghost holds = { λ text plan. Unit {0} };
+
+    fn most(&self) -> u64 {
+        MOST_TABLE_BYTES
+    }
+
+    fn read<'a>(&self, alloc: Global, file: &'a str, text: &[u8]) -> Result<SlotPlan, Ending<'a>> {
+        match read_plan(alloc, text) {
+            Ok(plan) => Ok(plan),
+            Err(SlotError::BadLine { line, reason }) => Err(Ending::BadLine {
+                file,
+                line,
+                reason: LineReason::OfSlots(reason),
+            }),
+            Err(SlotError::Memory) => Err(Ending::Memory),
         }
     }
 

@@ -15,7 +15,7 @@ pub struct Step {
 }
 
 /// Every command.
-pub const STEPS: [Step; 21] = [
+pub const STEPS: [Step; 25] = [
     Step {
         words: &["shorten", "lab.list"],
         file: None,
@@ -65,6 +65,22 @@ pub const STEPS: [Step; 21] = [
     },
     Step {
         words: &["session", "--slots", "8", "edit.script", "office.list"],
+        file: None,
+    },
+    Step {
+        words: &["place", "--slots", "5", "lab.table"],
+        file: Some("lab.memory"),
+    },
+    Step {
+        words: &["patch", "lab.memory", "office.table"],
+        file: Some("office.plan"),
+    },
+    Step {
+        words: &["apply", "lab.memory", "office.plan"],
+        file: Some("office.memory"),
+    },
+    Step {
+        words: &["dump", "office.memory"],
         file: None,
     },
     Step {

@@ -21,8 +21,20 @@ const ANY_TCP_COMPILED: &[u8] =
 const NET_COMPILED: &[u8] =
     b"table 2 slot 144 composed 3 entries 2\n00000000/00000000 0A000000/FF000000 0000/0000 0000/0000 06/FF accept\n00000000/00000000 00000000/00000000 0000/0000 0000/0000 00/00 deny\n";
 
+/// The table of two entries in four slots.
+const UDP_MEMORY: &[u8] =
+    b"memory 1 slots 4 width 144 entries 2\n2 00000000/00000000 00000000/00000000 0000/0000 0000/0000 11/FF accept\n4 00000000/00000000 00000000/00000000 0000/0000 0000/0000 00/00 deny\n";
+
+/// The writes from there to the table of the one rule.
+const TO_ANY_TCP: &[u8] =
+    b"plan 1 slots 4 width 144 writes 3\nset 1 00000000/00000000 00000000/00000000 0000/0000 0000/0000 06/FF accept\nclear 4\nclear 2\n";
+
+/// The slots behind these writes.
+const ANY_TCP_MEMORY: &[u8] =
+    b"memory 1 slots 4 width 144 entries 1\n1 00000000/00000000 00000000/00000000 0000/0000 0000/0000 06/FF accept\n";
+
 /// Calls the program with the words over the texts under the names `a`, `b` and `c`.
-fn call(alloc: Global, words: &[&str], texts: [&[u8]; 3]) -> Result<Outcome, Fail> {
+pub(super) fn call(alloc: Global, words: &[&str], texts: [&[u8]; 3]) -> Result<Outcome, Fail> {
     let mut all = Words::new(alloc);
     for word in words {
         all.push(word)?;
@@ -128,4 +140,28 @@ fn trace(rt: HostRuntime) -> Result<(), Fail> {
         b"accept\n",
         ROOM,
     )
+}
+
+#[test]
+fn place(rt: HostRuntime) -> Result<(), Fail> {
+    let words = ["place", "--slots", "4", "a"];
+    ends_so(&rt, &words, [UDP_TABLE, b"", b""], UDP_MEMORY, 0)
+}
+
+#[test]
+fn patch(rt: HostRuntime) -> Result<(), Fail> {
+    let texts = [UDP_MEMORY, ANY_TCP_TABLE, b""];
+    ends_so(&rt, &["patch", "a", "b"], texts, TO_ANY_TCP, 0)
+}
+
+#[test]
+fn apply(rt: HostRuntime) -> Result<(), Fail> {
+    let texts = [UDP_MEMORY, TO_ANY_TCP, b""];
+    ends_so(&rt, &["apply", "a", "b"], texts, ANY_TCP_MEMORY, 0)
+}
+
+#[test]
+fn dump(rt: HostRuntime) -> Result<(), Fail> {
+    let texts = [UDP_MEMORY, b"", b""];
+    ends_so(&rt, &["dump", "a"], texts, UDP_TABLE, 0)
 }

@@ -17,4 +17,4 @@ returns g c = λ remaining read_faults.
     cut_off_ends (Gen drawing.seed drawing.rules)
     (record { remaining = remaining; read_faults = read_faults; written = before; write_faults = g.K.Sink.faults c.args.out.now })
     (record { remaining = remaining; read_faults = read_faults; written = after; write_faults = g.K.Sink.faults c.write_list.new.out })
-    [] (record { yes = true; text = list_text (generated drawing.seed drawing.rules).rules; line = [] }) tt (inl (λ stop later. later)) refl c.in-Err-write_list.ensures.written.failed written
+    (λ cut. cut) [] (record { yes = true; text = list_text (generated drawing.seed drawing.rules).rules; line = [] }) tt (inl (λ stop later. later)) refl c.in-Err-write_list.ensures.written.failed written

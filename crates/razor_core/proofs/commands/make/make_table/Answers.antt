@@ -68,6 +68,6 @@ returns-clause-ends g c =
     let table = table_of c.in-Ok-make_by.made.table in
     let text : IsTextOf table (table_text table) = record { written = refl; spells = table-read c.in-Ok-make_by.made.table (subst AreSpelled (sym c.in-Ok-make_by.ensures.names) c.in-Ok.ensures.holds.spelled) } in
     let made : Outcome = record { yes = true; text = table_text table; line = made_line (method_seen c.args.method) order (length (filter_list c.in-Ok.list).rules) c.in-Ok.list.flagged } in
-    cut_off_ends command before after (value ∷ []) made (passed_taken (list_input file) (before.remaining file) (after.remaining file) value c.in-Ok.ensures.turn, tt)
+    cut_off_ends command before after (λ cut. cut) (value ∷ []) made (passed_taken (list_input file) (before.remaining file) (after.remaining file) value c.in-Ok.ensures.turn, tt)
     (or_in_turn (make_free (method_seen c.args.method) (sizes_of c.args.sizes) file (filter_list c.in-Ok.list) c.in-Ok-make_by.ensures.room))
     (record { order = order; is_order = c.in-Ok-make_by.ensures.made.0; table = table; meets = c.in-Ok-make_by.ensures.made.1; yes = refl; text = text; line = refl }) c.in-Err-write_table.ensures.failed c.in-Err-write_table.ensures.err

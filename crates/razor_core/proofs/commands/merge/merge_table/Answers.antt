@@ -45,7 +45,7 @@ returns-clause-ends g c =
     let table = table_of c.in-Ok-merged.table in
     let text : IsTextOf table (table_text table) = record { written = refl; spells = table-read c.in-Ok-merged.table (subst AreSpelled (sym c.in-Ok-merged.ensures.names) c.in-Ok.ensures.holds) } in
     let outcome : Outcome = record { yes = true; text = table_text table; line = [] } in
-    cut_off_ends (Merge file) before after (value ∷ []) outcome (passed_taken (table_input file) (before.remaining file) (after.remaining file) value c.in-Ok.ensures.turn, tt) (inl (λ stop later. later)) (table, c.in-Ok-merged.ensures.merged, text, refl, refl)
+    cut_off_ends (Merge file) before after (λ cut. cut) (value ∷ []) outcome (passed_taken (table_input file) (before.remaining file) (after.remaining file) value c.in-Ok.ensures.turn, tt) (inl (λ stop later. later)) (table, c.in-Ok-merged.ensures.merged, text, refl, refl)
     c.in-Err-write_table.ensures.failed c.in-Err-write_table.ensures.err
 
 pub returns-in-Err-merged-clause-ends : goal.returns-in-Err-merged-clause-ends

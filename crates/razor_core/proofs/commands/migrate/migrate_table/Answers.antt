@@ -44,5 +44,5 @@ returns-clause-ends g c =
     let table = table_of c.in-Ok.table in
     let text : IsTextOf table (table_text table) = record { written = refl; spells = table-read c.in-Ok.table c.in-Ok.ensures.holds } in
     let outcome : Outcome = record { yes = true; text = table_text table; line = [] } in
-    cut_off_ends (Migrate file) before after (value ∷ []) outcome (passed_taken (table_input file) (before.remaining file) (after.remaining file) value c.in-Ok.ensures.turn, tt) (inl (λ stop later. later)) (text, refl, refl)
+    cut_off_ends (Migrate file) before after (λ cut. cut) (value ∷ []) outcome (passed_taken (table_input file) (before.remaining file) (after.remaining file) value c.in-Ok.ensures.turn, tt) (inl (λ stop later. later)) (text, refl, refl)
     c.in-Err-write_table.ensures.failed c.in-Err-write_table.ensures.err

@@ -36,4 +36,5 @@ returns-clause-ends g c =
       read = λ tells. (read_taken (list_input file) (before.remaining file) (after.remaining file) value taken tells.0, tt);
       line = refl;
       short = λ keeps. keeps;
+      broken = λ cut. cut;
     }) c.answer_question.result c.answer_question.ensures

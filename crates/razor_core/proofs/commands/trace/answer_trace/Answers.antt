@@ -6,7 +6,7 @@ use Rattle.ternary_words.specs.Views.{table_of}
 use Rattle.razor_core.specs.Inputs.{table_input, trace_input}
 use Rattle.razor_core.specs.Outside.{seen}
 use Rattle.razor_core.specs.Taking.{table_value_of}
-use Rattle.razor_core.proofs.TraceEnding.{Ran, loaded_answers, run_ends}
+use Rattle.razor_core.proofs.TraceEnding.{Ran, loaded_answers, run_ends, unread}
 use Rattle.razor_core.proofs.Ended.{turn_ends}
 use Rattle.razor_core.proofs.Turns.{kept, taken_before}
 use Rattle.razor_core.proofs.commands.trace.answer_trace.Goals as goal
@@ -24,7 +24,7 @@ returns-in-Err-clause-ends g c =
       keeps = still;
       cut = λ file e tells. record { in_table = λ same. still; in_trace = λ same. absurd (c.args.files.apart (sym e ∙ same)) };
       calm = refl;
-      short = λ tells. inl still;
+      short = λ tells. (inl still, unread table trace before after still (c.in-Err.ensures.others trace (λ e. c.args.files.apart (sym e))));
     }) c.in-Err.ensures.turn
 
 pub returns-clause-ends : goal.returns-clause-ends
@@ -49,6 +49,7 @@ returns-clause-ends g c =
       write_fault = c.run-ended.ensures.write_fault;
       calm = c.run-ended.ensures.calm;
       near = c.run-ended.ensures.near;
+      paced = c.run-ended.ensures.paced;
     } in
     run_ends table trace before after (table_of code) (runs.answers_text code.names (slots_of bank)) (between trace) (g.D.Desk.faults c.take.new.desk trace) c.run-ended.result c.run_ended.result ran c.run_ended.ensures
 
@@ -58,4 +59,6 @@ returns-in-Err-loaded-clause-ends g c =
     let trace = c.args.files.second.now in
     let before = seen g.D.Desk.remaining g.D.Desk.faults g.K.Sink.written g.K.Sink.faults c.args.desk.now c.args.out.now in
     let after = seen g.D.Desk.remaining g.D.Desk.faults g.K.Sink.written g.K.Sink.faults c.take.new.desk c.args.out.now in
-    (refl, (λ tells. inl (kept (g.K.Sink.written c.args.out.now))), inl (c.in-Ok.ensures.others trace (λ e. c.args.files.apart (sym e)), tt))
+    let still = kept (g.K.Sink.written c.args.out.now) in
+    let unmoved = c.in-Ok.ensures.others trace (λ e. c.args.files.apart (sym e)) in
+    (refl, (λ tells. (inl still, unread table trace before after still unmoved)), inl (unmoved, tt))

@@ -55,7 +55,7 @@ returns-clause-ends g c =
     let table = table_of c.in-Ok-trimmed.table in
     let text : IsTextOf table (table_text table) = record { written = refl; spells = table-read c.in-Ok-trimmed.table (subst AreSpelled (sym c.in-Ok-trimmed.ensures.names) c.in-Ok.ensures.holds) } in
     let outcome : Outcome = record { yes = true; text = table_text table; line = [] } in
-    cut_off_ends (Trim file) before after (value ∷ []) outcome (passed_taken (table_input file) (before.remaining file) (after.remaining file) value c.in-Ok.ensures.turn, tt) (inl (free file before after c.in-Ok.table c.in-Ok.ensures.turn (rw c.deref.ensures.value at c.in_default.ensures))) (table, c.in-Ok-trimmed.ensures.trimmed, text, refl, refl)
+    cut_off_ends (Trim file) before after (λ cut. cut) (value ∷ []) outcome (passed_taken (table_input file) (before.remaining file) (after.remaining file) value c.in-Ok.ensures.turn, tt) (inl (free file before after c.in-Ok.table c.in-Ok.ensures.turn (rw c.deref.ensures.value at c.in_default.ensures))) (table, c.in-Ok-trimmed.ensures.trimmed, text, refl, refl)
     c.in-Err-write_table.ensures.failed c.in-Err-write_table.ensures.err
 
 pub returns-in-Err-trimmed-clause-ends : goal.returns-in-Err-trimmed-clause-ends

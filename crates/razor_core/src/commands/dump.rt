@@ -1,0 +1,41 @@
+//! `dump`: the table that stands in a memory.
+ghost use Rattle.std.specs.Prelude.{◌≡◌, ◌≢◌, ℕ, List};
+ghost use Rattle.std.specs.Io.KnownBytes.{Keeps};
+ghost use Rattle.command_words.specs.Command.{Dump};
+ghost use Rattle.razor_core.specs.Ending.{Ends};
+ghost use Rattle.razor_core.specs.Outside.{seen};
+
+use crate::ending::{Ending, Summary};
+use crate::taking::take;
+use crate::texts::MemoryText;
+use memory_text::table_in;
+use razor_base::{Desk, Sink};
+use std::alloc::Global;
+use ternary_words::write_table;
+
+/// Writes the table that stands in a memory.
+pub fn dump_memory<'a, D: Desk, K: Sink>(
+    alloc: Global,
+    file: &'a str,
+    desk: &mut D,
+    out: &mut K,
+) -> Ending<'a>
+    ensures ends { Ends (Dump file.now)
+        (seen D.remaining D.faults K.written K.faults desk.old out.old)
+        (seen D.remaining D.faults K.written K.faults desk.new out.new)
+        result }
+    ensures others { (other : List ℕ) → other ≢ file.now → Keeps (D.remaining desk.old other) (D.remaining desk.new other) }
+{
+    let memory = match take(alloc, &MemoryText, file, desk) {
+        Ok(memory) => memory,
+        Err(ending) => return ending,
+    };
+    let table = match table_in(alloc, &memory) {
+        Ok(table) => table,
+        Err(_) => return Ending::Memory,
+    };
+    match write_table(&table, out) {
+        Ok(()) => Ending::Done(Summary::Nothing),
+        Err(_) => Ending::WriteFault,
+    }
+}

@@ -1,0 +1,60 @@
+//! `patch`: a plan that leads from a memory to a table.
+ghost use Rattle.std.specs.Prelude.{◌≡◌, ◌≢◌, ℕ, List};
+ghost use Rattle.std.specs.Io.KnownBytes.{Keeps};
+ghost use Rattle.command_words.specs.Command.{Patch};
+ghost use Rattle.razor_core.specs.Ending.{Ends};
+ghost use Rattle.razor_core.specs.Outside.{seen};
+
+use crate::ending::{Ending, Summary};
+use crate::line_reason::LineReason;
+use crate::taking::take;
+use crate::texts::{MemoryText, TableText};
+use command_words::TwoFiles;
+use memory_text::{Patched, patch, write_plan};
+use razor_base::{Desk, Sink};
+use std::alloc::Global;
+
+/// Writes a plan that leads from a memory to a table, with each header answered as before or as behind between any two writes.
+pub fn plan_patch<'a, D: Desk, K: Sink>(
+    alloc: Global,
+    files: TwoFiles<'a>,
+    desk: &mut D,
+    out: &mut K,
+) -> Ending<'a>
+    ensures ends { Ends (Patch files.entry.first.now files.entry.second.now)
+        (seen D.remaining D.faults K.written K.faults desk.old out.old)
+        (seen D.remaining D.faults K.written K.faults desk.new out.new)
+        result }
+    ensures others { (other : List ℕ) → other ≢ files.entry.first.now → other ≢ files.entry.second.now → Keeps (D.remaining desk.old other) (D.remaining desk.new other) }
+{
+    let memory = match take(alloc, &MemoryText, files.first, desk) {
+        Ok(memory) => memory,
+        Err(ending) => return ending,
+    };
+    let table = match take(alloc, &TableText, files.second, desk) {
+        Ok(table) => table,
+        Err(ending) => return ending,
+    };
+    if table.slot != memory.width {
+        return Ending::BadLine {
+            file: files.second,
+            line: 1,
+            reason: LineReason::SlotWidth,
+        };
+    }
+    let limit = memory.slots.len() as u32;
+    let plan = match patch(alloc, memory, &table) {
+        Ok(Patched::Ready(plan)) => plan,
+        Ok(Patched::NoRoom(needed)) => {
+            return Ending::TooMany {
+                needed: u128::from(needed),
+                limit,
+            };
+        }
+        Err(_) => return Ending::Memory,
+    };
+    match write_plan(&plan, out) {
+        Ok(()) => Ending::Done(Summary::Nothing),
+        Err(_) => Ending::WriteFault,
+    }
+}

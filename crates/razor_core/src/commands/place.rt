@@ -1,0 +1,48 @@
+//! `place`: a memory in which a table stands.
+ghost use Rattle.std.specs.Prelude.{◌≡◌, ◌≢◌, ℕ, List};
+ghost use Rattle.std.specs.Io.KnownBytes.{Keeps};
+ghost use Rattle.command_words.specs.Command.{Place};
+ghost use Rattle.razor_core.specs.Ending.{Ends};
+ghost use Rattle.razor_core.specs.Outside.{seen};
+
+use crate::ending::{Ending, Summary};
+use crate::taking::take;
+use crate::texts::TableText;
+use command_words::Slots;
+use memory_text::{spread, write_memory};
+use razor_base::{Desk, Sink};
+use std::alloc::Global;
+
+/// Writes a memory of so many slots in which a table stands in order, evenly.
+pub fn place_table<'a, D: Desk, K: Sink>(
+    alloc: Global,
+    slots: Slots,
+    file: &'a str,
+    desk: &mut D,
+    out: &mut K,
+) -> Ending<'a>
+    ensures ends { Ends (Place slots.count file.now)
+        (seen D.remaining D.faults K.written K.faults desk.old out.old)
+        (seen D.remaining D.faults K.written K.faults desk.new out.new)
+        result }
+    ensures others { (other : List ℕ) → other ≢ file.now → Keeps (D.remaining desk.old other) (D.remaining desk.new other) }
+{
+    let table = match take(alloc, &TableText, file, desk) {
+        Ok(table) => table,
+        Err(ending) => return ending,
+    };
+    if table.entries.len() > slots.count as usize {
+        return Ending::TooMany {
+            needed: table.entries.len() as u128,
+            limit: slots.count,
+        };
+    }
+    let memory = match spread(alloc, slots.count, &table) {
+        Ok(memory) => memory,
+        Err(_) => return Ending::Memory,
+    };
+    match write_memory(&memory, out) {
+        Ok(()) => Ending::Done(Summary::Nothing),
+        Err(_) => Ending::WriteFault,
+    }
+}
