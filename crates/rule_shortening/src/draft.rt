@@ -6,6 +6,7 @@ ghost use Rattle.razor_base.specs.declared.limits.TheConstants.{MOST_RULES};
 ghost use Rattle.rule_shortening.specs.Drafts.{AreAsShort, AreFor};
 
 use crate::checked::checked;
+use crate::laying::Laying;
 use field_boxes::{Decisions, Rule};
 use razor_base::Memory;
 use razor_base::limits::MOST_ENTRIES;
@@ -13,11 +14,7 @@ use rule_expansion::laws::{decided_words_are_entries, decided_words_are_prefixes
 use rule_expansion::{entry_count, expanded_entries};
 use std::alloc::Global;
 use std::mem::replace;
-use table_search::shorten_front;
 use ternary_words::Entry;
-
-/// Entries of one rule above which they are shortened before the next rule comes.
-const MANY: u128 = 300;
 
 /// Entries that stand for the rules from the place `first` on.
 #[derive(Drop)]
@@ -31,14 +28,6 @@ fn has_room(rules: &[Rule], behind: usize) -> bool
     requires { length rules.now ≤ MOST_RULES }
 {
     entry_count(rules).saturating_add(behind as u128) <= u128::from(MOST_ENTRIES)
-}
-
-/// How many entries the rules have, of so many.
-fn first_count(rules: &[Rule], all: usize) -> usize
-    requires { length rules.now ≤ MOST_RULES }
-    ensures { result ≤ all }
-{
-    usize::try_from(entry_count(rules)).unwrap_or(all).min(all)
 }
 
 /// The entries of the rules, in front of those behind them.
@@ -59,18 +48,18 @@ pub(crate) fn in_front(
     Ok(entries)
 }
 
-/// The table with its first entries, so many, shortened at once, if that is seen to answer alike.
-fn front_shortened(
+/// The table, which begins with the entries of the rules, or these laid out in fewer, if that is seen to answer alike.
+fn begun_shorter(
     alloc: Global,
     table: Vec<Entry>,
-    front: usize,
+    rules: &[Rule],
+    behind: &[Entry],
     names: &Decisions,
+    laying: &mut Laying,
 ) -> Result<Vec<Entry>, Memory>
-    requires { front ≤ vec_len table }
     ensures { IfOk result (λ kept. AreAsShort (length names.now) table.items kept.items) }
 {
-    let entries = table.as_slice();
-    let new = shorten_front(alloc, &entries[..front], &entries[front..])?;
+    let new = laying.next(rules, behind)?;
     checked(alloc, table, new, names.count())
 }
 
@@ -91,14 +80,15 @@ impl Draft {
         }
     }
 
-    /// Takes in the rules from the place on, if the first of them has many entries, which are shortened at once. It takes nothing
-    /// in, and says no, where more than 262,144 entries would stand there.
+    /// Takes in the rules from the place on, if that is due, and lays them out in few entries. It takes nothing in, and says
+    /// no, where more than 262,144 entries would stand there.
     fn take_in(
         &mut self,
         alloc: Global,
         rules: &[Rule],
         names: &Decisions,
         place: usize,
+        laying: &mut Laying,
     ) -> Result<bool, Memory>
         requires few { length rules.now ≤ MOST_RULES }
         requires place { place < length rules.now }
@@ -106,7 +96,7 @@ impl Draft {
         requires draft { IsDraftOf (length names.now) rules.now self.old }
         ensures { IfOk result (λ done. IsDraftOf (length names.now) rules.now self.new) }
     {
-        if place >= self.first || !is_wide(&rules[place]) {
+        if place >= self.first || !laying.is_due(&rules[place], place) {
             return Ok(true);
         }
         let taken = &rules[place..self.first];
@@ -114,8 +104,7 @@ impl Draft {
             return Ok(false);
         }
         let table = in_front(alloc, taken, names, self.entries.as_slice())?;
-        let front = first_count(&rules[place..place + 1], table.len());
-        self.entries = front_shortened(alloc, table, front, names)?;
+        self.entries = begun_shorter(alloc, table, taken, self.entries.as_slice(), names, laying)?;
         self.first = place;
         Ok(true)
     }
@@ -126,6 +115,7 @@ pub(crate) fn drafted(
     alloc: Global,
     rules: &[Rule],
     names: &Decisions,
+    laying: &mut Laying,
 ) -> Result<Option<Vec<Entry>>, Memory>
     requires few { length rules.now ≤ MOST_RULES }
     requires numbered { All (IsNumberedBy names.now) rules.now }
@@ -133,7 +123,7 @@ pub(crate) fn drafted(
 {
     let mut draft = Draft::new(alloc, rules.len());
     for later in 0..rules.len() {
-        if !draft.take_in(alloc, rules, names, rules.len() - 1 - later)? {
+        if !draft.take_in(alloc, rules, names, rules.len() - 1 - later, laying)? {
             return Ok(None);
         }
     }
@@ -142,9 +132,4 @@ pub(crate) fn drafted(
         return Ok(None);
     }
     Ok(Some(in_front(alloc, taken, names, draft.entries.as_slice())?))
-}
-
-/// Whether the rule has many entries.
-fn is_wide(rule: &Rule) -> bool {
-    entry_count(&[*rule]) > MANY
 }

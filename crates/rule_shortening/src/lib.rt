@@ -20,19 +20,21 @@
 //!   says the lesser number.
 //! - [`trim`] gives a part of a table that answers every header alike and is irredundant.
 //!
-//! Left free: how short the table is. A rule with many entries (a wide range on both ports has 900) is shortened at
-//! once, in front of the entries of the rules behind it, so a list whose direct expansion is far above the limit mostly
-//! gets its table all the same; that is measured, and not proved.
+//! Left free: how short the table is. Rules with many entries (a wide range on both ports has 900) are laid out in few,
+//! some rules at a time, in front of the entries of the rules behind them, so a list whose direct expansion is far above
+//! the limit mostly gets its table all the same; that is measured, and not proved.
 //!
 //! | Room | Holds |
 //! |---|---|
 //! | `shortening`, `ordered`, `refusal` | the calls, and why rules have no short table |
-//! | `draft`, `searching`, `checked` | entries for the last rules of a list, the search, and what it found, compared |
+//! | `draft`, `laying` | entries for the last rules of a list, and rules laid out in few |
+//! | `searching`, `checked` | the search, and what it found, compared |
 //! | `trimming` | tables without their redundant entries |
 #![tactic(auto)]
 
 mod checked;
 mod draft;
+mod laying;
 mod ordered;
 mod refusal;
 mod searching;

@@ -11,13 +11,18 @@ use ternary_words::Entry;
 /// Rounds of the search at most.
 const ROUNDS: u32 = 64;
 
-/// The shortest table that the search finds and covers show to answer alike.
+/// The shortest table that the search finds from `start` on and covers show to answer as the table does.
 ///
 /// Tables are checked from the last one on, so mostly one is.
-pub(crate) fn searched(alloc: Global, table: Vec<Entry>, count: u32) -> Result<Vec<Entry>, Memory>
+pub(crate) fn searched(
+    alloc: Global,
+    table: Vec<Entry>,
+    start: &[Entry],
+    count: u32,
+) -> Result<Vec<Entry>, Memory>
     ensures { IfOk result (λ kept. AreAsShort count table.items kept.items) }
 {
-    let mut found = found(alloc, table.as_slice())?;
+    let mut found = found(alloc, start)?;
     for _ in 0..ROUNDS {
         let Some(new) = found.pop() else {
             return Ok(table);
@@ -29,7 +34,7 @@ pub(crate) fn searched(alloc: Global, table: Vec<Entry>, count: u32) -> Result<V
     Ok(table)
 }
 
-/// The tables that the search finds, one a round, each as short as the one before or shorter.
+/// The tables that the search finds from this one on, one a round, each as short as the one before or shorter.
 fn found(alloc: Global, table: &[Entry]) -> Result<Vec<Vec<Entry>>, Memory> {
     let mut search = Shortening::new(alloc, table)?;
     let mut found = Vec::new(alloc);

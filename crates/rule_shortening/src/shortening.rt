@@ -10,6 +10,7 @@ ghost use Rattle.rule_shortening.specs.Drafts.{AreFor, AreShortFor};
 ghost use Rattle.rule_shortening.specs.Shortened.{IsRefused, IsShortTable};
 
 use crate::draft::{drafted, in_front};
+use crate::laying::Laying;
 use crate::refusal::ShortenError;
 use crate::searching::searched;
 use crate::trimming::trim;
@@ -70,11 +71,13 @@ fn short_entries(
         (limit < expanded_count (map rule_of rules.now))
         (λ entries. AreShortFor (length names.now) rules.now entries.items)) }
 {
-    let Some(entries) = begun(alloc, rules, names, limit)? else {
+    let mut laying = Laying::new(alloc, rules)?;
+    let Some(entries) = begun(alloc, rules, names, limit, &mut laying)? else {
         return Ok(None);
     };
     parts();
-    let entries = searched(alloc, entries, names.count())?;
+    let start = laying.all(rules)?;
+    let entries = searched(alloc, entries, start.as_slice(), names.count())?;
     Ok(Some(trim(alloc, entries)?))
 }
 
@@ -84,6 +87,7 @@ fn begun(
     rules: &[Rule],
     names: &Decisions,
     limit: u32,
+    laying: &mut Laying,
 ) -> Result<Option<Vec<Entry>>, Memory>
     requires few { length rules.now ≤ MOST_RULES }
     requires numbered { All (IsNumberedBy names.now) rules.now }
@@ -91,7 +95,7 @@ fn begun(
         (limit < expanded_count (map rule_of rules.now))
         (λ entries. AreFor (length names.now) rules.now entries.items)) }
 {
-    if let Some(entries) = drafted(alloc, rules, names)? {
+    if let Some(entries) = drafted(alloc, rules, names, laying)? {
         return Ok(Some(entries));
     }
     if entry_count(rules) > u128::from(limit) {

@@ -2,8 +2,8 @@
 //!
 //! [`Shortening`] holds a table and shortens it round by round. In a round each entry is widened where that makes
 //! others redundant, with exceptions put in front of it where it needs them. Where that gains little, entries are
-//! widened freely, the entries of small windows are arranged anew, and all are narrowed again. [`shorten_front`]
-//! shortens entries in front of others that stay as they are.
+//! widened freely, the entries of small windows are arranged anew, and all are narrowed again. [`Layout`] gives a table
+//! to begin with: rules with wide port ranges, whose entries are hundreds, have few rows in it.
 //!
 //! ```text
 //! let mut shortening = Shortening::new(alloc, &entries)?;
@@ -21,7 +21,8 @@
 //!
 //! | Room | Holds |
 //! |---|---|
-//! | `rounds`, `front`, `search` | the search over a table, and in front of other entries |
+//! | `layout`, `strips`, `shapes`, `sides` | tables to begin with, rule by rule |
+//! | `rounds`, `search` | the search over a table |
 //! | `widening`, `candidates`, `judging`, `gaining`, `groups` | entries that are widened, and what is gained |
 //! | `exceptions`, `against`, `lifting` | what must stand in front of a wider cube |
 //! | `windows`, `hashes`, `known` | small windows arranged anew, and what was tried before |
@@ -33,20 +34,23 @@ mod candidates;
 mod draws;
 mod effort;
 mod exceptions;
-mod front;
 mod gaining;
 mod groups;
 mod hashes;
 mod judging;
 mod known;
+mod layout;
 mod lifting;
 mod rounds;
 mod rows;
 mod search;
+mod shapes;
+mod sides;
+mod strips;
 #[cfg(test)]
 mod tests;
 mod widening;
 mod windows;
 
-pub use front::shorten_front;
+pub use layout::Layout;
 pub use rounds::Shortening;

@@ -1,4 +1,4 @@
-use crate::{Shortening, shorten_front};
+use crate::{Layout, Shortening};
 use entry_index::Cube;
 use field_boxes::Header;
 use razor_base::Memory;
@@ -142,8 +142,12 @@ fn keeps_what_stands_behind(rt: HostRuntime) -> Result<(), Fail> {
     let alloc = rt.alloc();
     let rest = [of_source(0x4000_0000, 0xc000_0000, 3), of_source(0, 0, 2)];
     let mut entries = middle(alloc)?;
-    let found = shorten_front(alloc, &entries, &rest)?;
+    let mut layout = Layout::new(alloc, &rest)?;
+    layout.put(&entries)?;
+    let found = layout.entries()?;
     entries.extend_from_slice(&rest)?;
+    assert!(rt; layout.has_strips());
+    assert_eq!(rt; layout.len(), found.len());
     assert!(rt; found.len() < 20);
     assert!(rt; found.as_slice().ends_with(&rest));
     assert!(rt; are_alike(&entries, &found));
@@ -154,6 +158,6 @@ fn keeps_what_stands_behind(rt: HostRuntime) -> Result<(), Fail> {
 fn takes_no_entries(rt: HostRuntime) -> Result<(), Fail> {
     let alloc = rt.alloc();
     assert!(rt; shortened(alloc, &[])?.is_empty());
-    assert!(rt; shorten_front(alloc, &[], &[])?.is_empty());
+    assert!(rt; Layout::new(alloc, &[])?.is_empty());
     Ok(())
 }

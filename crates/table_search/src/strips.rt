@@ -1,0 +1,147 @@
+//! Strips: parts of one port's values for which wide rules stand back.
+//!
+//! A rule that is widened holds too much in its strips. There rows in front of it give the answers of the rules behind it.
+
+use entry_index::{Cube, Row, Table, covered};
+use razor_base::Memory;
+use std::alloc::Global;
+
+/// Some values of one port, and the rows in front of all others that answer there what they match.
+#[derive(Drop)]
+pub(crate) struct Strip {
+    pub cube: Cube,
+    /// How many rules hold it too much.
+    pub users: usize,
+    /// Strips that some rule holds too much and not this one.
+    pub apart: Vec<Cube>,
+    /// The rows that came in front of the others, the last one first.
+    front: Vec<Row>,
+    others: Vec<Row>,
+}
+
+/// About how many rows a strip costs each of its rules.
+#[derive(Clone, Copy)]
+pub(crate) struct Cost {
+    pub strip: Cube,
+    pub rows: usize,
+}
+
+impl Strip {
+    /// No rows.
+    pub fn new(alloc: Global, cube: Cube, apart: Vec<Cube>) -> Strip {
+        Strip {
+            cube,
+            users: 0,
+            apart,
+            front: Vec::new(alloc),
+            others: Vec::new(alloc),
+        }
+    }
+
+    /// How many rows it has.
+    pub fn len(&self) -> usize {
+        self.front.len().saturating_add(self.others.len())
+    }
+
+    /// About how many rows it costs each of its rules.
+    pub fn cost(&self) -> Cost {
+        let rows = self.len();
+        Cost {
+            strip: self.cube,
+            rows: rows.checked_div(self.users).unwrap_or(rows),
+        }
+    }
+
+    /// Puts its rows behind the others.
+    pub fn put_rows(&self, rows: &mut Vec<Row>) -> Result<(), Memory> {
+        for row in self.front.iter().rev() {
+            rows.push(*row)?;
+        }
+        rows.extend_from_slice(&self.others)?;
+        Ok(())
+    }
+
+    /// Puts its rows that meet the cube, cut to it, behind the others.
+    pub fn put_cut(&self, rows: &mut Vec<Row>, cube: Cube) -> Result<(), Memory> {
+        for row in self.front.iter().rev() {
+            put_cut(rows, row, cube)?;
+        }
+        for row in &self.others {
+            put_cut(rows, row, cube)?;
+        }
+        Ok(())
+    }
+
+    /// Has a row that stands in front of the rules so far answer in the strip too, where it matters.
+    pub fn raise(&mut self, row: &Row) -> Result<(), Memory> {
+        if !row.cube.meets(self.cube) {
+            return Ok(());
+        }
+        let cube = row.cube.meet(self.cube);
+        if differs(&self.front, cube, row.decision) || differs(&self.others, cube, row.decision) {
+            self.front.push(Row { cube, ..*row })?;
+        }
+        Ok(())
+    }
+
+    /// Has the strip answer all of the cube, which lies in it; what isn't answered yet as these rows do.
+    pub fn close(
+        &mut self,
+        alloc: Global,
+        cube: Cube,
+        rows: &[Row],
+        scratch: &mut Vec<Cube>,
+    ) -> Result<(), Memory> {
+        let mut known = self.cubes(alloc, cube)?;
+        if covered(cube, &known, scratch)? {
+            return Ok(());
+        }
+        let mut all = Vec::new(alloc);
+        self.put_cut(&mut all, cube)?;
+        all.extend_from_slice(rows)?;
+        let mut table = Table::new(alloc, &all)?;
+        table.tight(true)?;
+        for row in &table.rows(alloc)? {
+            if !covered(row.cube, &known, scratch)? {
+                self.others.push(*row)?;
+                known.push(row.cube)?;
+            }
+        }
+        if !covered(cube, &known, scratch)? {
+            self.others.push(Row {
+                cube,
+                decision: 0,
+                fixed: false,
+            })?;
+        }
+        Ok(())
+    }
+
+    /// The cubes of its rows that meet the cube.
+    fn cubes(&self, alloc: Global, cube: Cube) -> Result<Vec<Cube>, Memory> {
+        let mut rows = Vec::new(alloc);
+        self.put_cut(&mut rows, cube)?;
+        let mut cubes = Vec::with_capacity(alloc, rows.len())?;
+        for row in &rows {
+            cubes.push(row.cube)?;
+        }
+        Ok(cubes)
+    }
+}
+
+/// Whether a row of another decision meets the cube.
+fn differs(rows: &[Row], cube: Cube, decision: u32) -> bool {
+    rows.iter()
+        .any(|row| row.decision != decision && row.cube.meets(cube))
+}
+
+/// Puts the row, cut to the cube, behind the others, where it meets it.
+pub(crate) fn put_cut(rows: &mut Vec<Row>, row: &Row, cube: Cube) -> Result<(), Memory> {
+    if row.cube.meets(cube) {
+        rows.push(Row {
+            cube: row.cube.meet(cube),
+            ..*row
+        })?;
+    }
+    Ok(())
+}
