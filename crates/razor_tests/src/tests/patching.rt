@@ -15,15 +15,36 @@ const NEW: &[u8] =
 /// The plan of one write that empties the slot.
 const CLEAR_NINE: &[u8] = b"plan 1 slots 8 width 144 writes 1\nclear 9\n";
 
+/// What comes of a call with the words over two texts, which ends well.
+fn made(
+    rt: &(impl Abort + AllocGlobal),
+    words: &[&str],
+    first: &[u8],
+    second: &[u8],
+) -> Result<Outcome, Fail> {
+    let outcome = call(rt.alloc(), words, [first, second, b""])?;
+    assert!(rt; outcome.status == 0);
+    Ok(outcome)
+}
+
 /// The table is placed in so many slots.
 fn placed(rt: &(impl Abort + AllocGlobal), slots: &str, table: &[u8]) -> Result<Outcome, Fail> {
-    let memory = call(
-        rt.alloc(),
-        &["place", "--slots", slots, "a"],
-        [table, b"", b""],
-    )?;
-    assert!(rt; memory.status == 0);
-    Ok(memory)
+    made(rt, &["place", "--slots", slots, "a"], table, b"")
+}
+
+/// The memory after the plan that leads to the new table.
+fn replaced(rt: &(impl Abort + AllocGlobal), memory: &[u8]) -> Result<Outcome, Fail> {
+    let plan = made(rt, &["patch", "a", "b"], memory, NEW)?;
+    made(rt, &["apply", "a", "b"], memory, plan.out.bytes())
+}
+
+/// In so many slots the new table stands behind the plan.
+fn check_led(rt: &(impl Abort + AllocGlobal), slots: &str) -> Result<(), Fail> {
+    let memory = placed(rt, slots, OLD)?;
+    let after = replaced(rt, memory.out.bytes())?;
+    let table = made(rt, &["dump", "a"], after.out.bytes(), b"")?;
+    assert!(rt; table.out.bytes() == NEW);
+    Ok(())
 }
 
 /// The call is refused with this line.
@@ -44,22 +65,7 @@ fn refuses(
 #[test]
 fn plans_lead_to_their_tables(rt: HostRuntime) -> Result<(), Fail> {
     for slots in ["3", "4", "5", "8"] {
-        let memory = placed(&rt, slots, OLD)?;
-        let plan = call(
-            rt.alloc(),
-            &["patch", "a", "b"],
-            [memory.out.bytes(), NEW, b""],
-        )?;
-        assert!(rt; plan.status == 0);
-        let after = call(
-            rt.alloc(),
-            &["apply", "a", "b"],
-            [memory.out.bytes(), plan.out.bytes(), b""],
-        )?;
-        assert!(rt; after.status == 0);
-        let table = call(rt.alloc(), &["dump", "a"], [after.out.bytes(), b"", b""])?;
-        assert!(rt; table.status == 0);
-        assert!(rt; table.out.bytes() == NEW);
+        check_led(&rt, slots)?;
     }
     Ok(())
 }
