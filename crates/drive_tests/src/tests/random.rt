@@ -96,18 +96,30 @@ impl Told {
     }
 }
 
-/// Runs a command over the swapper, and compares its line.
+/// The command, and the line that it should answer.
+fn next<R: Abort + AllocGlobal>(
+    rt: &R,
+    tables: &[Table],
+    expected: &mut Expected,
+    action: Action,
+) -> Result<Told, Fail> {
+    let text = action.text(rt.alloc())?;
+    let lines = answer(rt, tables, expected, action)?.text(rt.alloc())?;
+    Ok(Told { text, lines })
+}
+
+/// Runs a command over the swapper, compares its line, and puts both behind the others.
 fn turn<R: Abort + AllocGlobal>(
     rt: &R,
     tables: &[Table],
     swapper: &mut Swapper<FaultyBank>,
     expected: &mut Expected,
     action: Action,
-) -> Result<Told, Fail> {
-    let text = action.text(rt.alloc())?;
-    let lines = answer(rt, tables, expected, action)?.text(rt.alloc())?;
-    let _one = check(rt, tables, swapper, &text, &lines)?;
-    Ok(Told { text, lines })
+    all: &mut Told,
+) -> Result<(), Fail> {
+    let told = next(rt, tables, expected, action)?;
+    let _one = check(rt, tables, swapper, &told.text, &told.lines)?;
+    all.push(&told)
 }
 
 /// Compares what stands.
@@ -121,36 +133,58 @@ fn compare<R: Abort + AllocGlobal>(
     Ok(())
 }
 
-/// Runs random commands one by one, of whose writes these fail.
+/// Runs random commands one by one over the swapper, of whose writes these fail.
 fn play<R: Abort + AllocGlobal>(
+    rt: &R,
+    draw: &mut Draw,
+    tables: &[Table],
+    swapper: &mut Swapper<FaultyBank>,
+    failing: [u64; 4],
+    all: &mut Told,
+) -> Result<(), Fail> {
+    let mut expected = Expected::new(failing);
+    for _ in 0..COMMANDS {
+        turn(rt, tables, swapper, &mut expected, action(draw), all)?;
+        compare(rt, tables, swapper, &expected)?;
+    }
+    Ok(())
+}
+
+/// Random commands, run one by one, and their lines.
+fn played<R: Abort + AllocGlobal>(
     rt: &R,
     draw: &mut Draw,
     tables: &[Table],
     failing: [u64; 4],
 ) -> Result<Told, Fail> {
-    let mut told = Told {
+    let mut swapper = swapper(rt, rt.alloc(), SLOTS, failing)?;
+    let mut all = Told {
         text: String::new(rt.alloc()),
         lines: String::new(rt.alloc()),
     };
+    play(rt, draw, tables, &mut swapper, failing, &mut all)?;
+    Ok(all)
+}
+
+/// Runs all the commands as one script, of whose writes these fail.
+fn run_whole<R: Abort + AllocGlobal>(
+    rt: &R,
+    tables: &[Table],
+    failing: [u64; 4],
+    all: &Told,
+) -> Result<(), Fail> {
     let mut swapper = swapper(rt, rt.alloc(), SLOTS, failing)?;
-    let mut expected = Expected::new(failing);
-    for _ in 0..COMMANDS {
-        let next = turn(rt, tables, &mut swapper, &mut expected, action(draw))?;
-        compare(rt, tables, &swapper, &expected)?;
-        told.push(&next)?;
-    }
-    Ok(told)
+    let ran = check(rt, tables, &mut swapper, &all.text, &all.lines)?;
+    assert!(rt; ran == Some(COMMANDS));
+    Ok(())
 }
 
 /// A random script: command by command, and then as a whole.
 fn trial<R: Abort + AllocGlobal>(rt: &R, draw: &mut Draw) -> Result<(), Fail> {
     let tables = tables(rt, draw)?;
     let writes = failing(draw);
-    let told = play(rt, draw, &tables, writes)?;
-    let mut whole = swapper(rt, rt.alloc(), SLOTS, writes)?;
-    let ran = check(rt, &tables, &mut whole, &told.text, &told.lines)?;
-    assert!(rt; ran == Some(COMMANDS));
-    Ok(())
+    let all = played(rt, draw, &tables, writes)?;
+    run_whole(rt, &tables, writes, &all)
 }
 
 #[test]

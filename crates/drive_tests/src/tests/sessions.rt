@@ -64,17 +64,29 @@ fn compare(rt: &impl Abort, editor: &Editor<FaultyBank>, lists: &Lists) {
     }
 }
 
-/// A random session of fifty commands.
+/// Fifty random commands over the session, of whose writes these fail.
+fn play<R: Abort + AllocGlobal>(
+    rt: &R,
+    draw: &mut Draw,
+    editor: &mut Editor<FaultyBank>,
+    failing: [u64; 4],
+) -> Result<(), Fail> {
+    let mut lists = Lists::new(failing);
+    for _ in 0..50 {
+        let edit = drawn(draw, lists.list.count);
+        turn(rt, editor, &mut lists, edit)?;
+        compare(rt, editor, &lists);
+    }
+    Ok(())
+}
+
+/// A random session.
 fn trial<R: Abort + AllocGlobal>(rt: &R, draw: &mut Draw) -> Result<(), Fail> {
     let writes = failing(draw);
     let mut editor = editor(rt, SLOTS, LIMIT, writes, "")?;
-    let mut lists = Lists::new(writes);
-    for _ in 0..50 {
-        let edit = drawn(draw, lists.list.count);
-        turn(rt, &mut editor, &mut lists, edit)?;
-        compare(rt, &editor, &lists);
-    }
-    Ok(())
+    let played = play(rt, draw, &mut editor, writes);
+    drop(editor);
+    played
 }
 
 #[test]
