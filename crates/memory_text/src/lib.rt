@@ -9,6 +9,28 @@
 //! let plan = read_plan(alloc, b"plan 1 slots 8 width 144 writes 1\nclear 8\n")?;
 //! write_memory(&memory, out)?;
 //! ```
+//!
+//! What is promised:
+//!
+//! - [`read_memory`], [`read_plan`]: exactly the memory or the plan that the text spells, or exactly its first bad line with
+//!   its first reason, or that memory ran out.
+//! - [`write_memory`], [`write_plan`]: exactly the text, or at a failed write a front of it; [`laws`] says that this text
+//!   spells what was written.
+//! - [`SlotMemory::after`] is the memory after a plan's writes, in order, and [`table_in`] the table that stands in a memory:
+//!   its entries by rising slot.
+//! - [`spread`]: a memory in which a table stands in order, evenly.
+//! - [`patch`]: a plan that leads from a memory to a table, by name. After any number of its writes each header is answered as
+//!   by the memory or as by the table, a header with another answer than the memory's keeps it, and behind the last write the
+//!   table stands there. It comes exactly where there are as many slots as both need; else that number is said.
+//!
+//! | Room | Holds |
+//! |---|---|
+//! | `memory`, `plan`, `naming` | memories, plans, and the names of their decisions |
+//! | `reading`, `heading`, `line`, `draft`, `kind`, `error` | both texts read, and why one is refused |
+//! | `writing` | both texts written |
+//! | `spreading`, `standing` | a table that is put into a memory, and taken out of it |
+//! | `patching` | plans that lead to a table |
+//! | `laws` | what is written is read back |
 #![tactic(auto)]
 
 mod draft;

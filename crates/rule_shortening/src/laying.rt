@@ -4,11 +4,8 @@ use field_boxes::Rule;
 use razor_base::Memory;
 use rule_expansion::{entry_count, expanded_entries};
 use std::alloc::Global;
-use table_search::Layout;
+use table_search::{Layout, WIDE};
 use ternary_words::Entry;
-
-/// Entries of one rule above which it is wide.
-const MANY: u128 = 300;
 
 /// Entries of wide rules that are laid out at once, about.
 const AT_ONCE: u128 = 14_000;
@@ -44,7 +41,7 @@ impl Laying {
     /// entries, or no rule comes any more.
     pub fn is_due(&mut self, rule: &Rule, place: usize) -> bool {
         let count = entry_count(&[*rule]);
-        if count > MANY {
+        if count > WIDE as u128 {
             self.waiting = self.waiting.saturating_add(count);
         }
         let is_due = self.waiting >= AT_ONCE || place == 0 && self.waiting > 0;

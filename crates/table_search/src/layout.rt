@@ -13,7 +13,7 @@ use std::alloc::Global;
 use ternary_words::Entry;
 
 /// Entries of a rule above which it gets wider rows.
-const MANY: usize = 300;
+pub const WIDE: usize = 300;
 
 /// A table laid out from its last rule to its first.
 #[derive(Drop)]
@@ -77,7 +77,7 @@ impl Layout {
         for entry in entries {
             rows.push(row_of(entry))?;
         }
-        if rows.len() > MANY {
+        if rows.len() > WIDE {
             self.put_wide(&Shape::of(self.alloc, entries)?, &rows)
         } else {
             self.raise(&rows, &rows, &[])?;

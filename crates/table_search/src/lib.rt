@@ -52,5 +52,5 @@ mod tests;
 mod widening;
 mod windows;
 
-pub use layout::Layout;
+pub use layout::{Layout, WIDE};
 pub use rounds::Shortening;
