@@ -1,4 +1,4 @@
--- What a look-up's slot and entry are.
+-- What a lookup's slot and entry are.
 use Rattle.std.proofs.Common.{◌≡◌, ◌∷◌, ◌++◌, ℕ, suc, ◌+◌, ◌-◌, ◌≤◌, ◌<◌, Bool, true, false, cond, List, [], Option, Some, None, length, replicate, slice_get, refl, ap, sym, ◌∙◌, arith, add-one, take_all, subst}
 use Rattle.std.specs.Prelude.{find, position, option_map}
 use Rattle.std.specs.List.{position_from}

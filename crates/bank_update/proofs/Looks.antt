@@ -1,4 +1,4 @@
--- What a look-up finds in two blocks side by side.
+-- What a lookup finds in two blocks side by side.
 use Rattle.std.proofs.Common.{◌≡◌, ◌∷◌, ◌++◌, ℕ, zero, suc, ◌+◌, ◌-◌, ◌≤◌, Bool, true, false, cond, List, [], Option, Some, None, length, replicate, take, refl, ap, sym, ◌∙◌, arith}
 use Rattle.std.specs.Option.{option_or}
 use Rattle.bank_update.specs.Banks.{least_match, first_from}

@@ -1,4 +1,4 @@
--- Each look-up finds what the old table alone or the new one alone gives, and which of them.
+-- Each lookup finds what the old table alone or the new one alone gives, and which of them.
 use Rattle.std.proofs.Common.{◌≡◌, ◌∷◌, ℕ, zero, suc, ◌-◌, ◌≤◌, Bool, true, false, not, ◌&&◌, ◌||◌, cond, nat_le, List, [], Option, Some, None, length, take, refl, ap, sym, ◌∙◌, arith, true≢false, leb-true, leb-false, le-leb}
 use Rattle.std.specs.Option.{option_or}
 use Rattle.std.specs.List.{list_any}

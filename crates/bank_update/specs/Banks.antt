@@ -1,4 +1,4 @@
--- Banks, and what a look-up in one gives.
+-- Banks, and what a lookup in one gives.
 use Rattle.std.specs.Prelude.{ℕ, suc, ◌-◌, Bool, false, cond, List, [], ◌∷◌, ◌++◌, map, length, replicate, Option, Some, None}
 
 -- the least slot whose entry passes, with the entry; the slots are counted from a number on

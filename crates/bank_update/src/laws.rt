@@ -12,7 +12,7 @@ ghost use Rattle.bank_update.specs.Runs.{IsRun, session, session_end};
 ghost use Rattle.bank_update.specs.Script.{Event};
 ghost use Rattle.bank_update.specs.Writes.{IsBeside, Layout, bank_after, erased, new_put, old_left, target, turned, write_count};
 
-/// What a look-up finds after so many writes: the first match among what is left and what stands, the upper
+/// What a lookup finds after so many writes: the first match among what is left and what stands, the upper
 /// block first.
 pub fn a_look_up_meets_what_stands()
     ensures below { (s : Layout Stored) (m : Stored → Bool) (d : ℕ) → IsBeside true s → d ≤ write_count s →
@@ -21,13 +21,13 @@ pub fn a_look_up_meets_what_stands()
         least_match m (bank_after s d) 0 ≡ option_or (first_from m (new_put s d) s.b) (first_from m (old_left s d) s.a) }
 {}
 
-/// A look-up finds the slot and entry of the first match in the whole new table, or in the whole old one.
+/// A lookup finds the slot and entry of the first match in the whole new table, or in the whole old one.
 pub fn a_look_up_is_old_or_new()
     ensures { (below : Bool) (s : Layout Stored) (m : Stored → Bool) (d : ℕ) → IsBeside below s → d ≤ write_count s →
         least_match m (bank_after s d) 0 ≡ cond (turned below m s d) (first_from m s.new s.b) (first_from m s.old s.a) }
 {}
 
-/// A look-up answers by name as the new table does, or as the old one does; with no swap pending as the settled one.
+/// A lookup answers by name as the new table does, or as the old one does; with no swap pending as the settled one.
 pub fn an_answer_is_old_or_new()
     ensures { (s : State) (values : List ℕ) → IsSound s → looked s values ≡ old_or_new s s.pending values }
 {}
@@ -53,8 +53,8 @@ pub fn a_swap_begins_and_ends_whole()
     ensures empty { (slots from : ℕ) → from ≤ slots → alone {E = Stored} slots from [] ≡ replicate slots None }
 {}
 
-/// A look-up gives the least slot that passes; a first match is the table's, stands in the table's block,
-/// and has its slot there; and in a bank with one table alone a look-up gives the first match.
+/// A lookup gives the least slot that passes; a first match is the table's, stands in the table's block,
+/// and has its slot there; and in a bank with one table alone a lookup gives the first match.
 pub fn a_look_up_finds_the_least_slot()
     ensures least { (m : Stored → Bool) (bank : List (Option Stored)) → option_map (λ r. r.0) (least_match m bank 0) ≡ position (passes m) bank }
     ensures stands { (m : Stored → Bool) (bank : List (Option Stored)) (k : ℕ) (e : Stored) → least_match m bank 0 ≡ Some (k, e) → slice_get bank k ≡ Some (Some e) }

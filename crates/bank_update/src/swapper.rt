@@ -12,7 +12,7 @@ use ternary_words::Table;
 ///
 /// The new entries are written in order, beside the old ones, and then the old ones are cleared from the last
 /// to the first. Whatever was done and whichever writes failed, the slots hold what the state says, and a
-/// look-up is answered as the old table or as the new one. No call takes memory.
+/// lookup is answered as the old table or as the new one. No call takes memory.
 #[derive(Drop)]
 pub struct Swapper<V: Device> {
     device: V,

@@ -1,4 +1,4 @@
--- What a look-up decides, by the lists of the tables.
+-- What a lookup decides, by the lists of the tables.
 use Rattle.std.proofs.Common.{◌≡◌, ◌∷◌, ℕ, ◌<◌, ◌^◌, List, [], Option, Some, None, cond, ap, ◌∙◌, arith, length, slice_index}
 use Rattle.field_boxes.specs.Headline.Classifier.{Rule, source}
 use Rattle.field_boxes.specs.Headline.Fields.{IsHeader, stated, width}

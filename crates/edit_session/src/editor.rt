@@ -17,7 +17,7 @@ use ternary_words::Table;
 /// A rule list that is edited, and a memory into which the tables of the list are swapped write by write.
 ///
 /// Edits change the list alone. [`commit`] compiles the list as it is then, and begins a swap to its table; a
-/// copy of the list goes with the table. Whatever was done and whichever writes failed, a look-up is answered by
+/// copy of the list goes with the table. Whatever was done and whichever writes failed, a lookup is answered by
 /// the list that the settled table was compiled of, or by that of the pending one.
 ///
 /// [`commit`]: Editor::commit

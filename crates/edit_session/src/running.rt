@@ -111,7 +111,7 @@ pub fn session_on<K: Sink, V: Device>(
     ensures write_fault { IsErrOf result errors.WriteFault → Rose (K.faults out.old) (K.faults out.new) }
     ensures written { K.faults out.old ≤ K.faults out.new }
 
-    // However else it ends, want of memory too, no write failed.
+    // However else it ends, also out of memory, no write failed.
     ensures calm { UnlessWriteFault result (K.faults out.new ≡ K.faults out.old) }
 {
     let mut pending = Pending::new();

@@ -13,7 +13,7 @@ use std::alloc::Global;
 /// A builder of the diagrams of rule lists, over one order and in one store.
 ///
 /// It keeps what pairs of nodes came to, laid one over another. So a list that is much like an earlier one costs a walk
-/// over the pairs that are new, and a look-up for each rule.
+/// over the pairs that are new, and a lookup for each rule.
 #[derive(Drop)]
 pub struct Builder {
     pub(crate) laying: Laying,

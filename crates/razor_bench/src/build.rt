@@ -4,7 +4,7 @@ use crate::lists::RuleList;
 use crate::tally::Tally;
 use anyhow::Result;
 
-/// Builds the diagram so often, each time in a store of its own, and prints what each time came of it.
+/// Builds the diagram so often, each time in a store of its own, and prints each result.
 pub fn run(rt: &(impl Print + AllocGlobal), list: RuleList, times: u32) -> Result<()> {
     let rules = list.rules(rt.alloc())?;
     let count = rules.len();

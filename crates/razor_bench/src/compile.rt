@@ -20,7 +20,7 @@ pub enum Step {
     Cost,
 }
 
-/// Compiles the list on standard input so far and so often, and prints what each time came of it.
+/// Compiles the list on standard input so far and so often, and prints each result.
 pub fn run(rt: &(impl Files + Input + Print + AllocGlobal), step: Step, times: u32) -> Result<()> {
     let bytes = input(rt, MOST_LIST_BYTES)?;
     for _time in 0..times {

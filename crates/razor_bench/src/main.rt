@@ -1,4 +1,4 @@
-//! The program `razor_bench`: does the work that its words name and prints what came of it.
+//! The program `razor_bench`: does the work that its words name and prints the results.
 //!
 //! It measures nothing but commits and the steps of a compilation: the scripts under `bench/` time it from outside. It
 //! is proved safe and to end, and nothing else.

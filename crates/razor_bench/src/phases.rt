@@ -16,7 +16,7 @@ use std::fs::Files;
 use std::time::{CpuClock, Duration};
 use table_compose::{Plans, Row, cost};
 
-/// Compiles the list on standard input so often, and prints for each step what came of it and its nanoseconds. A list that
+/// Compiles the list on standard input so often, and prints for each step its result and its nanoseconds. A list that
 /// costs too much ends with its cost.
 pub fn run(rt: &(impl Files + Input + Print + CpuClock + AllocGlobal), times: u32) -> Result<()> {
     let bytes = input(rt, MOST_LIST_BYTES)?;

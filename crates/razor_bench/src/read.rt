@@ -6,7 +6,7 @@ use field_boxes::{Rule, Span};
 use razor_base::limits::MOST_LIST_BYTES;
 use std::fs::Files;
 
-/// Reads the list on standard input so often, and prints what each time came of it.
+/// Reads the list on standard input so often, and prints each result.
 pub fn run(rt: &(impl Files + Input + Print + AllocGlobal), times: u32) -> Result<()> {
     let bytes = input(rt, MOST_LIST_BYTES)?;
     for _time in 0..times {

@@ -7,7 +7,7 @@ use std::fs::Files;
 use table_text::read_table;
 use ternary_words::Entry;
 
-/// Reads the table on standard input so often, and prints what each time came of it.
+/// Reads the table on standard input so often, and prints each result.
 pub fn run(rt: &(impl Files + Input + Print + AllocGlobal), times: u32) -> Result<()> {
     let bytes = input(rt, MOST_TABLE_BYTES)?;
     for _time in 0..times {

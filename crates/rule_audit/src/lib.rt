@@ -1,4 +1,4 @@
-//! The states of the rules of a list: which are needed, which may be left out, which are never reached.
+//! The states of the rules of a list: which are needed, which are redundant, which are shadowed.
 //!
 //! A rule is live (needed) if leaving it out alone changes what the list decides of some header. It is never first
 //! (shadowed, or upward redundant) if no header has it as its first matching rule. Else it is droppable (downward

@@ -239,7 +239,7 @@ pub bank-none : (n : ℕ) → bank_of (replicate n None) ≡ replicate n None
 bank-none zero = refl
 bank-none (suc n) = ap (λ (slots : Bank). None ∷ slots) (bank-none n)
 
--- what a look-up answers by name
+-- what a lookup answers by name
 
 pub answers : (names : Names) (s : State) (p : Option Patch) (values text : List ℕ) (n : ℕ) → IsOldOrNew s p values n → text ≡ text_of (name_at names n) → IsAnswer names s p values text
 answers names s None values text n h is = is ∙ ap (λ m. text_of (name_at names m)) h ∙ ap text_of (named names s.settled values)

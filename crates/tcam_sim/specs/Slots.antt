@@ -1,4 +1,4 @@
--- The slots of a ternary memory, and what a look-up in them finds.
+-- The slots of a ternary memory, and what a lookup in them finds.
 use Rattle.std.specs.Prelude.{ℕ, ◌-◌, ◌++◌, Bool, false, List, length, map, replicate, Option, Some, None, option_map, position, slice_index_or}
 use Rattle.ternary_words.specs.Headline.Word.{Trit, agrees, header_bits}
 use Rattle.ternary_words.specs.Views.{word_of}

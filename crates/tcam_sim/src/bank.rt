@@ -13,7 +13,7 @@ use ternary_words::Entry;
 
 /// A memory whose calls never fail, with at most 262,144 slots.
 ///
-/// It keeps a column of each half of the values and of the masks, so that a look-up compares eight slots
+/// It keeps a column of each half of the values and of the masks, so that a lookup compares eight slots
 /// at once, a column of decisions, and a column that has 0 where a slot holds an entry and 1 where it is
 /// empty; and it counts the calls of `set`.
 #[derive(Drop)]

@@ -1,4 +1,4 @@
-//! The look-up of a memory.
+//! The lookup of a memory.
 ghost use Rattle.std.specs.Prelude.{◌≡◌, ◌*◌, ◌≤◌, ◌<◌, IfNone, IfSome, length, position};
 ghost use Rattle.tcam_sim.specs.Bank.{slot_at, slots_of};
 ghost use Rattle.tcam_sim.specs.Keys.{key_bits};

@@ -102,7 +102,7 @@ pub fn run<V: Device, D: Desk, K: Sink>(
     ensures read_fault { IsErrOf result ReadFault → Rose (D.faults desk.old name.now) (D.faults desk.new name.now) }
     ensures write_fault { OnWriteFault result (Rose (K.faults out.old) (K.faults out.new)) }
 
-    // However else it ends, want of memory too, no write failed, and no read.
+    // However else it ends, also out of memory, no write failed, and no read.
     ensures calm { UnlessWriteFault result (K.faults out.new ≡ K.faults out.old) }
     ensures none_failed { UnlessFault result ((other : List ℕ) → D.faults desk.new other ≡ D.faults desk.old other) }
 

@@ -2,7 +2,7 @@
 use std::alloc::Global;
 use std::test::Fail;
 
-/// A command: tables are counted from 0, and a look-up is of a header whose other values are 0.
+/// A command: tables are counted from 0, and a lookup is of a header whose other values are 0.
 #[derive(Clone, Copy)]
 pub(super) enum Action {
     Begin(usize),

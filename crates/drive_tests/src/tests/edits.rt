@@ -5,7 +5,7 @@ use crate::Draw;
 use std::alloc::Global;
 use std::test::Fail;
 
-/// A command: a look-up is of one of eight headers.
+/// A command: a lookup is of one of eight headers.
 #[derive(Clone, Copy)]
 pub(super) enum Edit {
     Add { place: u32, rule: PlainRule },
@@ -28,7 +28,7 @@ impl Edit {
     }
 }
 
-/// How a session spells a look-up.
+/// How a session spells a lookup.
 fn look_text(alloc: Global, header: u32) -> Result<String, Fail> {
     let destination = destination(header);
     let protocol = header % 4;

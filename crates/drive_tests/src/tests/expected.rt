@@ -150,7 +150,7 @@ impl Expected {
         }
     }
 
-    /// Takes a command, where tables have so many entries and a look-up finds this name.
+    /// Takes a command, where tables have so many entries and a lookup finds this name.
     pub(super) fn take(
         &mut self,
         action: Action,

@@ -23,7 +23,7 @@ pub(super) struct Lists {
     swap: Expected,
 }
 
-/// The line of a look-up that finds the name.
+/// The line of a lookup that finds the name.
 fn named(name: u32) -> EditAnswer {
     EditAnswer::Swap(Answer::Name(word(name)))
 }

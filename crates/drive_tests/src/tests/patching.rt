@@ -51,7 +51,7 @@ fn check_looks(rt: &impl Abort, patcher: &Patcher<FaultyBank>, old: &Table, new:
     }
 }
 
-/// Takes the patch to its end, looks after each step, and lets it go back before the step with this number. Answers
+/// Takes the patch to its end, looks up after each step, and lets it go back before the step with this number. Answers
 /// whether it went back.
 fn finish(
     rt: &impl Abort,

@@ -10,7 +10,7 @@ use std::test::Fail;
 pub(super) const UDP_TABLE: &[u8] =
     b"table 2 slot 144 composed 2 entries 2\n00000000/00000000 00000000/00000000 0000/0000 0000/0000 11/FF accept\n00000000/00000000 00000000/00000000 0000/0000 0000/0000 00/00 deny\n";
 
-/// The first table, then the second in its place, with three looks at each stage.
+/// The first table, then the second in its place, with three lookups at each stage.
 pub(super) const REPLACING: &[u8] =
     b"begin 1\nstep\nbegin 2\nlook 0 0 0 0 6\nlook 0 0 0 0 17\nlook 0 0 0 0 1\nstep\nlook 0 0 0 0 6\nlook 0 0 0 0 17\nlook 0 0 0 0 1\nstep\nlook 0 0 0 0 6\nlook 0 0 0 0 17\nlook 0 0 0 0 1\nstep\nlook 0 0 0 0 6\nlook 0 0 0 0 17\nlook 0 0 0 0 1\nstage\n";
 
