@@ -6,11 +6,16 @@ tried: so the line on a bad line comes out once for each reason.
 import dataclasses
 import re
 
+from specifications.antt import ROOT
+
 HOLE = None
 
 TOKEN = re.compile(r'"[^"]*"|[(){};,]|[^\s(){};,"]+')
 JOINS = ("++", "∷")
 ENDS = ("", ")", "}", ";", ",", "then", "else")
+
+# Where the constants of a file of the code stand for the specifications.
+CONSTANTS = ".TheConstants"
 
 
 @dataclasses.dataclass(eq=False)
@@ -232,6 +237,8 @@ class Texts:
         definition = self.specifications.owners.get(place)
         if definition is not None and not definition.kind:
             return self.called(definition, [])
+        if place is not None and place.file.endswith(CONSTANTS):
+            return constant(place)
         name = place.name if place else word
         return Made(name, []) if name[0].isupper() else self.unknown()
 
@@ -249,6 +256,16 @@ class Texts:
         """The items of a list, with a hole for one that isn't known."""
         value = self.known(value)
         return value if isinstance(value, list) else [HOLE]
+
+
+def constant(place):
+    """What a constant of the code is: a number, or a list of records of variants."""
+    path = ROOT / "crates" / place.crate / "src" / f"{place.file.removeprefix('declared.').removesuffix(CONSTANTS).replace('.', '/')}.rt"
+    value = re.search(rf"\bconst {place.name}: [^=]* = (.*?);$", path.read_text(), re.MULTILINE | re.DOTALL)[1]
+    if value[0].isdigit():
+        return int(value.replace("_", ""))
+    records = re.findall(r"\w+ \{([^}]*)\}", value)
+    return [{field: Made(variant, []) for field, variant in re.findall(r"(\w+): \w+::(\w+)", record)} for record in records]
 
 
 def clauses(definition):

@@ -2,7 +2,7 @@
 use Rattle.std.proofs.Common.{◌≡◌, ◌≢◌, ◌∷◌, ◌≤◌, ℕ, List, [], Bool, true, false, length, slice_index_or, sym, arith, Bor, map, not, ◌&&◌, bytes_eq}
 use Rattle.std.proofs.lemmas.Bool.{and_parts, or_left, or_right}
 use Rattle.std.proofs.lemmas.Slice.Eq.{bytes_eq-Decides}
-use Rattle.command_words.specs.Naming.{all_differ}
+use Rattle.command_words.specs.Files.{all_differ}
 
 none_differ : (s v : Bool) → s ≡ true → (not s && v) ≡ true → ⊥
 none_differ true v e h = absurd cc

@@ -3,13 +3,13 @@ use Rattle.std.proofs.Common.{◌≡◌, ◌∷◌, ℕ, ◌-◌, ◌≤◌, Lis
 use Rattle.std.specs.List.{list_any}
 use Rattle.std.proofs.Math.Seq.{take-length}
 use Rattle.command_words.specs.declared.form.CommandForm.{CommandForm}
-use Rattle.command_words.specs.Command.{Command}
-use Rattle.command_words.specs.Forms.{Form, forms}
+use Rattle.command_words.specs.Commands.{Command, command_named, forms}
+use Rattle.command_words.specs.Files.{all_differ}
+use Rattle.command_words.specs.Forms.{Form, form_seen}
 use Rattle.command_words.specs.Items.{items_of}
-use Rattle.command_words.specs.Naming.{Settings, all_differ, command_named}
+use Rattle.command_words.specs.Settings.{Settings}
 use Rattle.command_words.specs.Spelling.{Found, command_of, found_among, settings_of}
 use Rattle.text_lines.specs.Headline.Steps.{◌>>=◌}
-use Rattle.command_words.specs.Views.{form_seen}
 use Rattle.command_words.proofs.Taking.{behind, first}
 
 abbrev texts : List (Bor (List ℕ)) → List (List ℕ)

@@ -1,8 +1,7 @@
 -- What a command's name, '--' and a file spell, whatever the file is called.
 use Rattle.std.proofs.Common.{◌≡◌, ℕ, List, [], ◌∷◌, Some, None, refl}
 use Rattle.std.specs.Prelude.{codes}
-use Rattle.command_words.specs.Command.{Arrange, Compile, Make, Shorten}
-use Rattle.command_words.specs.Forms.{forms}
+use Rattle.command_words.specs.Commands.{Arrange, Compile, Make, Shorten, forms}
 use Rattle.command_words.specs.Items.{reading_of}
 use Rattle.command_words.specs.Orders.{Best}
 use Rattle.command_words.specs.Spelling.{command_of}

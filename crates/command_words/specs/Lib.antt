@@ -1,14 +1,14 @@
 pub mod Numbers
 pub mod Orders
+pub mod Settings
 pub mod Options
 pub mod Items
 pub mod Questions
-pub mod Command
+pub mod Files
 pub mod Forms
-pub mod Naming
+pub mod Commands
 pub mod Spelling
 pub mod Usage
 pub mod Views
 pub mod PlainWords
 pub mod Parts
-pub mod Asked

@@ -1,10 +1,11 @@
--- The options: how they are written, and which values they take.
-use Rattle.std.specs.Prelude.{◌≡◌, ◌⊎◌, ℕ, Bool, true, false, ◌||◌, ◌==◌, List, Option, Some, None, option_map, codes, if◌then◌else◌}
+-- The options: how they are written, which values they take, and which of them a command takes.
+use Rattle.std.specs.Prelude.{ℕ, Bool, true, false, ◌||◌, ◌==◌, List, find, Option, Some, None, option_map, codes, if◌then◌else◌}
 use Rattle.razor_base.specs.declared.limits.TheConstants.{MOST_ENTRIES}
 use Rattle.command_words.specs.declared.option.OptionName.{OptionName}
 use Rattle.command_words.specs.declared.option.OptionName.TheVariants.{Limit, Slot, Slots, Order}
-use Rattle.command_words.specs.declared.form.Need.{Need}
-use Rattle.command_words.specs.declared.form.Need.TheVariants.{Never, Always}
+use Rattle.command_words.specs.declared.option.Need.{Need}
+use Rattle.command_words.specs.declared.option.Need.TheVariants.{Always}
+use Rattle.command_words.specs.declared.option.Taken.{Taken}
 use Rattle.command_words.specs.Numbers.{number_between}
 use Rattle.text_lines.specs.Headline.Steps.{◌>>=◌}
 
@@ -14,6 +15,13 @@ option_text Limit = codes "--limit"
 option_text Slot = codes "--slot"
 option_text Slots = codes "--slots"
 option_text Order = codes "--order"
+
+-- what stands for its value in the usage text, with a blank in front
+abbrev pub value_label : OptionName → List ℕ
+value_label Limit = codes " N"
+value_label Slot = codes " W"
+value_label Slots = codes " N"
+value_label Order = codes " P"
 
 abbrev pub same_option : OptionName → OptionName → Bool
 same_option Limit Limit = true
@@ -26,10 +34,6 @@ same_option a b = false
 abbrev pub slot_width : ℕ → Option ℕ
 slot_width n = if n == 104 || n == 144 || n == 288 then Some n else None
 
--- 104, 144 or 288
-abbrev pub IsSlotWidth : ℕ → Type 0
-IsSlotWidth bits = (bits ≡ 104) ⊎ (bits ≡ 144) ⊎ (bits ≡ 288)
-
 -- a number of entries or slots that a value of an option writes, where the option takes it
 unfoldable pub size_in : List ℕ → Option ℕ
 size_in value = number_between 1 MOST_ENTRIES value
@@ -38,11 +42,15 @@ size_in value = number_between 1 MOST_ENTRIES value
 unfoldable pub width_in : List ℕ → Option ℕ
 width_in value = number_between 0 288 value >>= slot_width
 
+-- whether the option has to be there, where it is one of those that a command takes
+abbrev pub need_of : List Taken → OptionName → Option Need
+need_of options option = option_map (λ taken. taken.need) (find (λ taken. same_option taken.option option) options)
+
 -- the value of an option as a command takes it, or none of it where it is left out; nothing where the command doesn't take
 -- the option, or it has to be there
-abbrev pub given : Need → Option (List ℕ) → Option (Option (List ℕ))
-given Never (Some value) = None
-given Always None = None
+abbrev pub given : Option Need → Option (List ℕ) → Option (Option (List ℕ))
+given None (Some value) = None
+given (Some Always) None = None
 given need value = Some value
 
 -- what the value comes to, or none where it is left out

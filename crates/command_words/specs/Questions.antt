@@ -50,3 +50,11 @@ name_in text = if bytes_eq text miss then None else Some text
 -- the decision that a word names
 abbrev pub decision_asked : List ℕ → Option (Option (List ℕ))
 decision_asked word = if is_decision word then Some (name_in word) else None
+
+-- what is made of a list, five spans and a decision
+abbrev pub asking : {C : Type 0} → (List ℕ → List Interval → Option (List ℕ) → C) → List (List ℕ) → Option C
+asking make (list ∷ source ∷ destination ∷ from ∷ to ∷ protocol ∷ decision ∷ []) = do
+  spans ← spans_asked 0 (source ∷ destination ∷ from ∷ to ∷ protocol ∷ [])
+  decision ← decision_asked decision
+  Some (make list spans decision)
+asking make words = None

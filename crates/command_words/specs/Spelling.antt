@@ -3,12 +3,12 @@ use Rattle.std.specs.Prelude.{ℕ, List, [], ◌∷◌, length, nat_le, find, Op
 use Rattle.std.specs.Str.{bytes_eq}
 use Rattle.razor_base.specs.declared.limits.TheConstants.{MOST_ENTRIES}
 use Rattle.command_words.specs.declared.option.OptionName.TheVariants.{Limit, Slot, Slots, Order}
-use Rattle.command_words.specs.Command.{Command}
-use Rattle.command_words.specs.Forms.{Form, forms}
+use Rattle.command_words.specs.Commands.{Command, command_named, forms}
+use Rattle.command_words.specs.Forms.{Form}
 use Rattle.command_words.specs.Items.{Item, items_of, plain_of, values_of}
-use Rattle.command_words.specs.Naming.{Settings, command_named}
-use Rattle.command_words.specs.Options.{given, optional, or_usual, size_in, width_in}
+use Rattle.command_words.specs.Options.{given, need_of, optional, or_usual, size_in, width_in}
 use Rattle.command_words.specs.Orders.{order_wanted}
+use Rattle.command_words.specs.Settings.{Settings}
 use Rattle.text_lines.specs.Headline.Steps.{◌>>=◌}
 
 -- the value of each option, where one is given, and the other words
@@ -43,10 +43,10 @@ found_among items = do
 -- order
 abbrev pub settings_of : Form → Found → Option Settings
 settings_of form found = do
-  limit ← given form.limit found.limit >>= or_usual MOST_ENTRIES size_in
-  slot ← given form.slot found.slot >>= or_usual 144 width_in
-  slots ← given form.slots found.slots >>= or_usual MOST_ENTRIES size_in
-  order ← given form.order found.order >>= optional order_wanted
+  limit ← given (need_of form.options Limit) found.limit >>= or_usual MOST_ENTRIES size_in
+  slot ← given (need_of form.options Slot) found.slot >>= or_usual 144 width_in
+  slots ← given (need_of form.options Slots) found.slots >>= or_usual MOST_ENTRIES size_in
+  order ← given (need_of form.options Order) found.order >>= optional order_wanted
   Some (record { sizes = record { limit = limit; slot = slot }; slots = slots; order = order })
 
 -- the command that the words spell, or none

@@ -1,30 +1,29 @@
 -- The usage text, from the forms of the commands.
 use Rattle.std.specs.Prelude.{ℕ, List, [], ◌∷◌, ◌++◌, codes}
 use Rattle.std.specs.List.{flat_map}
-use Rattle.command_words.specs.declared.option.OptionName.{OptionName}
-use Rattle.command_words.specs.declared.option.OptionName.TheVariants.{Limit, Slot, Slots, Order}
-use Rattle.command_words.specs.declared.form.Need.{Need}
-use Rattle.command_words.specs.declared.form.Need.TheVariants.{Never, Maybe, Always}
-use Rattle.command_words.specs.Forms.{Form, forms}
-use Rattle.command_words.specs.Options.{option_text}
+use Rattle.command_words.specs.declared.option.Need.{Need}
+use Rattle.command_words.specs.declared.option.Need.TheVariants.{Maybe, Always}
+use Rattle.command_words.specs.declared.option.Taken.{Taken}
+use Rattle.command_words.specs.Commands.{forms}
+use Rattle.command_words.specs.Forms.{Form}
+use Rattle.command_words.specs.Options.{option_text, value_label}
 
--- what stands for the value of an option
-abbrev pub value_label : OptionName → List ℕ
-value_label Limit = codes " N"
-value_label Slot = codes " W"
-value_label Slots = codes " N"
-value_label Order = codes " P"
+-- what stands in front of an option, and behind its value: brackets where it may be left out
+abbrev pub opening : Need → List ℕ
+opening Maybe = codes " ["
+opening Always = codes " "
 
--- an option as a command takes it: in brackets where it may be left out
-abbrev pub option_usage : Need → OptionName → List ℕ
-option_usage Never option = []
-option_usage Maybe option = codes " [" ++ option_text option ++ value_label option ++ codes "]"
-option_usage Always option = codes " " ++ option_text option ++ value_label option
+abbrev pub closing : Need → List ℕ
+closing Maybe = codes "]"
+closing Always = []
+
+-- an option as a command takes it
+abbrev pub option_usage : Taken → List ℕ
+option_usage taken = opening taken.need ++ option_text taken.option ++ value_label taken.option ++ closing taken.need
 
 -- the line of a command
 abbrev pub usage_line : Form → List ℕ
-usage_line form =
-    codes "  " ++ form.name ++ option_usage form.order Order ++ option_usage form.slots Slots ++ option_usage form.limit Limit ++ option_usage form.slot Slot ++ codes " " ++ form.label ++ 10 ∷ []
+usage_line form = codes "  " ++ form.name ++ flat_map option_usage form.options ++ codes " " ++ form.label ++ 10 ∷ []
 
 -- the commands that are built
 abbrev pub usage_text : List ℕ

@@ -1,27 +1,20 @@
 //! What is to be drawn.
-ghost use Rattle.std.specs.Prelude.{◌≡◌, ◌≤◌, ℕ, map};
+ghost use Rattle.std.specs.Prelude.{◌≡◌, ℕ};
 ghost use Rattle.std.specs.Option.{option_map};
-ghost use Rattle.razor_base.specs.declared.limits.TheConstants.{MOST_RULES};
-ghost use Rattle.command_words.specs.Command.{Command};
-ghost use Rattle.command_words.specs.Naming.{drawing};
+ghost use Rattle.command_words.specs.Commands.{Command};
+ghost use Rattle.command_words.specs.Numbers.{drawing};
+ghost use Rattle.command_words.specs.PlainWords.{plain_seen};
 
 use crate::number::number_between;
+use crate::operands::Drawing;
+use crate::plain::PlainWords;
 use razor_base::limits::MOST_RULES;
 
-/// A list that is to be drawn: the seed, at most 2,147,483,647, and the number of rules, at most 65,536.
-#[derive(Clone, Copy, Debug, PartialEq, Eq)]
-pub struct Drawing {
-    pub seed: u32,
-    pub rules: u32,
-    pub ghost small: { seed ≤ 2147483647 },
-    pub ghost few: { rules ≤ MOST_RULES },
-}
-
 /// The seed and the number of rules that are to be drawn.
-pub(crate) fn seed_and_rules(words: &[&str]) -> Option<Drawing>
-    ensures { (command : ℕ → ℕ → Command) → option_map (λ drawing. command drawing.seed drawing.rules) result ≡ drawing command (map (λ word. word.now) words.now) }
+pub(crate) fn seed_and_rules(words: &PlainWords<'_>) -> Option<Drawing>
+    ensures { (make : ℕ → ℕ → Command) → option_map (λ drawing. make drawing.seed drawing.rules) result ≡ drawing make (plain_seen words.now) }
 {
-    match words {
+    match words.as_slice() {
         [seed, rules] => Some(Drawing {
             seed: number_between(seed.as_bytes(), 0, 2_147_483_647)?,
             rules: number_between(rules.as_bytes(), 0, MOST_RULES)?,

@@ -1,29 +1,14 @@
 //! The file words of a command, of which no two are equal.
-ghost use Rattle.std.specs.Prelude.{◌≡◌, ◌≢◌, ◌≤◌, ◌&&◌, List, ℕ, length, map, nat_le};
+ghost use Rattle.std.specs.Prelude.{◌≡◌, ◌≤◌, ◌&&◌, List, ℕ, length, map, nat_le};
 ghost use Rattle.std.specs.List.{list_any};
 ghost use Rattle.std.specs.Option.{option_map};
 ghost use Rattle.std.specs.Str.{bytes_eq};
-ghost use Rattle.command_words.specs.Command.{Command};
-ghost use Rattle.command_words.specs.Naming.{all_differ, is_script_run, over_one, over_three, over_two};
+ghost use Rattle.command_words.specs.Commands.{Command};
+ghost use Rattle.command_words.specs.Files.{all_differ, is_script_run, over_one, over_three, over_two};
+ghost use Rattle.command_words.specs.PlainWords.{plain_seen};
 
-/// Two file words that differ, in their order.
-#[derive(Clone, Copy, Debug)]
-pub struct TwoFiles<'a> {
-    pub first: &'a str,
-    pub second: &'a str,
-    pub ghost apart: { first.now ≢ second.now },
-}
-
-/// Three file words of which no two are equal, in their order.
-#[derive(Clone, Copy, Debug)]
-pub struct ThreeFiles<'a> {
-    pub first: &'a str,
-    pub second: &'a str,
-    pub third: &'a str,
-    pub ghost front: { first.now ≢ second.now },
-    pub ghost ends: { first.now ≢ third.now },
-    pub ghost back: { second.now ≢ third.now },
-}
+use crate::operands::{ThreeFiles, TwoFiles};
+use crate::plain::PlainWords;
 
 fn has(words: &[&str], word: &str) -> bool
     ensures { result ≡ list_any (λ other. bytes_eq other.now word.now) words.now }
@@ -42,19 +27,20 @@ fn all_differ(words: &[&str]) -> bool
 }
 
 /// The only file word.
-pub(crate) fn one_file<'a>(words: &[&'a str]) -> Option<&'a str>
-    ensures { (command : List ℕ → Command) → option_map (λ file. command file.now) result ≡ over_one command (map (λ word. word.now) words.now) }
+pub(crate) fn one_file<'a>(words: &PlainWords<'a>) -> Option<&'a str>
+    ensures { (make : List ℕ → Command) → option_map (λ file. make file.now) result ≡ over_one make (plain_seen words.now) }
 {
-    match words {
+    match words.as_slice() {
         [file] => Some(file),
         _ => None,
     }
 }
 
 /// The only two file words.
-pub(crate) fn two_files<'a>(words: &[&'a str]) -> Option<TwoFiles<'a>>
-    ensures { (command : List ℕ → List ℕ → Command) → option_map (λ both. command both.first.now both.second.now) result ≡ over_two command (map (λ word. word.now) words.now) }
+pub(crate) fn two_files<'a>(words: &PlainWords<'a>) -> Option<TwoFiles<'a>>
+    ensures { (make : List ℕ → List ℕ → Command) → option_map (λ both. make both.first.now both.second.now) result ≡ over_two make (plain_seen words.now) }
 {
+    let words = words.as_slice();
     if !all_differ(words) {
         return None;
     }
@@ -65,9 +51,10 @@ pub(crate) fn two_files<'a>(words: &[&'a str]) -> Option<TwoFiles<'a>>
 }
 
 /// The only three file words.
-pub(crate) fn three_files<'a>(words: &[&'a str]) -> Option<ThreeFiles<'a>>
-    ensures { (command : List ℕ → List ℕ → List ℕ → Command) → option_map (λ all. command all.first.now all.second.now all.third.now) result ≡ over_three command (map (λ word. word.now) words.now) }
+pub(crate) fn three_files<'a>(words: &PlainWords<'a>) -> Option<ThreeFiles<'a>>
+    ensures { (make : List ℕ → List ℕ → List ℕ → Command) → option_map (λ all. make all.first.now all.second.now all.third.now) result ≡ over_three make (plain_seen words.now) }
 {
+    let words = words.as_slice();
     if !all_differ(words) {
         return None;
     }

@@ -2,11 +2,11 @@
 //!
 //! All commands have one grammar. The first word is the command's name. Among the others an option takes the next word
 //! as its value, or what follows `=` in its own word; the first `--` that is no such value ends the options; every
-//! other word is a plain word, unless it has a `-` in front and more behind it, which makes the words no command. The
-//! table in `form` says how each command is spelled: its name, which options it takes or needs, and what its plain
-//! words are called; the usage text is made of it. `naming` gives each name its [`Command`], over what the options come
-//! to and the plain words, which are file words, numbers, or what is asked of a list. A further command is a line of
-//! the table, a case of `naming`, and a variant of [`Command`].
+//! other word is a plain word, unless it has a `-` in front and more behind it, which makes the words no command.
+//! `commands` has a row for each command: its name, which options it takes or needs, and what its plain words are
+//! called; the usage text is made of these rows. Behind them stands the [`Command`] of each name, over what the options
+//! come to and the plain words, which are file words, numbers, or what is asked of a list. A further command is a row, a
+//! variant and a case there, and in `specs/Commands.antt`; a further option is a name in `option`.
 //!
 //! ```text
 //! let command = spelled_command(&words)?; // of `expand --limit 5 in`
@@ -26,22 +26,21 @@
 //!
 //! | Room | Holds |
 //! |---|---|
-//! | `spelling`, `naming`, `form` | the call, the command of each name, and the forms |
-//! | `parts`, `reading`, `settings`, `option`, `plain` | words read from left to right, options and plain words |
-//! | `number`, `sizes`, `order`, `wanted`, `question`, `drawing`, `files` | what options and plain words come to |
-//! | `command`, `asked`, `words` | the command that is spelled, and the words |
-//! | `usage`, `rows` | the usage text, and worked rows |
+//! | `spelling` | the call |
+//! | `commands`, `form` | the row and the command of each name |
+//! | `option`, `settings`, `sizes`, `wanted` | the options, which of them a command takes, and what they come to |
+//! | `parts`, `reading`, `plain` | words read from left to right, options and plain words |
+//! | `operands`, `files`, `number`, `drawing`, `question` | what plain words come to |
+//! | `words`, `usage`, `rows` | the words of a call, the usage text, and worked rows |
 #![tactic(auto)]
 
-mod asked;
-mod command;
+mod commands;
 mod drawing;
 mod files;
 mod form;
-mod naming;
 mod number;
+mod operands;
 mod option;
-mod order;
 mod parts;
 mod plain;
 mod question;
@@ -54,13 +53,9 @@ mod usage;
 mod wanted;
 mod words;
 
-pub use asked::Asked;
-pub use command::{Command, Method};
-pub use drawing::Drawing;
-pub use files::{ThreeFiles, TwoFiles};
-pub use order::FieldOrder;
+pub use commands::{Command, Method};
+pub use operands::{Drawing, Question, ScriptRun, ThreeFiles, TwoFiles};
 pub use plain::PlainWords;
-pub use question::Question;
 pub use sizes::{Sizes, Slots};
 pub use spelling::spelled_command;
 pub use usage::write_usage;

@@ -1,14 +1,15 @@
-//! The options that commands take.
+//! The options, and which of them a command takes.
 ghost use Rattle.std.specs.Prelude.{◌≡◌, ◌≤◌, IfSome};
 ghost use Rattle.razor_base.specs.declared.limits.TheConstants.{MOST_ENTRIES};
-ghost use Rattle.command_words.specs.Options.{IsSlotWidth, option_text, size_in, slot_width, width_in};
+ghost use Rattle.ternary_words.specs.Limits.{IsSlotWidth};
+ghost use Rattle.command_words.specs.Options.{option_text, same_option, size_in, slot_width, value_label, width_in};
 
 use crate::number::number_between;
 use razor_base::limits::MOST_ENTRIES;
 
-/// The options that commands take.
+/// The options that there are.
 #[derive(Clone, Copy, Debug, PartialEq, Eq)]
-pub enum OptionName {
+pub(crate) enum OptionName {
     /// `--limit`: the most entries of a table, 1 to 262,144.
     Limit,
     /// `--slot`: the bits of a slot, 104, 144 or 288.
@@ -19,15 +20,108 @@ pub enum OptionName {
     Order,
 }
 
-/// How the option is written.
-pub(crate) fn option_text(option: OptionName) -> &'static [u8]
-    ensures { result.now ≡ option_text option }
-{
-    match option {
-        OptionName::Limit => b"--limit",
-        OptionName::Slot => b"--slot",
-        OptionName::Slots => b"--slots",
-        OptionName::Order => b"--order",
+/// Whether an option that a command takes has to be there.
+#[derive(Clone, Copy, Debug, PartialEq, Eq)]
+pub(crate) enum Need {
+    Maybe,
+    Always,
+}
+
+/// An option that a command takes.
+#[derive(Clone, Copy, Debug)]
+pub(crate) struct Taken {
+    pub option: OptionName,
+    pub need: Need,
+}
+
+/// No option.
+pub(crate) const NO_OPTION: [Taken; 0] = [];
+
+/// The sizes of a table.
+pub(crate) const SIZES: [Taken; 2] = [
+    Taken {
+        option: OptionName::Limit,
+        need: Need::Maybe,
+    },
+    Taken {
+        option: OptionName::Slot,
+        need: Need::Maybe,
+    },
+];
+
+/// The order of the fields, and the sizes of a table.
+pub(crate) const ORDER_AND_SIZES: [Taken; 3] = [
+    Taken {
+        option: OptionName::Order,
+        need: Need::Maybe,
+    },
+    Taken {
+        option: OptionName::Limit,
+        need: Need::Maybe,
+    },
+    Taken {
+        option: OptionName::Slot,
+        need: Need::Maybe,
+    },
+];
+
+/// The number of slots of a memory.
+pub(crate) const SLOTS: [Taken; 1] = [Taken {
+    option: OptionName::Slots,
+    need: Need::Always,
+}];
+
+/// The number of slots of a memory, and the sizes of its tables.
+pub(crate) const SLOTS_AND_SIZES: [Taken; 3] = [
+    Taken {
+        option: OptionName::Slots,
+        need: Need::Always,
+    },
+    Taken {
+        option: OptionName::Limit,
+        need: Need::Maybe,
+    },
+    Taken {
+        option: OptionName::Slot,
+        need: Need::Maybe,
+    },
+];
+
+impl OptionName {
+    /// Whether both are one option.
+    pub fn is(self, other: OptionName) -> bool
+        ensures { result ≡ same_option self other }
+    {
+        match (self, other) {
+            (OptionName::Limit, OptionName::Limit)
+            | (OptionName::Slot, OptionName::Slot)
+            | (OptionName::Slots, OptionName::Slots)
+            | (OptionName::Order, OptionName::Order) => true,
+            _ => false,
+        }
+    }
+
+    /// How the option is written.
+    pub fn text(self) -> &'static str
+        ensures { result.now ≡ option_text self }
+    {
+        match self {
+            OptionName::Limit => "--limit",
+            OptionName::Slot => "--slot",
+            OptionName::Slots => "--slots",
+            OptionName::Order => "--order",
+        }
+    }
+
+    /// What stands for its value in the usage text, with a blank in front.
+    pub fn value_label(self) -> &'static str
+        ensures { result.now ≡ value_label self }
+    {
+        match self {
+            OptionName::Limit | OptionName::Slots => " N",
+            OptionName::Slot => " W",
+            OptionName::Order => " P",
+        }
     }
 }
 

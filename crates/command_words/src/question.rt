@@ -1,26 +1,18 @@
 //! What is asked of a list.
-ghost use Rattle.std.specs.Prelude.{◌≡◌, ◌≤◌, ◌∷◌, [], List, ℕ, Option, IfSome, map};
+ghost use Rattle.std.specs.Prelude.{◌≡◌, ◌≤◌, ◌∷◌, [], List, ℕ, Option, IfSome};
 ghost use Rattle.std.specs.Option.{option_map};
 ghost use Rattle.field_boxes.specs.Headline.Classifier.{Interval};
 ghost use Rattle.field_boxes.specs.Spans.{AreInside, interval_of, intervals_of};
-ghost use Rattle.command_words.specs.Command.{Command};
-ghost use Rattle.command_words.specs.Naming.{asking};
-ghost use Rattle.command_words.specs.Questions.{is_decision, is_own_name, name_in, span_asked, span_written, spans_asked};
+ghost use Rattle.command_words.specs.Commands.{Command};
+ghost use Rattle.command_words.specs.PlainWords.{plain_seen};
+ghost use Rattle.command_words.specs.Questions.{asking, is_decision, is_own_name, name_in, span_asked, span_written, spans_asked};
 
 use crate::number::number_between;
+use crate::operands::Question;
+use crate::plain::PlainWords;
 use field_boxes::{Span, decision_word, greatest};
 use razor_base::limits::MOST_RULES;
 use text_lines::split_once;
-
-/// Where a list is asked for a decision: inside five spans, each within its field. The decision is the text of a
-/// name, or `miss` for none.
-#[derive(Clone, Copy, Debug)]
-pub struct Question<'a> {
-    pub list: &'a str,
-    pub spans: [Span; 5],
-    pub decision: &'a str,
-    pub ghost inside: { AreInside spans },
-}
 
 /// The values from one number to another, no greater than the greatest.
 #[tactic(auto, unfolding(crate::specs::Questions::span_written))]
@@ -88,11 +80,11 @@ fn is_decision(word: &[u8]) -> bool
 }
 
 /// What the words ask: a list, five spans and a decision.
-pub(crate) fn question_of<'a>(words: &[&'a str]) -> Option<Question<'a>>
-    ensures { (command : List ℕ → List Interval → Option (List ℕ) → Command) →
-        option_map (λ question. command question.list.now (intervals_of question.spans) (name_in question.decision.now)) result ≡ asking command (map (λ word. word.now) words.now) }
+pub(crate) fn question_of<'a>(words: &PlainWords<'a>) -> Option<Question<'a>>
+    ensures { (make : List ℕ → List Interval → Option (List ℕ) → Command) →
+        option_map (λ question. make question.list.now (intervals_of question.spans) (name_in question.decision.now)) result ≡ asking make (plain_seen words.now) }
 {
-    let &[list, source, destination, from, to, protocol, decision] = words else {
+    let &[list, source, destination, from, to, protocol, decision] = words.as_slice() else {
         return None;
     };
     let spans = spans_asked(source, destination, from, to, protocol)?;

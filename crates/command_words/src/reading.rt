@@ -4,7 +4,7 @@ ghost use Rattle.std.specs.Option.{option_map};
 ghost use Rattle.command_words.specs.Items.{as_option, as_some_option, is_dashed, reading_of};
 ghost use Rattle.command_words.specs.Views.{kind_seen};
 
-use crate::option::{OptionName, option_text};
+use crate::option::OptionName;
 
 /// How a word reads.
 #[derive(Clone, Copy)]
@@ -25,7 +25,7 @@ pub(crate) enum WordKind<'a> {
 fn as_option<'a>(option: OptionName, word: &'a [u8]) -> Option<WordKind<'a>>
     ensures { option_map kind_seen result ≡ as_option option word.now }
 {
-    match word.strip_prefix(option_text(option))? {
+    match word.strip_prefix(option.text().as_bytes())? {
         [] => Some(WordKind::Awaits(option)),
         [b'=', value @ ..] => Some(WordKind::Gives(option, value)),
         _ => None,

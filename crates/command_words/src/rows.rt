@@ -1,9 +1,9 @@
 //! Worked rows of the definitions: what words spell. The functions do nothing.
-#![tactic(auto, unfolding(crate::specs::Forms::forms, crate::specs::Spelling::command_of, crate::specs::Items::reading_of, crate::specs::Options::size_in, crate::specs::Options::width_in, crate::specs::Orders::order_wanted, crate::specs::Numbers::number_between, text_lines::specs::Headline::Numbers::short_number, text_lines::specs::Headline::Numbers::number_within, crate::specs::Questions::span_written, crate::specs::Questions::span_asked, crate::specs::Questions::is_decision))]
+#![tactic(auto, unfolding(crate::specs::Commands::forms, crate::specs::Spelling::command_of, crate::specs::Items::reading_of, crate::specs::Options::size_in, crate::specs::Options::width_in, crate::specs::Orders::order_wanted, crate::specs::Numbers::number_between, text_lines::specs::Headline::Numbers::short_number, text_lines::specs::Headline::Numbers::number_within, crate::specs::Questions::span_written, crate::specs::Questions::span_asked, crate::specs::Questions::is_decision))]
 
 ghost use Rattle.std.specs.Prelude.{◌≡◌, ◌∷◌, [], ◌++◌, Some, None, codes};
 ghost use Rattle.std.specs.List.{flat_map};
-ghost use Rattle.command_words.specs.Command.{Apply, Arrange, Audit, Cert, Compile, Expand, Check, Drive, Dump, Equiv, Gen, Make, Patch, Place, Query, Selfrun, Session, Shorten, Trim};
+ghost use Rattle.command_words.specs.Commands.{Apply, Arrange, Audit, Cert, Compile, Expand, Check, Drive, Dump, Equiv, Gen, Make, Patch, Place, Query, Selfrun, Session, Shorten, Trim};
 ghost use Rattle.command_words.specs.Orders.{Best, In};
 ghost use Rattle.command_words.specs.Questions.{span};
 ghost use Rattle.command_words.specs.Spelling.{command_of};

@@ -2,14 +2,16 @@
 ghost use Rattle.std.specs.Prelude.{◌≡◌, ◌≤◌, Some, IfSome, option_and_then};
 ghost use Rattle.std.specs.Option.{option_map};
 ghost use Rattle.razor_base.specs.declared.limits.TheConstants.{MOST_ENTRIES};
-ghost use Rattle.command_words.specs.Options.{IsSlotWidth, given, optional, or_usual, size_in, width_in};
+ghost use Rattle.ternary_words.specs.Limits.{IsSlotWidth};
+ghost use Rattle.command_words.specs.Forms.{form_seen};
+ghost use Rattle.command_words.specs.Options.{given, optional, or_usual, size_in, width_in};
 ghost use Rattle.command_words.specs.Orders.{order_wanted};
 ghost use Rattle.command_words.specs.Parts.{found_seen};
 ghost use Rattle.command_words.specs.Spelling.{settings_of};
-ghost use Rattle.command_words.specs.Views.{form_seen, settings_seen, wanted_seen};
+ghost use Rattle.command_words.specs.Settings.{settings_seen, wanted_seen};
 
-use crate::form::{CommandForm, Need};
-use crate::option::{size_in, width_in};
+use crate::form::{CommandForm, need_of};
+use crate::option::{Need, OptionName, size_in, width_in};
 use crate::parts::Parts;
 use crate::sizes::{Sizes, Slots};
 use crate::wanted::{Wanted, order_wanted};
@@ -25,18 +27,18 @@ pub(crate) struct Settings {
 
 /// The value of an option as a command takes it, or none of it where it is left out; nothing where the command
 /// doesn't take the option, or it has to be there.
-fn given<'a>(need: Need, value: Option<&'a [u8]>) -> Option<Option<&'a [u8]>>
+fn given<'a>(need: Option<Need>, value: Option<&'a [u8]>) -> Option<Option<&'a [u8]>>
     ensures { option_map (option_map (λ bytes. bytes.now)) result ≡ given need (option_map (λ bytes. bytes.now) value.entry) }
 {
     match (need, value) {
-        (Need::Never, Some(_)) => None,
-        (Need::Always, None) => None,
+        (None, Some(_)) => None,
+        (Some(Need::Always), None) => None,
         (_, value) => Some(value),
     }
 }
 
 /// A number of entries or slots, the greatest where it is left out.
-fn size(need: Need, value: Option<&[u8]>) -> Option<u32>
+fn size(need: Option<Need>, value: Option<&[u8]>) -> Option<u32>
     ensures value { result ≡ option_and_then (or_usual MOST_ENTRIES size_in) (given need (option_map (λ bytes. bytes.now) value.entry)) }
     ensures taken { IfSome result (λ n. (1 ≤ n) × (n ≤ MOST_ENTRIES)) }
 {
@@ -47,7 +49,7 @@ fn size(need: Need, value: Option<&[u8]>) -> Option<u32>
 }
 
 /// The width of a slot, 144 where it is left out.
-fn width(need: Need, value: Option<&[u8]>) -> Option<u32>
+fn width(need: Option<Need>, value: Option<&[u8]>) -> Option<u32>
     ensures value { result ≡ option_and_then (or_usual 144 width_in) (given need (option_map (λ bytes. bytes.now) value.entry)) }
     ensures taken { IfSome result IsSlotWidth }
 {
@@ -58,7 +60,7 @@ fn width(need: Need, value: Option<&[u8]>) -> Option<u32>
 }
 
 /// The order that is wanted, none where it is left out.
-fn wanted(need: Need, value: Option<&[u8]>) -> Option<Option<Wanted>>
+fn wanted(need: Option<Need>, value: Option<&[u8]>) -> Option<Option<Wanted>>
     ensures { option_map (option_map wanted_seen) result ≡ option_and_then (optional order_wanted) (given need (option_map (λ bytes. bytes.now) value.entry)) }
 {
     match given(need, value)? {
@@ -71,10 +73,10 @@ fn wanted(need: Need, value: Option<&[u8]>) -> Option<Option<Wanted>>
 pub(crate) fn settings_of(form: &CommandForm, parts: &Parts<'_>) -> Option<Settings>
     ensures { option_map settings_seen result ≡ settings_of (form_seen form.now) (found_seen parts.now) }
 {
-    let limit = size(form.limit, parts.limit)?;
-    let slot = width(form.slot, parts.slot)?;
-    let slots = size(form.slots, parts.slots)?;
-    let order = wanted(form.order, parts.order)?;
+    let limit = size(need_of(form.options, OptionName::Limit), parts.limit)?;
+    let slot = width(need_of(form.options, OptionName::Slot), parts.slot)?;
+    let slots = size(need_of(form.options, OptionName::Slots), parts.slots)?;
+    let order = wanted(need_of(form.options, OptionName::Order), parts.order)?;
     Some(Settings {
         sizes: Sizes {
             limit,

@@ -1,7 +1,7 @@
 //! The sizes of tables and memories.
 ghost use Rattle.std.specs.Prelude.{◌≤◌};
 ghost use Rattle.razor_base.specs.declared.limits.TheConstants.{MOST_ENTRIES};
-ghost use Rattle.command_words.specs.Options.{IsSlotWidth};
+ghost use Rattle.ternary_words.specs.Limits.{IsSlotWidth};
 
 /// The greatest number of entries of a table, 1 to 262,144, and the width of its slots: 104, 144 or
 /// 288.

@@ -2,48 +2,70 @@
 ghost use Rattle.std.specs.Prelude.{◌≡◌, map};
 ghost use Rattle.std.specs.List.{flat_map};
 ghost use Rattle.razor_base.specs.Output.{Puts, Writes};
-ghost use Rattle.command_words.specs.Usage.{option_usage, usage_line, usage_text};
-ghost use Rattle.command_words.specs.Views.{form_seen};
+ghost use Rattle.command_words.specs.Forms.{form_seen};
+ghost use Rattle.command_words.specs.Usage.{closing, opening, option_usage, usage_line, usage_text};
 
-use crate::form::{CommandForm, Need, forms};
-use crate::option::OptionName;
+use crate::commands::forms;
+use crate::form::CommandForm;
+use crate::option::{Need, Taken};
 use razor_base::{Failed, Part, Pending, Sink, put_parts};
 
-/// The option as a command takes it, with a blank in front.
-fn option_usage(need: Need, option: OptionName) -> &'static str
-    ensures { result.now ≡ option_usage need option }
+/// What stands in front of an option: a bracket where it may be left out.
+fn opening(need: Need) -> &'static str
+    ensures { result.now ≡ opening need }
 {
-    match (need, option) {
-        (Need::Never, _) => "",
-        (Need::Maybe, OptionName::Limit) => " [--limit N]",
-        (Need::Maybe, OptionName::Slot) => " [--slot W]",
-        (Need::Maybe, OptionName::Slots) => " [--slots N]",
-        (Need::Maybe, OptionName::Order) => " [--order P]",
-        (Need::Always, OptionName::Limit) => " --limit N",
-        (Need::Always, OptionName::Slot) => " --slot W",
-        (Need::Always, OptionName::Slots) => " --slots N",
-        (Need::Always, OptionName::Order) => " --order P",
+    match need {
+        Need::Maybe => " [",
+        Need::Always => " ",
     }
+}
+
+/// What stands behind its value.
+fn closing(need: Need) -> &'static str
+    ensures { result.now ≡ closing need }
+{
+    match need {
+        Need::Maybe => "]",
+        Need::Always => "",
+    }
+}
+
+/// Puts an option as a command takes it.
+fn put_option<K: Sink>(taken: &Taken, pending: &mut Pending, out: &mut K) -> Result<(), Failed>
+    ensures { Puts K.written K.faults out.old out.new pending.old pending.new (option_usage taken.now) result }
+{
+    put_parts(
+        pending,
+        out,
+        &[
+            Part::Text(opening(taken.need)),
+            Part::Text(taken.option.text()),
+            Part::Text(taken.option.value_label()),
+            Part::Text(closing(taken.need)),
+        ],
+    )
+}
+
+/// Puts the options.
+fn put_options<K: Sink>(options: &[Taken], pending: &mut Pending, out: &mut K) -> Result<(), Failed>
+    ensures { Puts K.written K.faults out.old out.new pending.old pending.new (flat_map option_usage options.now) result }
+{
+    for taken in options {
+        put_option(taken, pending, out)?;
+    }
+    Ok(())
 }
 
 /// Puts the line of the command.
 fn put_line<K: Sink>(form: &CommandForm, pending: &mut Pending, out: &mut K) -> Result<(), Failed>
     ensures { Puts K.written K.faults out.old out.new pending.old pending.new (usage_line (form_seen form.now)) result }
 {
+    put_parts(pending, out, &[Part::Text("  "), Part::Text(form.name)])?;
+    put_options(form.options, pending, out)?;
     put_parts(
         pending,
         out,
-        &[
-            Part::Text("  "),
-            Part::Text(form.name),
-            Part::Text(option_usage(form.order, OptionName::Order)),
-            Part::Text(option_usage(form.slots, OptionName::Slots)),
-            Part::Text(option_usage(form.limit, OptionName::Limit)),
-            Part::Text(option_usage(form.slot, OptionName::Slot)),
-            Part::Text(" "),
-            Part::Text(form.label),
-            Part::Text("\n"),
-        ],
+        &[Part::Text(" "), Part::Text(form.label), Part::Text("\n")],
     )
 }
 

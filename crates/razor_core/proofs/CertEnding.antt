@@ -18,17 +18,16 @@ use Rattle.partition_check.specs.Agreement.{name_answered}
 use Rattle.partition_check.specs.Good.{certificate_text}
 use Rattle.partition_check.specs.PrefixWords.{ArePrefixes, IsFirstOther}
 use Rattle.box_partition.specs.Outcome.{IsCut, IsWritten}
-use Rattle.command_words.specs.Command.{Command, Cert}
+use Rattle.command_words.specs.Commands.{Command, Cert}
 use Rattle.razor_core.specs.declared.ending.Ending.{Ending}
 use Rattle.razor_core.specs.declared.ending.Ending.TheVariants.{Done, No, BadLine as Bad, TooLong, TooMany, ReadFault, WriteFault, Memory}
 use Rattle.razor_core.specs.declared.ending.Summary.{Summary}
 use Rattle.razor_core.specs.declared.ending.Summary.TheVariants.{Nothing}
 use Rattle.razor_core.specs.declared.line_reason.LineReason.TheVariants.{NotPrefix}
-use Rattle.razor_core.specs.Cert.{IsEndOfCert, SaysDifference, IsFirstOtherWord}
+use Rattle.razor_core.specs.Cert.{IsEndOfCert, SaysDifference, IsFirstOtherWord, certifying}
 use Rattle.razor_core.specs.Equiv.{differ_line}
-use Rattle.razor_core.specs.Inputs.{BadLine, Value, inputs, list_input, table_input}
+use Rattle.razor_core.specs.Inputs.{BadLine, Value, list_input, table_input}
 use Rattle.razor_core.specs.Outcome.{Outcome}
-use Rattle.razor_core.specs.Gives.{Gives}
 use Rattle.razor_core.specs.Outside.{Outside, Tells}
 use Rattle.razor_core.specs.Standing.{IsCutOff}
 use Rattle.razor_core.specs.Taking.{TakesTurn, table_value_of, value_of}
@@ -37,6 +36,7 @@ use Rattle.razor_core.specs.Turns.{bad_line, too_long, too_many}
 use Rattle.razor_core.specs.Ending.{Ends, Stops}
 use Rattle.razor_core.proofs.Ended.{done_ends}
 use Rattle.razor_core.proofs.Turns.{AllRead, Passed, ends_in_turn, pass_behind, passed_taken, read_taken, turns_pass}
+use Rattle.razor_core.specs.Meaning.{in_turn}
 
 -- the entry at a place, as the specification sees it
 entry_at : (names : List (List ℕ)) (es : List Entry) (k : ℕ) (e : tables.Entry) → slice_get (map (entry_of names) es) k ≡ Some e → (x : Entry) × (slice_get es k ≡ Some x) × (e ≡ entry_of names x)
@@ -78,19 +78,19 @@ pub record BothRead (first second : List ℕ) (before after : Outside) (list : R
   pub table_taken : TakesTurn (table_input second) (before.remaining second) (after.remaining second) (table_value_of table)
 
 module _ (first second : List ℕ) (before after : Outside) (list : RuleList) (table : Table) (read : BothRead first second before after list table) where
-  abbrev command : Command
-  command = Cert first second
+  abbrev command : Meaning
+  command = certifying first second
 
   abbrev values : List Value
   values = value_of list ∷ table_value_of table ∷ []
 
-  pub passed : Passed before (inputs command) values
+  pub passed : Passed before command.inputs values
   passed = (
     passed_taken (list_input first) (before.remaining first) (after.remaining first) (value_of list) read.list_taken,
     (passed_taken (table_input second) (before.remaining second) (after.remaining second) (table_value_of table) read.table_taken, tt),
   )
 
-  pub both_read : Tells before command → AllRead after (inputs command)
+  pub both_read : Tells before command.inputs → AllRead after command.inputs
   both_read tells = (
     read_taken (list_input first) (before.remaining first) (after.remaining first) (value_of list) read.list_taken tells.0,
     (read_taken (table_input second) (before.remaining second) (after.remaining second) (table_value_of table) read.table_taken tells.1.0, tt),
@@ -107,22 +107,22 @@ module _ (first second : List ℕ) (before after : Outside) (list : RuleList) (t
   abbrev difference_outcome : List ℕ → Outcome
   difference_outcome header = record { yes = false; text = differ_line header (source stated header (filter_list list).rules) (answer (table_of table).entries header); line = [] }
 
-  gives_difference : (header : List ℕ) → IsFirstDifference (name_decided list) (name_answered table) header → Gives command values (difference_outcome header)
+  gives_difference : (header : List ℕ) → IsFirstDifference (name_decided list) (name_answered table) header → command.gives values (difference_outcome header)
   gives_difference header h = inr (header, record { in_fields = h.in_fields; differ = h.differ; least = h.least }, refl)
 
-  gives_written : (count : ℕ) (w : IsWritten list table before.written after.written count) → Gives command values (certificate_outcome (certificate_text w.rows))
+  gives_written : (count : ℕ) (w : IsWritten list table before.written after.written count) → command.gives values (certificate_outcome (certificate_text w.rows))
   gives_written count w = inl (certificate_text w.rows, record { checks = record { list = list; table = table; rules_are = refl; entries_are = refl }; rows = w.rows; certificate = w.certificate; spelled = refl }, refl)
 
-  gives_cut : (w : IsCut list table before.written after.written) → Gives command values (certificate_outcome (certificate_text w.rows))
+  gives_cut : (w : IsCut list table before.written after.written) → command.gives values (certificate_outcome (certificate_text w.rows))
   gives_cut w = inl (certificate_text w.rows, record { checks = record { list = list; table = table; rules_are = refl; entries_are = refl }; rows = w.rows; certificate = w.certificate; spelled = refl }, refl)
 
-  cut_off : ArePrefixes table.entries.items → IsCut list table before.written after.written → Tells before command → IsCutOff command before after
+  cut_off : ArePrefixes table.entries.items → IsCut list table before.written after.written → Tells before command.inputs → IsCutOff command before after
   cut_off are w tells = record {
     values = values;
     outcome = certificate_outcome (certificate_text w.rows);
-    turns = turns_pass before (inputs command) values passed tells;
+    turns = turns_pass before command.inputs values passed tells;
     free = inl (free are);
-    gives = gives_cut w;
+    gives = inl (gives_cut w);
     written = w.appended;
   }
 
@@ -132,10 +132,10 @@ module _ (first second : List ℕ) (before after : Outside) (list : RuleList) (t
     named = ends_in_turn before after (λ input. second ≡ input.name) (list_input first ∷ []) (value_of list ∷ []) (table_input second) [] (passed.0, tt) refl tt;
     stopped = λ tells. inr (record {
       values = values;
-      turns = turns_pass before (inputs command) values passed tells;
+      turns = turns_pass before command.inputs values passed tells;
       later = (refl, (place, first_other table place h, refl));
     });
-    stands = λ tells. record { in_turn = λ stop e. keeps; later = λ vs e. keeps };
+    stands = λ tells. record { in_a_turn = λ stop e. keeps; later = λ vs e. keeps };
   }
 
   abbrev IsEnd : Ending → Type 0
@@ -145,18 +145,18 @@ module _ (first second : List ℕ) (before after : Outside) (list : RuleList) (t
       Stops command before after (bad_line second (record { line = place + 2; reason = NotPrefix })) → Stops command before after (bad_line name bad)
   bad_line_as name line place bad named at is h = rw (named, is, at) h
 
-  fault_ends : ArePrefixes table.entries.items → (IsCut list table before.written after.written ⊎ SaysDifference list table (AppendsFront before.written after.written)) → Tells before command → IsCutOff command before after
+  fault_ends : ArePrefixes table.entries.items → (IsCut list table before.written after.written ⊎ SaysDifference list table (AppendsFront before.written after.written)) → Tells before command.inputs → IsCutOff command before after
   fault_ends are (inl w) tells = cut_off are w tells
   fault_ends are (inr (header, differs, written)) tells = record {
     values = values;
     outcome = difference_outcome header;
-    turns = turns_pass before (inputs command) values passed tells;
+    turns = turns_pass before command.inputs values passed tells;
     free = inl (free are);
-    gives = gives_difference header differs;
+    gives = inl (gives_difference header differs);
     written = written;
   }
 
-  memory_ends : (Keeps before.written after.written ⊎ (ArePrefixes table.entries.items × IsCut list table before.written after.written)) → Tells before command → Keeps before.written after.written ⊎ IsCutOff command before after
+  memory_ends : (Keeps before.written after.written ⊎ (ArePrefixes table.entries.items × IsCut list table before.written after.written)) → Tells before command.inputs → Keeps before.written after.written ⊎ IsCutOff command before after
   memory_ends (inl keeps) tells = inl keeps
   memory_ends (inr (are, w)) tells = inr (cut_off are w tells)
 
@@ -172,5 +172,5 @@ module _ (first second : List ℕ) (before after : Outside) (list : RuleList) (t
   cert_ends (TooLong file limit) h = absurd h
   cert_ends (TooMany needed limit) h = absurd h
   cert_ends (ReadFault file) h = absurd h
-  cert_ends WriteFault h = (h.0, fault_ends h.1 h.2, pass_behind before after (inputs command) values passed)
-  cert_ends Memory h = (h.0, memory_ends h.1, pass_behind before after (inputs command) values passed)
+  cert_ends WriteFault h = (h.0, λ tells. (fault_ends h.1 h.2 tells, tt), pass_behind before after command.inputs values passed)
+  cert_ends Memory h = (h.0, λ tells. (memory_ends h.1 tells, tt), pass_behind before after command.inputs values passed)

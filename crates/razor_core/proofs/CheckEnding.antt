@@ -14,14 +14,13 @@ use Rattle.partition_check.specs.Agreement.{Agree}
 use Rattle.partition_check.specs.Checking.{Checking, begun}
 use Rattle.partition_check.specs.Streams.{ReadsTooMuch, ReadsUpTo, ReadsValid, ReadsWrong}
 use Rattle.partition_check.specs.declared.row.Wrong.{Wrong}
-use Rattle.command_words.specs.Command.{Command, Check}
+use Rattle.command_words.specs.Commands.{Command, Check}
 use Rattle.razor_core.specs.declared.ending.Ending.{Ending}
 use Rattle.razor_core.specs.declared.ending.Ending.TheVariants.{Done, No, BadLine as Bad, TooLong, TooMany, ReadFault, WriteFault, Memory}
 use Rattle.razor_core.specs.declared.ending.Summary.{Summary}
-use Rattle.razor_core.specs.Check.{Checks, valid_line, wrong_line, IsEndOfCheck, SaysValid, SaysWrong, IsRightSoFar}
-use Rattle.razor_core.specs.Inputs.{Input, Value, inputs, certificate_input, lines_value, list_input, list_value, table_input, table_value, text_of_certificate}
+use Rattle.razor_core.specs.Check.{Checks, valid_line, wrong_line, IsEndOfCheck, SaysValid, SaysWrong, IsRightSoFar, checking}
+use Rattle.razor_core.specs.Inputs.{Input, Value, certificate_input, lines_value, list_input, list_value, table_input, table_value, text_of_certificate}
 use Rattle.razor_core.specs.Outcome.{Outcome}
-use Rattle.razor_core.specs.Gives.{Gives}
 use Rattle.razor_core.specs.Outside.{Outside, Tells, bytes_at}
 use Rattle.razor_core.specs.Standing.{IsCutOff}
 use Rattle.razor_core.specs.Taking.{table_value_of, value_of}
@@ -32,6 +31,7 @@ use Rattle.razor_core.specs.Ending.{Ends, IsDone}
 use Rattle.razor_core.proofs.CertEnding.{BothRead, both_read, passed}
 use Rattle.razor_core.proofs.Ended.{done_ends}
 use Rattle.razor_core.proofs.Turns.{AllRead, Passed, PassesWith, ends_in_turn, fault_later, kept_told, near_later, pass_behind, some_bytes, told_turn, turns_pass}
+use Rattle.razor_core.specs.Meaning.{in_turn}
 
 abbrev most : ℕ
 most = 268435456
@@ -68,8 +68,8 @@ read_up_to c limit (Some all) (Some left) h = (h.front, h.parts ∙ ap (λ (rest
 
 module _ (first second third : List ℕ) (before after : Outside) (list : RuleList) (table : Table) (left : List ℕ → Option (List ℕ)) (faults : List ℕ → ℕ)
     (checked : Checked first second third before after list table (left third) (faults third)) (one : OneVerdict) where
-  abbrev command : Command
-  command = Check first second third
+  abbrev command : Meaning
+  command = checking first second third
 
   -- what was seen before the certificate was checked
   abbrev between : Outside
@@ -87,18 +87,18 @@ module _ (first second third : List ℕ) (before after : Outside) (list : RuleLi
   both_passed : Passed before (list_input first ∷ table_input second ∷ []) (value_of list ∷ table_value_of table ∷ [])
   both_passed = passed first second before after list table checked.reads
 
-  all_passed : Passed before (inputs command) values
+  all_passed : Passed before command.inputs values
   all_passed = (both_passed.0, (both_passed.1.0, (lines_pass third (before.remaining third), tt)))
 
-  front_read : Tells before command → AllRead after (list_input first ∷ table_input second ∷ [])
+  front_read : Tells before command.inputs → AllRead after (list_input first ∷ table_input second ∷ [])
   front_read tells = both_read first second before after list table checked.reads (tells.0, (tells.1.0, tt))
 
-  at_text : (P : List ℕ → Type 0) → IfSome (left third) P → Tells before command → P text
+  at_text : (P : List ℕ → Type 0) → IfSome (left third) P → Tells before command.inputs → P text
   at_text P h tells = subst (λ (o : Option (List ℕ)). IfSome o P) (kept_told (before.remaining third) (left third) checked.kept tells.1.1.0 ∙ some_bytes (before.remaining third) tells.1.1.0) h
 
   -- the command defines this outcome, and nothing ends it later
   abbrev IsFound : Outcome → Type 0
-  IsFound outcome = IsFree command values × Gives command values outcome
+  IsFound outcome = IsFree command values × command.gives values outcome
 
   abbrev valid_outcome : ℕ → Outcome
   valid_outcome rows = record { yes = true; text = valid_line rows; line = [] }
@@ -123,26 +123,26 @@ module _ (first second third : List ℕ) (before after : Outside) (list : RuleLi
   wrong_found : (w : Wrong) → ReadsWrong (begun list table) most text w → IsFound (wrong_outcome w)
   wrong_found w h = (free_wrong w h, inr (checks, w, h, refl))
 
-  valid_at : (rows : ℕ) → IfSome (left third) (λ all. ReadsValid (begun list table) most all (after.remaining third) rows) → Tells before command → ReadsValid (begun list table) most text (after.remaining third) rows
+  valid_at : (rows : ℕ) → IfSome (left third) (λ all. ReadsValid (begun list table) most all (after.remaining third) rows) → Tells before command.inputs → ReadsValid (begun list table) most text (after.remaining third) rows
   valid_at rows h tells = at_text (λ all. ReadsValid (begun list table) most all (after.remaining third) rows) h tells
 
-  wrong_at : (w : Wrong) → IfSome (left third) (λ all. ReadsWrong (begun list table) most all w) → Tells before command → ReadsWrong (begun list table) most text w
+  wrong_at : (w : Wrong) → IfSome (left third) (λ all. ReadsWrong (begun list table) most all w) → Tells before command.inputs → ReadsWrong (begun list table) most text w
   wrong_at w h tells = at_text (λ all. ReadsWrong (begun list table) most all w) h tells
 
-  valid_done : SaysValid list table (left third) (after.remaining third) (Appends before.written after.written) → Tells before command → IsDone command before after true []
+  valid_done : SaysValid list table (left third) (after.remaining third) (Appends before.written after.written) → Tells before command.inputs → IsDone command before after true []
   valid_done (agree, rows, h, written) tells =
       let at = valid_at rows h tells in
       let found = valid_found rows at agree in
       let read = front_read tells in
       done_ends command before after values (valid_outcome rows) true all_passed found.0 found.1 refl written (read.0, (read.1.0, (at.whole, tt))) tells
 
-  wrong_done : SaysWrong list table (left third) (Appends before.written after.written) → Tells before command → IsDone command before after false []
+  wrong_done : SaysWrong list table (left third) (Appends before.written after.written) → Tells before command.inputs → IsDone command before after false []
   wrong_done (w, h, written) tells =
       let found = wrong_found w (wrong_at w h tells) in
       done_ends command before after values (wrong_outcome w) false all_passed found.0 found.1 refl written (front_read tells) tells
 
   -- the turns of list and table passed, and nothing stands behind the certificate
-  in_certificate : (Ended : Input → Type 0) → Ended (certificate_input third) → EndsInTurn before after Ended (inputs command)
+  in_certificate : (Ended : Input → Type 0) → Ended (certificate_input third) → EndsInTurn before after Ended command.inputs
   in_certificate Ended h = ends_in_turn before after Ended (list_input first ∷ table_input second ∷ []) (value_of list ∷ table_value_of table ∷ []) (certificate_input third) [] both_passed h tt
 
   abbrev IsUpTo : Type 0
@@ -154,7 +154,7 @@ module _ (first second third : List ℕ) (before after : Outside) (list : RuleLi
       fault_later text_of_certificate (before.remaining third) (left third) (after.remaining third) (before.read_faults third) (faults third) (after.read_faults third) checked.kept checked.counts
       (record { rose = rose; seen = read.0; read = read.1; within = read.2 })
 
-  right_so_far : IsUpTo → Tells before command → IsRightSoFar first second third before after
+  right_so_far : IsUpTo → Tells before command.inputs → IsRightSoFar first second third before after
   right_so_far h tells rules entries listed tabled =
       let list_turn = told_turn (list_input first) (before.remaining first) (Ok (value_of list)) both_passed.0 tells.0 in
       let table_turn = told_turn (table_input second) (before.remaining second) (Ok (table_value_of table)) both_passed.1.0 tells.1.0 in
@@ -163,17 +163,17 @@ module _ (first second third : List ℕ) (before after : Outside) (list : RuleLi
         up_to = at_text (λ all. ReadsUpTo (begun list table) most all (after.remaining third)) h tells;
       }
 
-  cut_off : (outcome : Outcome) → IsFound outcome → AppendsFront before.written after.written outcome.text → Tells before command → IsCutOff command before after
+  cut_off : (outcome : Outcome) → IsFound outcome → AppendsFront before.written after.written outcome.text → Tells before command.inputs → IsCutOff command before after
   cut_off outcome found written tells = record {
     values = values;
     outcome = outcome;
-    turns = turns_pass before (inputs command) values all_passed tells;
+    turns = turns_pass before command.inputs values all_passed tells;
     free = inl found.0;
-    gives = found.1;
+    gives = inl found.1;
     written = written;
   }
 
-  fault_ends : SaysValid list table (left third) (after.remaining third) (AppendsFront before.written after.written) ⊎ SaysWrong list table (left third) (AppendsFront before.written after.written) → Tells before command → IsCutOff command before after
+  fault_ends : SaysValid list table (left third) (after.remaining third) (AppendsFront before.written after.written) ⊎ SaysWrong list table (left third) (AppendsFront before.written after.written) → Tells before command.inputs → IsCutOff command before after
   fault_ends (inl (agree, rows, h, written)) tells = cut_off (valid_outcome rows) (valid_found rows (valid_at rows h tells) agree) written tells
   fault_ends (inr (w, h, written)) tells = cut_off (wrong_outcome w) (wrong_found w (wrong_at w h tells)) written tells
 
@@ -186,15 +186,15 @@ module _ (first second third : List ℕ) (before after : Outside) (list : RuleLi
     named = in_certificate (IsLong before after file.now limit) (record { named = h.0; limited = h.1; near = near_later (before.remaining third) (left third) (after.remaining third) (limit + 65536) checked.kept h.3 });
     stopped = λ tells. inr (record {
       values = values;
-      turns = turns_pass before (inputs command) values all_passed tells;
+      turns = turns_pass before command.inputs values all_passed tells;
       later = (h.0, h.1, record { checks = checks; goes_on = at_text (λ all. ReadsTooMuch (begun list table) most all) h.4 tells });
     });
-    stands = λ tells. record { in_turn = λ stop e. h.2; later = λ vs e. h.2 };
+    stands = λ tells. record { in_a_turn = λ stop e. h.2; later = λ vs e. h.2 };
   }
   check_ends (TooMany needed limit) h = absurd h
   check_ends (ReadFault file) h = (
     in_certificate (IsFaultUnder before after file.now) (h.0, fault h.2 h.3),
     (h.1, λ tells same. right_so_far h.3 tells),
   )
-  check_ends WriteFault h = (h.0, fault_ends h.1, pass_behind before after (inputs command) values all_passed)
+  check_ends WriteFault h = (h.0, λ tells. (fault_ends h.1 tells, tt), pass_behind before after command.inputs values all_passed)
   check_ends Memory h = absurd h

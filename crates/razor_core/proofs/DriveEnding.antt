@@ -13,12 +13,11 @@ use Rattle.bank_update.specs.Runs.{IsRun, calm, line_of, next, session}
 use Rattle.bank_update.specs.Script.{Event}
 use Rattle.bank_update.specs.declared.drive.DriveError.{DriveError}
 use Rattle.bank_update.specs.declared.drive.DriveError.TheVariants as errors
-use Rattle.command_words.specs.Command.{Drive}
 use Rattle.razor_core.specs.declared.ending.Ending.{Ending}
-use Rattle.razor_core.specs.Inputs.{Value, inputs, script_input, script_value}
+use Rattle.razor_core.specs.Inputs.{Value, script_input, script_value}
 use Rattle.razor_core.specs.Outcome.{Outcome}
 use Rattle.razor_core.specs.Outside.{Outside, Tells}
-use Rattle.razor_core.specs.Drive.{IsEndOfDrive}
+use Rattle.razor_core.specs.Drive.{IsEndOfDrive, swapping}
 use Rattle.razor_core.specs.Standing.{IsCutOff}
 use Rattle.razor_core.specs.Tables.{AreTaken}
 use Rattle.razor_core.specs.Taking.{TakesTurn, table_value_of}
@@ -59,7 +58,7 @@ module _ (law : PrintsSession) (slots : ℕ) (script : List ℕ) (files : List (
   abbrev outcome : Outcome
   outcome = record { yes = true; text = text; line = [] }
 
-  passed : (ended : Result ℕ DriveError) → IsDriven ended → Passed before (inputs (Drive slots script files)) values
+  passed : (ended : Result ℕ DriveError) → IsDriven ended → Passed before (swapping slots script files).inputs values
   passed ended run = (passed_taken (script_input (length files) script) (before.remaining script) (after.remaining script) (script_value events) run.script_taken, all_passed before after files tables run.tables_taken)
 
   -- the first lines, and a part of the next one, are a front of all
@@ -76,13 +75,13 @@ module _ (law : PrintsSession) (slots : ℕ) (script : List ℕ) (files : List (
         ),
       )
 
-  cut : (ended : Result ℕ DriveError) → IsDriven ended → AppendsFront before.written after.written text → Tells before (Drive slots script files) → IsCutOff (Drive slots script files) before after
+  cut : (ended : Result ℕ DriveError) → IsDriven ended → AppendsFront before.written after.written text → Tells before (swapping slots script files).inputs → IsCutOff (swapping slots script files) before after
   cut ended run front tells = record {
     values = values;
     outcome = outcome;
-    turns = turns_pass before (inputs (Drive slots script files)) values (passed ended run) tells;
+    turns = turns_pass before (swapping slots script files).inputs values (passed ended run) tells;
     free = inl (λ stop later. later);
-    gives = record { tables = tables; values_are = refl; says = refl };
+    gives = inl (record { tables = tables; values_are = refl; says = refl });
     written = front;
   }
 
@@ -99,17 +98,17 @@ module _ (law : PrintsSession) (slots : ℕ) (script : List ℕ) (files : List (
       front_of h.ran.front h.ran.rest h.lines h.part h.lost h.ran.parts
       (ap concat (sym printed) ∙ concat-append h.lines (h.last ∷ []) ∙ ap (λ (t : List ℕ). concat h.lines ++ t) (append-nil h.last ∙ h.cut) ∙ sym (append_assoc (concat h.lines) h.part h.lost)) h.written
 
-  pub drive_ends : (ended : Result ℕ DriveError) (ending : Ending) → IsDriven ended → IsEndOfDrive ended ending → Ends (Drive slots script files) before after ending
-  drive_ends (Ok count) ending run is = subst (Ends (Drive slots script files) before after) (sym is) (
+  pub drive_ends : (ended : Result ℕ DriveError) (ending : Ending) → IsDriven ended → IsEndOfDrive ended ending → Ends (swapping slots script files) before after ending
+  drive_ends (Ok count) ending run is = subst (Ends (swapping slots script files) before after) (sym is) (
     refl,
     λ tells.
         let h = run.outcome.1 in
         let printed = law tables (unsettled slots) last events h.lines h.ran in
-        done_ends (Drive slots script files) before after values outcome true (passed (Ok count) run) (λ stop later. later) (record { tables = tables; values_are = refl; says = refl }) refl
+        done_ends (swapping slots script files) before after values outcome true (passed (Ok count) run) (λ stop later. later) (record { tables = tables; values_are = refl; says = refl }) refl
         (subst (λ (lines : List (List ℕ)). Appends before.written after.written (concat lines)) printed h.written)
         (read_taken (script_input (length files) script) (before.remaining script) (after.remaining script) (script_value events) run.script_taken tells.0, all_read before after files tables run.tables_taken tells.1) tells,
   )
-  drive_ends (Err errors.WriteFault) ending run is = subst (Ends (Drive slots script files) before after) (sym is)
-      (run.write_fault refl, cut (Err errors.WriteFault) run (fault_front run), pass_behind before after (inputs (Drive slots script files)) values (passed (Err errors.WriteFault) run))
-  drive_ends (Err errors.Memory) ending run is = subst (Ends (Drive slots script files) before after) (sym is)
-      (run.calm, (λ tells. inr (cut (Err errors.Memory) run (memory_front run) tells)), pass_behind before after (inputs (Drive slots script files)) values (passed (Err errors.Memory) run))
+  drive_ends (Err errors.WriteFault) ending run is = subst (Ends (swapping slots script files) before after) (sym is)
+      (run.write_fault refl, (λ tells. (cut (Err errors.WriteFault) run (fault_front run) tells, tt)), pass_behind before after (swapping slots script files).inputs values (passed (Err errors.WriteFault) run))
+  drive_ends (Err errors.Memory) ending run is = subst (Ends (swapping slots script files) before after) (sym is)
+      (run.calm, (λ tells. (inr (cut (Err errors.Memory) run (memory_front run) tells), tt)), pass_behind before after (swapping slots script files).inputs values (passed (Err errors.Memory) run))

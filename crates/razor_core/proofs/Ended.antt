@@ -5,23 +5,25 @@ use Rattle.std.specs.Io.KnownBytes.{Appends, Keeps}
 use Rattle.razor_base.specs.Faults.{Rose}
 use Rattle.razor_base.specs.Output.{AppendsFront}
 use Rattle.field_boxes.specs.Headline.Classifier.{Rule}
-use Rattle.command_words.specs.Command.{Command, Make, Method, Expand, Compile, Arrange, Session, Shorten, Sizes}
+use Rattle.command_words.specs.Commands.{Method, Expand, Compile, Arrange, Shorten}
+use Rattle.command_words.specs.Settings.{Sizes}
 use Rattle.command_words.specs.Orders.{Wanted, Best, In}
 use Rattle.filter_reader.specs.Headline.FilterList.{FilterList}
 use Rattle.razor_core.specs.declared.ending.Ending.{Ending}
 use Rattle.razor_core.specs.declared.ending.Ending.TheVariants.{Done, No, BadLine as Bad, TooLong, TooMany, ReadFault, WriteFault, Memory}
-use Rattle.razor_core.specs.Inputs.{Input, Value, inputs, list_input, list_value, session_value, read_by}
-use Rattle.razor_core.specs.Make.{IsNeeded, IsNotMade, IsOrderOf, IsRoom, IsWanted, MayBeOrderOf, MayBeWanted}
+use Rattle.razor_core.specs.Inputs.{Input, Value, list_input, list_value, session_value}
+use Rattle.razor_core.specs.Make.{IsNeeded, IsNotMade, IsOrderOf, IsRoom, IsWanted, MayBeOrderOf, MayBeWanted, making}
 use Rattle.razor_core.specs.Outcome.{Outcome}
-use Rattle.razor_core.specs.Gives.{Begins, Gives}
 use Rattle.razor_core.specs.Outside.{Outside, AreKept, Tells}
-use Rattle.razor_core.specs.Standing.{IsCutOff, StandsBroken, StandsCut, StandsShort, WritesInTurn}
+use Rattle.razor_core.specs.Standing.{CutBy, ShortBy}
 use Rattle.razor_core.specs.Taking.{EndsTurn}
 use Rattle.razor_core.specs.Turns.{Stop, bad_line, too_long, too_many, turns_of}
-use Rattle.razor_core.specs.Stopping.{IsFree, MayGoOn}
+use Rattle.razor_core.specs.Stopping.{IsFree}
 use Rattle.razor_core.specs.Ending.{Ends, IsDone, Stops}
 use Rattle.razor_core.specs.Deciding.{EndsInTurn, IsFaultUnder, IsLong, IsStopOf}
 use Rattle.razor_core.proofs.Turns.{AllRead, AllTold, Passed, StopsWith, ends_in_turn, fault_later, near_later, pass_behind, turn_behind, turns_pass, turns_stop}
+use Rattle.razor_core.specs.Meaning.{Meaning, Writing, at_the_end, by_lines, in_turn, read_by}
+use Rattle.razor_core.specs.Session.{editing}
 
 -- turns that all pass are ended by nothing
 pub passed_or_stopped : (turns : Result (List Value) Stop) (values : List Value) (stop : Stop) → turns ≡ Ok values → turns ≡ Err stop → ⊥
@@ -31,42 +33,53 @@ pub same_values : (turns : Result (List Value) Stop) (a b : List Value) → turn
 same_values turns a b p q = cc
 
 -- inputs of a command that were taken in turn, up to this one, and those behind it are as they were
-pub record Reached (command : Command) (before after : Outside) (front : List Input) (values : List Value) (input : Input) (others : List Input) : Type 0 where
-  pub inputs_are : inputs command ≡ front ++ input ∷ others
+pub record Reached (command : Meaning) (before after : Outside) (front : List Input) (values : List Value) (input : Input) (others : List Input) : Type 0 where
+  pub inputs_are : command.inputs ≡ front ++ input ∷ others
   pub passed : Passed before front values
   pub kept : AreKept before after others
 
 -- what stands of a command that has written nothing, where a read under the name failed, and where memory was refused
-pub record StandsStill (command : Command) (before after : Outside) (name : List ℕ) : Type 0 where
+pub record StandsStill (command : Meaning) (before after : Outside) (name : List ℕ) : Type 0 where
   pub keeps : Keeps before.written after.written
-  pub cut : (file : List ℕ) → file ≡ name → StandsCut command before after file
   pub calm : after.write_faults ≡ before.write_faults
-  pub short : StandsShort command before after
+  pub unread : (file : List ℕ) → file ≡ name → Tells before command.inputs → command.where_unread before after file
+  pub pace : Tells before command.inputs → command.pace before after
 
-stop_in_turn : (command : Command) (before after : Outside) (front : List Input) (values : List Value) (input : Input) (others : List Input) (stop : Stop) → Reached command before after front values input others →
-    StopsWith input (before.remaining input.name) stop → Tells before command → turns_of before (inputs command) ≡ Err stop
+still_cut : (writes : Writing) (command : Meaning) (before after : Outside) (file : List ℕ) → Keeps before.written after.written → (Tells before command.inputs → command.where_unread before after file) → CutBy writes command before after file
+still_cut at_the_end command before after file keeps unread = (keeps, unread)
+still_cut by_lines command before after file keeps unread = (keeps, unread)
+still_cut in_turn command before after file keeps unread = unread
+
+-- out of memory, where nothing was written
+pub still_short : (writes : Writing) (command : Meaning) (before after : Outside) → Keeps before.written after.written → (Tells before command.inputs → command.pace before after) → ShortBy writes command before after
+still_short at_the_end command before after keeps pace = keeps
+still_short by_lines command before after keeps pace = λ tells. (inl keeps, pace tells)
+still_short in_turn command before after keeps pace = λ tells. (inl keeps, pace tells)
+
+stop_in_turn : (command : Meaning) (before after : Outside) (front : List Input) (values : List Value) (input : Input) (others : List Input) (stop : Stop) → Reached command before after front values input others →
+    StopsWith input (before.remaining input.name) stop → Tells before command.inputs → turns_of before command.inputs ≡ Err stop
 stop_in_turn command before after front values input others stop reached h tells =
     ap (turns_of before) reached.inputs_are ∙ turns_stop before front values input others stop reached.passed h (subst (AllTold before) reached.inputs_are tells)
 
-ends_there : (command : Command) (before after : Outside) (front : List Input) (values : List Value) (input : Input) (others : List Input) (Is : Input → Type 0) → Reached command before after front values input others → Is input →
-    EndsInTurn before after Is (inputs command)
+ends_there : (command : Meaning) (before after : Outside) (front : List Input) (values : List Value) (input : Input) (others : List Input) (Is : Input → Type 0) → Reached command before after front values input others → Is input →
+    EndsInTurn before after Is command.inputs
 ends_there command before after front values input others Is reached is =
     subst (EndsInTurn before after Is) (sym reached.inputs_are) (ends_in_turn before after Is front values input others reached.passed is reached.kept)
 
-stops : (command : Command) (before after : Outside) (front : List Input) (values : List Value) (input : Input) (others : List Input) (stop : Stop) → Reached command before after front values input others →
+stops : (command : Meaning) (before after : Outside) (front : List Input) (values : List Value) (input : Input) (others : List Input) (stop : Stop) → Reached command before after front values input others →
     Keeps before.written after.written → IsStopOf command before after stop → StopsWith input (before.remaining input.name) stop → Stops command before after stop
 stops command before after front values input others stop reached keeps named h = record {
   unchanged = λ last. keeps;
   named = named;
   stopped = λ tells. inl (stop_in_turn command before after front values input others stop reached h tells);
   stands = λ tells. record {
-    in_turn = λ s e. keeps;
-    later = λ vs e. absurd (passed_or_stopped (turns_of before (inputs command)) vs stop e (stop_in_turn command before after front values input others stop reached h tells));
+    in_a_turn = λ s e. keeps;
+    later = λ vs e. absurd (passed_or_stopped (turns_of before command.inputs) vs stop e (stop_in_turn command before after front values input others stop reached h tells));
   };
 }
 
 -- the turn of an input is ended
-pub turn_ends : (command : Command) (before after : Outside) (front : List Input) (values : List Value) (input : Input) (others : List Input) (ending : Ending) → Reached command before after front values input others →
+pub turn_ends : (command : Meaning) (before after : Outside) (front : List Input) (values : List Value) (input : Input) (others : List Input) (ending : Ending) → Reached command before after front values input others →
     StandsStill command before after input.name → EndsTurn input (before.remaining input.name) (after.remaining input.name) (before.read_faults input.name) (after.read_faults input.name) ending → Ends command before after ending
 turn_ends command before after front values input others (Done summary) reached still h = absurd h
 turn_ends command before after front values input others No reached still h = absurd h
@@ -78,10 +91,10 @@ turn_ends command before after front values input others (TooLong file limit) re
     (ends_there command before after front values input others (IsLong before after file.now limit) reached (record { named = h.0; limited = h.1; near = h.2 })) h.3
 turn_ends command before after front values input others (TooMany needed limit) reached still h = absurd h
 turn_ends command before after front values input others (ReadFault file) reached still h =
-    (ends_there command before after front values input others (IsFaultUnder before after file.now) reached h, still.cut file.now h.0)
+    (ends_there command before after front values input others (IsFaultUnder before after file.now) reached h, still_cut command.writes command before after file.now still.keeps (still.unread file.now h.0))
 turn_ends command before after front values input others WriteFault reached still h = absurd h
 turn_ends command before after front values input others Memory reached still h =
-    (still.calm, still.short, turn_behind before after (λ i. Unit {0}) (inputs command) (ends_there command before after front values input others (λ i. Unit {0}) reached tt))
+    (still.calm, still_short command.writes command before after still.keeps still.pace, turn_behind before after (λ i. Unit {0}) command.inputs (ends_there command before after front values input others (λ i. Unit {0}) reached tt))
 
 stops_later : (input : Input) (before between : Option (List ℕ)) (stop : Stop) → Keeps before between → StopsWith input between stop → StopsWith input before stop
 stops_later input None between stop keeps h = tt
@@ -102,12 +115,12 @@ ends_later input before between after first second last WriteFault keeps le h = 
 ends_later input before between after first second last Memory keeps le h = tt
 
 -- all was written, of a command that goes on
-pub done_goes_on : (command : Command) (before after : Outside) (values : List Value) (outcome : Outcome) (answer : Bool) → Passed before (inputs command) values → IsFree command values ⊎ MayGoOn command → Gives command values outcome →
-    outcome.yes ≡ answer → Appends before.written after.written outcome.text → AllRead after (read_by command answer) → Tells before command → IsDone command before after answer outcome.line
+pub done_goes_on : (command : Meaning) (before after : Outside) (values : List Value) (outcome : Outcome) (answer : Bool) → Passed before command.inputs values → IsFree command values ⊎ command.goes_on → command.gives values outcome →
+    outcome.yes ≡ answer → Appends before.written after.written outcome.text → AllRead after (read_by command answer) → Tells before command.inputs → IsDone command before after answer outcome.line
 done_goes_on command before after values outcome answer passed free gives answered written read tells = record {
   values = values;
   outcome = outcome;
-  pass = record { turns = turns_pass before (inputs command) values passed tells; free = free };
+  pass = record { turns = turns_pass before command.inputs values passed tells; free = free };
   gives = gives;
   answered = answered;
   lined = refl;
@@ -116,29 +129,27 @@ done_goes_on command before after values outcome answer passed free gives answer
 }
 
 -- all was written
-pub done_ends : (command : Command) (before after : Outside) (values : List Value) (outcome : Outcome) (answer : Bool) → Passed before (inputs command) values → IsFree command values → Gives command values outcome →
-    outcome.yes ≡ answer → Appends before.written after.written outcome.text → AllRead after (read_by command answer) → Tells before command → IsDone command before after answer outcome.line
+pub done_ends : (command : Meaning) (before after : Outside) (values : List Value) (outcome : Outcome) (answer : Bool) → Passed before command.inputs values → IsFree command values → command.gives values outcome →
+    outcome.yes ≡ answer → Appends before.written after.written outcome.text → AllRead after (read_by command answer) → Tells before command.inputs → IsDone command before after answer outcome.line
 done_ends command before after values outcome answer passed free gives = done_goes_on command before after values outcome answer passed (inl free) gives
 
--- what a command defines, it begins with
-begins_of : (command : Command) (values : List Value) (outcome : Outcome) → Gives command values outcome → Begins command values outcome
-begins_of (Session slots sizes script file) (session_value events ∷ list_value list ∷ values) outcome h = record { front = events; rest = []; parts = sym (append-nil events); edits = h }
-begins_of command values outcome h = h
-
 -- a write failed, of a command that writes when its turns have passed
-pub cut_off_ends : (command : Command) (before after : Outside) → (IsCutOff command before after → StandsBroken command before after) → (values : List Value) (outcome : Outcome) → Passed before (inputs command) values → IsFree command values ⊎ WritesInTurn command ⊎ MayGoOn command → Gives command values outcome →
-    Rose before.write_faults after.write_faults → AppendsFront before.written after.written outcome.text → Ends command before after WriteFault
-cut_off_ends command before after broken values outcome passed free gives rose written = (
+pub cut_off_ends : (command : Meaning) (before after : Outside) → (Tells before command.inputs → command.pace before after) → (values : List Value) (outcome : Outcome) → Passed before command.inputs values → IsFree command values ⊎ (command.writes ≡ in_turn) ⊎ command.goes_on →
+    command.gives values outcome → Rose before.write_faults after.write_faults → AppendsFront before.written after.written outcome.text → Ends command before after WriteFault
+cut_off_ends command before after pace values outcome passed free gives rose written = (
   rose,
-  (λ tells. broken (record {
-    values = values;
-    outcome = outcome;
-    turns = turns_pass before (inputs command) values passed tells;
-    free = free;
-    gives = begins_of command values outcome gives;
-    written = written;
-  })),
-  pass_behind before after (inputs command) values passed,
+  (λ tells. (
+    record {
+      values = values;
+      outcome = outcome;
+      turns = turns_pass before command.inputs values passed tells;
+      free = free;
+      gives = inl gives;
+      written = written;
+    },
+    pace tells,
+  )),
+  pass_behind before after command.inputs values passed,
 )
 
 -- the order that is said may be the one that is wanted
@@ -154,7 +165,7 @@ said_order (Shorten None) rules order h = h
 said_order (Shorten (Some wanted)) rules order h = said_wanted wanted rules order h
 
 -- no more entries are needed than the limit
-room_free : (method : Method) (sizes : Sizes) (file : List ℕ) (list : FilterList) → ((needed : ℕ) → IsNeeded method list.rules needed → needed ≤ sizes.limit) → IsFree (Make method sizes file) (list_value list ∷ [])
+room_free : (method : Method) (sizes : Sizes) (file : List ℕ) (list : FilterList) → ((needed : ℕ) → IsNeeded method list.rules needed → needed ≤ sizes.limit) → IsFree (making method sizes file) (list_value list ∷ [])
 room_free method sizes file list room (bad_line name bad) later = later
 room_free method sizes file list room (too_long name limit) later = later
 room_free method sizes file list room (too_many needed limit) later =
@@ -164,7 +175,7 @@ room_free method sizes file list room (too_many needed limit) later =
     omega arith
 
 -- a table was made
-pub make_free : (method : Method) (sizes : Sizes) (file : List ℕ) (list : FilterList) → IsRoom method list.rules sizes.limit → IsFree (Make method sizes file) (list_value list ∷ []) ⊎ MayGoOn (Make method sizes file)
+pub make_free : (method : Method) (sizes : Sizes) (file : List ℕ) (list : FilterList) → IsRoom method list.rules sizes.limit → IsFree (making method sizes file) (list_value list ∷ []) ⊎ (making method sizes file).goes_on
 make_free (Shorten wanted) sizes file list room = inr tt
 make_free method sizes file list room = inl (room_free method sizes file list room)
 
@@ -175,12 +186,12 @@ or_in_turn (inr c) = inr (inr c)
 
 -- no table was made
 pub not_made_ends : (method : Method) (sizes : Sizes) (file : List ℕ) (before after : Outside) (list : FilterList) (ending : Ending) → Passed before (list_input file ∷ []) (list_value list ∷ []) → IsNotMade (IsNeeded method list.rules) sizes.limit ending →
-    Keeps before.written after.written → after.write_faults ≡ before.write_faults → Ends (Make method sizes file) before after ending
+    Keeps before.written after.written → after.write_faults ≡ before.write_faults → Ends (making method sizes file) before after ending
 not_made_ends method sizes file before after list Memory passed refused keeps calm = (calm, keeps, pass_behind before after (list_input file ∷ []) (list_value list ∷ []) passed)
 not_made_ends method sizes file before after list (TooMany needed limit) passed refused keeps calm = record {
   unchanged = λ last. keeps;
   named = (refused.1, let limited = refused.1 in let above = refused.2 in omega arith);
   stopped = λ tells. inr (record { values = list_value list ∷ []; turns = turns_pass before (list_input file ∷ []) (list_value list ∷ []) passed tells; later = (refused.0, refused.1, let limited = refused.1 in let above = refused.2 in omega arith) });
-  stands = λ tells. record { in_turn = λ s e. keeps; later = λ vs e. keeps };
+  stands = λ tells. record { in_a_turn = λ s e. keeps; later = λ vs e. keeps };
 }
 not_made_ends method sizes file before after list ending passed refused keeps calm = absurd refused

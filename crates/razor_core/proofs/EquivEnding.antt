@@ -9,10 +9,9 @@ use Rattle.filter_reader.specs.Lists.{filter_list}
 use Rattle.list_equiv.specs.declared.verdict.Verdict.{Verdict}
 use Rattle.list_equiv.specs.declared.verdict.Verdict.TheVariants.{Equal, Differ}
 use Rattle.list_equiv.specs.Verdict.{IsListVerdict}
-use Rattle.command_words.specs.Command.{Equiv}
 use Rattle.razor_core.specs.declared.ending.Ending.{Ending}
 use Rattle.razor_core.specs.declared.ending.Ending.TheVariants.{WriteFault}
-use Rattle.razor_core.specs.Equiv.{equal_line, Compares, verdict_text, IsAnswer}
+use Rattle.razor_core.specs.Equiv.{equal_line, Compares, verdict_text, IsAnswer, comparing}
 use Rattle.razor_core.specs.Inputs.{list_input}
 use Rattle.razor_core.specs.Outcome.{Outcome}
 use Rattle.razor_core.specs.Outside.{Outside, Tells}
@@ -32,7 +31,7 @@ both_passed left right before after first second reads = (
   (passed_taken (list_input right) (before.remaining right) (after.remaining right) (value_of second) reads.right_taken, tt),
 )
 
-both_read : (left right : List ℕ) (before after : Outside) (first second : RuleList) → ReadBoth left right before after first second → Tells before (Equiv left right) → AllRead after (list_input left ∷ list_input right ∷ [])
+both_read : (left right : List ℕ) (before after : Outside) (first second : RuleList) → ReadBoth left right before after first second → Tells before (comparing left right).inputs → AllRead after (list_input left ∷ list_input right ∷ [])
 both_read left right before after first second reads tells = (
   read_taken (list_input left) (before.remaining left) (after.remaining left) (value_of first) reads.left_taken tells.0,
   (read_taken (list_input right) (before.remaining right) (after.remaining right) (value_of second) reads.right_taken tells.1.0, tt),
@@ -55,24 +54,24 @@ text_is (Differ header left right) first second = refl
 
 -- the verdict was written whole
 pub answered_ends : (left right : List ℕ) (before after : Outside) (first second : RuleList) (verdict : Verdict) (ending : Ending) → ReadBoth left right before after first second → IsListVerdict first second verdict →
-    Appends before.written after.written (verdict_text verdict (filter_list first).rules (filter_list second).rules) → IsAnswer verdict ending → Ends (Equiv left right) before after ending
+    Appends before.written after.written (verdict_text verdict (filter_list first).rules (filter_list second).rules) → IsAnswer verdict ending → Ends (comparing left right) before after ending
 unfolding outcome_of
-answered_ends left right before after first second Equal ending reads is written same = subst (Ends (Equiv left right) before after) (sym same) (
+answered_ends left right before after first second Equal ending reads is written same = subst (Ends (comparing left right) before after) (sym same) (
   refl,
   λ tells.
-      done_ends (Equiv left right) before after (value_of first ∷ value_of second ∷ []) (outcome_of Equal first second) true (both_passed left right before after first second reads) (λ stop later. later)
+      done_ends (comparing left right) before after (value_of first ∷ value_of second ∷ []) (outcome_of Equal first second) true (both_passed left right before after first second reads) (λ stop later. later)
       (compares Equal first second is) refl written (both_read left right before after first second reads tells) tells,
 )
-answered_ends left right before after first second (Differ header a b) ending reads is written same = subst (Ends (Equiv left right) before after) (sym same) (
+answered_ends left right before after first second (Differ header a b) ending reads is written same = subst (Ends (comparing left right) before after) (sym same) (
   tt,
   λ tells.
-      done_ends (Equiv left right) before after (value_of first ∷ value_of second ∷ []) (outcome_of (Differ header a b) first second) false (both_passed left right before after first second reads) (λ stop later. later)
+      done_ends (comparing left right) before after (value_of first ∷ value_of second ∷ []) (outcome_of (Differ header a b) first second) false (both_passed left right before after first second reads) (λ stop later. later)
       (compares (Differ header a b) first second is) refl written (both_read left right before after first second reads tells) tells,
 )
 
 -- a write of the verdict failed
 pub cut_verdict_ends : (left right : List ℕ) (before after : Outside) (first second : RuleList) (verdict : Verdict) → ReadBoth left right before after first second → IsListVerdict first second verdict →
-    Rose before.write_faults after.write_faults → AppendsFront before.written after.written (verdict_text verdict (filter_list first).rules (filter_list second).rules) → Ends (Equiv left right) before after WriteFault
+    Rose before.write_faults after.write_faults → AppendsFront before.written after.written (verdict_text verdict (filter_list first).rules (filter_list second).rules) → Ends (comparing left right) before after WriteFault
 cut_verdict_ends left right before after first second verdict reads is rose written =
-    cut_off_ends (Equiv left right) before after (λ cut. cut) (value_of first ∷ value_of second ∷ []) (outcome_of verdict first second) (both_passed left right before after first second reads) (inl (λ stop later. later))
+    cut_off_ends (comparing left right) before after (λ tells. tt) (value_of first ∷ value_of second ∷ []) (outcome_of verdict first second) (both_passed left right before after first second reads) (inl (λ stop later. later))
     (compares verdict first second is) rose (subst (AppendsFront before.written after.written) (text_is verdict first second) written)

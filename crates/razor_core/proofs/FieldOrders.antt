@@ -1,20 +1,10 @@
--- The order that the words spell, and how many entries are needed in it.
+-- How many entries are needed in the order that is wanted.
 use Rattle.std.proofs.Common.{◌≡◌, ℕ, List, ◌≤◌, true, length, arith, subst, sym, ◌∙◌}
-use Rattle.std.specs.Prelude.{◌&&◌, ◌==◌}
-use Rattle.std.proofs.lemmas.Bool.{and_parts, eqb-true}
-use Rattle.field_boxes.specs.Orders.{IsOrder, are_distinct, are_fields}
-use Rattle.field_boxes.proofs.Orders.{passed}
 use Rattle.field_boxes.specs.Headline.Classifier.{Rule}
-use Rattle.command_words.specs.Command.{Arrange}
-use Rattle.command_words.specs.Orders as words
+use Rattle.command_words.specs.Commands.{Arrange}
 use Rattle.command_words.specs.Orders.{Wanted, Best, In}
 use Rattle.table_compose.specs.Headline.LeastCost.{IsLeastCost}
 use Rattle.razor_core.specs.Make.{IsNeeded, IsOrderOf}
-
--- what the words spell is an order
-pub spelled_order : (fields : List ℕ) → words.is_order fields ≡ true → IsOrder fields
-spelled_order fields h =
-    let five = and_parts (length fields == 5) (are_fields fields && are_distinct fields) h in passed fields (eqb-true (length fields) 5 five.0) five.1
 
 -- no more entries are needed in the order that is wanted than the limit
 pub room_in : (wanted : Wanted) (rules : List (Rule (List ℕ))) (order : List ℕ) (limit : ℕ) →

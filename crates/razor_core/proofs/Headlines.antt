@@ -14,21 +14,30 @@ use Rattle.filter_reader.specs.ListText.{list_text}
 use Rattle.list_generator.specs.DrawnRules.{generated}
 use Rattle.bit_merge.proofs.Merged.{is_alike, is_fewer, is_tight}
 use Rattle.command_words.specs.Orders.{Wanted}
-use Rattle.command_words.specs.Command.{Command, Method, Arrange, Compile, Expand, Shorten, Cert, Check, Drive, Equiv, Gen, Make, Migrate, Merge, Selfrun, Session, Sizes, Trace, Trim, Audit, Query}
-use Rattle.razor_core.specs.Selfrun.{Summarises}
-use Rattle.razor_core.specs.Trace.{answers_text, taken_of}
-use Rattle.razor_core.specs.Cert.{IsCertificateOf, Writes}
-use Rattle.razor_core.specs.Check.{Certifies}
-use Rattle.razor_core.specs.Equiv.{Compares}
+use Rattle.command_words.specs.Commands.{Command, Method, Arrange, Compile, Expand, Shorten, Cert, Check, Drive, Equiv, Make, Migrate, Merge, Session, Trace, Trim, Audit, Query}
+use Rattle.command_words.specs.Settings.{Sizes}
+use Rattle.razor_core.specs.Selfrun.{Summarises, running_load}
+use Rattle.razor_core.specs.Trace.{answers_text, taken_of, tracing}
+use Rattle.razor_core.specs.Cert.{IsCertificateOf, Writes, certifying}
+use Rattle.razor_core.specs.Check.{Certifies, checking}
+use Rattle.razor_core.specs.Equiv.{Compares, comparing}
 use Rattle.razor_core.specs.Headlines.{Adds, AgreeByName, AreEqualLists, IsCheap, IsAnswered, IsArrangedText, IsCertified, IsCompiledText, IsDriven, IsExpandedText, IsMigrated, IsMergedText, IsAudited, IsEdited, IsQueried, IsShortenedText, IsTrimmedText}
 use Rattle.rule_shortening.specs.Shortened.{IsShortTable}
-use Rattle.razor_core.specs.Make.{IsMade, IsOrderOf}
+use Rattle.razor_core.specs.Make.{IsMade, IsOrderOf, making}
 use Rattle.razor_core.specs.Inputs.{Input, Value, as_list, as_script, as_session, as_table, certificate_input, lines_value, is_too_long, list_input, list_value, script_input, script_value, session_input, session_value, table_input, table_value, trace_input, text_of_list, text_of_script, text_of_session, text_of_table}
-use Rattle.razor_core.specs.Gives.{Gives}
 use Rattle.razor_core.specs.Outcome.{IsTextOf, Outcome}
 use Rattle.razor_core.specs.Outside.{Outside, Tells, bytes_at}
 use Rattle.razor_core.specs.Turns.{Stop, before_others, stopped_by, turn, turns_of}
 use Rattle.razor_core.specs.Promise.{KeepsPromise}
+use Rattle.razor_core.specs.Migrate.{migrating}
+use Rattle.razor_core.specs.Trim.{trimming}
+use Rattle.razor_core.specs.Merge.{merging}
+use Rattle.razor_core.specs.Audit.{auditing}
+use Rattle.razor_core.specs.Query.{querying}
+use Rattle.razor_core.specs.Gen.{generating}
+use Rattle.razor_core.specs.Drive.{swapping}
+use Rattle.razor_core.specs.Session.{editing}
+use Rattle.razor_core.specs.Meaning.{Meaning}
 
 -- turns that pass, one by one
 pub record IsFirst (turned : Result Value Stop) (others : Result (List Value) Stop) (values : List Value) : Type 0 where
@@ -106,24 +115,24 @@ turn_told before input text value known h = subst (λ (t : List ℕ). turn input
 
 module _ (before after : Outside) (line : List ℕ) where
   -- a table that was made of a list
-  pub made : (method : Method) (sizes : Sizes) (file text : List ℕ) → KeepsPromise (Make method sizes file) before after line 0 → before.remaining file ≡ Some text →
+  pub made : (method : Method) (sizes : Sizes) (file text : List ℕ) → KeepsPromise (making method sizes file) before after line 0 → before.remaining file ≡ Some text →
       (list : FilterList) × (list_of text ≡ Ok list) × Adds before after (λ written. (order : List ℕ) × IsOrderOf method list.rules order × (table : Table) × IsMade method order list.rules sizes table × IsTextOf table written)
   made method sizes file text is known =
-      let command : Command = Make method sizes file in
+      let command : Meaning = making method sizes file in
       let done = is.done refl (told (before.remaining file) text known, tt) in
       let first = first_of (turn (list_input file) (bytes_at before file)) (Ok []) done.values done.pass.turns in
       let read = listed file text first.value (turn_told before (list_input file) text first.value known first.turned_is) in
-      let gives = subst (λ (v : Value). Gives command (v ∷ first.rest) done.outcome) read.2 (subst (λ (vs : List Value). Gives command vs done.outcome) first.values_are done.gives) in
+      let gives = subst (λ (v : Value). command.gives (v ∷ first.rest) done.outcome) read.2 (subst (λ (vs : List Value). command.gives vs done.outcome) first.values_are done.gives) in
       (read.0, read.1, (done.outcome.text, done.written, (gives.order, gives.is_order, gives.table, gives.meets, gives.text)))
 
-  pub compiled : (sizes : Sizes) (file text : List ℕ) → KeepsPromise (Make Compile sizes file) before after line 0 → before.remaining file ≡ Some text → Adds before after (IsCompiledText sizes.slot text)
+  pub compiled : (sizes : Sizes) (file text : List ℕ) → KeepsPromise (making Compile sizes file) before after line 0 → before.remaining file ≡ Some text → Adds before after (IsCompiledText sizes.slot text)
   compiled sizes file text is known =
       let h = made Compile sizes file text is known in
       let table = h.2.2.2 in
       let meets = h.2.2.3 in
       (h.2.0, h.2.1, record { list = h.0; table = table; spelled = h.1; reads_back = h.2.2.4.spells; slot = meets.slot; answers = meets.answers; least = meets.composed; few = meets.few; tight = meets.tight })
 
-  pub arranged : (wanted : Wanted) (sizes : Sizes) (file text : List ℕ) → KeepsPromise (Make (Arrange wanted) sizes file) before after line 0 → before.remaining file ≡ Some text → Adds before after (IsArrangedText wanted sizes.slot text)
+  pub arranged : (wanted : Wanted) (sizes : Sizes) (file text : List ℕ) → KeepsPromise (making (Arrange wanted) sizes file) before after line 0 → before.remaining file ≡ Some text → Adds before after (IsArrangedText wanted sizes.slot text)
   arranged wanted sizes file text is known =
       let h = made (Arrange wanted) sizes file text is known in
       let table = h.2.2.2 in
@@ -153,7 +162,7 @@ module _ (before after : Outside) (line : List ℕ) where
   short_in None order sizes list table meets = meets
   short_in (Some wanted) order sizes list table meets = meets.short
 
-  pub shortened : (wanted : Option Wanted) (sizes : Sizes) (file text : List ℕ) → KeepsPromise (Make (Shorten wanted) sizes file) before after line 0 → before.remaining file ≡ Some text → Adds before after (IsShortenedText wanted sizes text)
+  pub shortened : (wanted : Option Wanted) (sizes : Sizes) (file text : List ℕ) → KeepsPromise (making (Shorten wanted) sizes file) before after line 0 → before.remaining file ≡ Some text → Adds before after (IsShortenedText wanted sizes text)
   shortened wanted sizes file text is known =
       let h = made (Shorten wanted) sizes file text is known in
       let table = h.2.2.2 in
@@ -172,7 +181,7 @@ module _ (before after : Outside) (line : List ℕ) where
         },
       )
 
-  pub expanded : (sizes : Sizes) (file text : List ℕ) → KeepsPromise (Make Expand sizes file) before after line 0 → before.remaining file ≡ Some text → Adds before after (IsExpandedText sizes.slot text)
+  pub expanded : (sizes : Sizes) (file text : List ℕ) → KeepsPromise (making Expand sizes file) before after line 0 → before.remaining file ≡ Some text → Adds before after (IsExpandedText sizes.slot text)
   expanded sizes file text is known =
       let h = made Expand sizes file text is known in
       let table = h.2.2.2 in
@@ -183,27 +192,27 @@ module _ (before after : Outside) (line : List ℕ) where
   alike_by left right outcome (inl h) agreed = h.0
   alike_by left right outcome (inr h) agreed = let same : false ≡ true = sym (ap (λ (o : Outcome). o.yes) h.2) ∙ agreed in absurd cc
 
-  pub equal : (left right first second : List ℕ) → KeepsPromise (Equiv left right) before after line 0 → before.remaining left ≡ Some first → before.remaining right ≡ Some second → AreEqualLists first second
+  pub equal : (left right first second : List ℕ) → KeepsPromise (comparing left right) before after line 0 → before.remaining left ≡ Some first → before.remaining right ≡ Some second → AreEqualLists first second
   equal left right first second is known also =
-      let command : Command = Equiv left right in
+      let command : Meaning = comparing left right in
       let done = is.done refl (told (before.remaining left) first known, (told (before.remaining right) second also, tt)) in
       let one = first_of (turn (list_input left) (bytes_at before left)) (turns_of before (list_input right ∷ [])) done.values done.pass.turns in
       let two = first_of (turn (list_input right) (bytes_at before right)) (Ok []) one.rest one.others_are in
       let read = listed left first one.value (turn_told before (list_input left) first one.value known one.turned_is) in
       let also_read = listed right second two.value (turn_told before (list_input right) second two.value also two.turned_is) in
       let values = two_are done.values one.rest two.rest one.value two.value (list_value read.0) (list_value also_read.0) one.values_are read.2 two.values_are also_read.2 in
-      let gives = subst (λ (vs : List Value). Gives command vs done.outcome) values done.gives in
+      let gives = subst (λ (vs : List Value). command.gives vs done.outcome) values done.gives in
       record { left = read.0; right = also_read.0; left_spelled = read.1; right_spelled = also_read.1; alike = alike_by read.0.rules also_read.0.rules done.outcome gives done.answered }
 
   shown_by : (rules : FilterList) (entries : Table) (text : List ℕ) (outcome : Outcome) → Certifies rules entries text outcome → outcome.yes ≡ true → AreAlike (source_of rules.rules) (answer entries.entries)
   shown_by rules entries text outcome (inl h) agreed = h.1.alike
   shown_by rules entries text outcome (inr h) agreed = let same : false ≡ true = sym (ap (λ (o : Outcome). o.yes) h.3) ∙ agreed in absurd cc
 
-  pub shown : (list table certificate first second third : List ℕ) → KeepsPromise (Check list table certificate) before after line 0 →
+  pub shown : (list table certificate first second third : List ℕ) → KeepsPromise (checking list table certificate) before after line 0 →
       before.remaining list ≡ Some first → before.remaining table ≡ Some second → before.remaining certificate ≡ Some third → AgreeByName first second
   shown list table certificate first second third is known also last =
-      let command : Command = Check list table certificate in
-      let tells : Tells before command = (told (before.remaining list) first known, (told (before.remaining table) second also, (told (before.remaining certificate) third last, tt))) in
+      let command : Meaning = checking list table certificate in
+      let tells : Tells before command.inputs = (told (before.remaining list) first known, (told (before.remaining table) second also, (told (before.remaining certificate) third last, tt))) in
       let done = is.done refl tells in
       let one = first_of (turn (list_input list) (bytes_at before list)) (turns_of before (table_input table ∷ certificate_input certificate ∷ [])) done.values done.pass.turns in
       let two = first_of (turn (table_input table) (bytes_at before table)) (turns_of before (certificate_input certificate ∷ [])) one.rest one.others_are in
@@ -213,63 +222,63 @@ module _ (before after : Outside) (line : List ℕ) where
       let lines : three.value ≡ lines_value (bytes_at before certificate) = lined (bytes_at before certificate) three.value (turn (certificate_input certificate) (bytes_at before certificate)) refl three.turned_is in
       let last_two = two_are one.rest two.rest three.rest two.value three.value (table_value also_read.0) (lines_value (bytes_at before certificate)) two.values_are also_read.2 three.values_are lines in
       let values = in_front done.values one.rest (table_value also_read.0 ∷ lines_value (bytes_at before certificate) ∷ three.rest) one.value (list_value read.0) one.values_are read.2 last_two in
-      let gives = subst (λ (vs : List Value). Gives command vs done.outcome) values done.gives in
+      let gives = subst (λ (vs : List Value). command.gives vs done.outcome) values done.gives in
       record { list = read.0; table = also_read.0; list_spelled = read.1; table_spelled = also_read.1; alike = shown_by read.0 also_read.0 (bytes_at before certificate) done.outcome gives done.answered }
 
   certificate_by : (rules : FilterList) (entries : Table) (outcome : Outcome) → Writes rules entries outcome → outcome.yes ≡ true → IsCertificateOf rules entries outcome.text
   certificate_by rules entries outcome (inl h) agreed = subst (IsCertificateOf rules entries) (sym (ap (λ (o : Outcome). o.text) h.2)) h.1
   certificate_by rules entries outcome (inr h) agreed = let same : false ≡ true = sym (ap (λ (o : Outcome). o.yes) h.2) ∙ agreed in absurd cc
 
-  pub certified : (list table first second : List ℕ) → KeepsPromise (Cert list table) before after line 0 → before.remaining list ≡ Some first → before.remaining table ≡ Some second → Adds before after (IsCertified first second)
+  pub certified : (list table first second : List ℕ) → KeepsPromise (certifying list table) before after line 0 → before.remaining list ≡ Some first → before.remaining table ≡ Some second → Adds before after (IsCertified first second)
   certified list table first second is known also =
-      let command : Command = Cert list table in
+      let command : Meaning = certifying list table in
       let done = is.done refl (told (before.remaining list) first known, (told (before.remaining table) second also, tt)) in
       let one = first_of (turn (list_input list) (bytes_at before list)) (turns_of before (table_input table ∷ [])) done.values done.pass.turns in
       let two = first_of (turn (table_input table) (bytes_at before table)) (Ok []) one.rest one.others_are in
       let read = listed list first one.value (turn_told before (list_input list) first one.value known one.turned_is) in
       let also_read = tabled table second two.value (turn_told before (table_input table) second two.value also two.turned_is) in
       let values = two_are done.values one.rest two.rest one.value two.value (list_value read.0) (table_value also_read.0) one.values_are read.2 two.values_are also_read.2 in
-      let gives = subst (λ (vs : List Value). Gives command vs done.outcome) values done.gives in
+      let gives = subst (λ (vs : List Value). command.gives vs done.outcome) values done.gives in
       (done.outcome.text, done.written, record { list = read.0; table = also_read.0; list_spelled = read.1; table_spelled = also_read.1; certificate = certificate_by read.0 also_read.0 done.outcome gives done.answered })
 
-  pub answered : (table trace first second : List ℕ) → KeepsPromise (Trace table trace) before after line 0 → before.remaining table ≡ Some first → before.remaining trace ≡ Some second → Adds before after (IsAnswered first second)
+  pub answered : (table trace first second : List ℕ) → KeepsPromise (tracing table trace) before after line 0 → before.remaining table ≡ Some first → before.remaining trace ≡ Some second → Adds before after (IsAnswered first second)
   answered table trace first second is known also =
-      let command : Command = Trace table trace in
+      let command : Meaning = tracing table trace in
       let done = is.done refl (told (before.remaining table) first known, (told (before.remaining trace) second also, tt)) in
       let one = first_of (turn (table_input table) (bytes_at before table)) (turns_of before (trace_input trace ∷ [])) done.values done.pass.turns in
       let two = first_of (turn (trace_input trace) (bytes_at before trace)) (Ok []) one.rest one.others_are in
       let read = tabled table first one.value (turn_told before (table_input table) first one.value known one.turned_is) in
       let lines : two.value ≡ lines_value (bytes_at before trace) = lined (bytes_at before trace) two.value (turn (trace_input trace) (bytes_at before trace)) refl two.turned_is in
       let values = two_are done.values one.rest two.rest one.value two.value (table_value read.0) (lines_value (bytes_at before trace)) one.values_are read.2 two.values_are lines in
-      let gives = subst (λ (vs : List Value). Gives command vs done.outcome) values done.gives in
+      let gives = subst (λ (vs : List Value). command.gives vs done.outcome) values done.gives in
       let text = ap (λ (o : Outcome). o.text) gives ∙ ap (λ (bytes : List ℕ). answers_text read.0 (taken_of bytes).headers) (bytes_are (before.remaining trace) second also) in
       (done.outcome.text, done.written, record { table = read.0; table_spelled = read.1; answers = text })
 
-  pub migrated : (file text : List ℕ) → KeepsPromise (Migrate file) before after line 0 → before.remaining file ≡ Some text → Adds before after (IsMigrated text)
+  pub migrated : (file text : List ℕ) → KeepsPromise (migrating file) before after line 0 → before.remaining file ≡ Some text → Adds before after (IsMigrated text)
   migrated file text is known =
-      let command : Command = Migrate file in
+      let command : Meaning = migrating file in
       let done = is.done refl (told (before.remaining file) text known, tt) in
       let first = first_of (turn (table_input file) (bytes_at before file)) (Ok []) done.values done.pass.turns in
       let read = tabled file text first.value (turn_told before (table_input file) text first.value known first.turned_is) in
-      let gives = subst (λ (v : Value). Gives command (v ∷ first.rest) done.outcome) read.2 (subst (λ (vs : List Value). Gives command vs done.outcome) first.values_are done.gives) in
+      let gives = subst (λ (v : Value). command.gives (v ∷ first.rest) done.outcome) read.2 (subst (λ (vs : List Value). command.gives vs done.outcome) first.values_are done.gives) in
       (done.outcome.text, done.written, record { table = read.0; table_spelled = read.1; compact = gives.0.written; reads_back = gives.0.spells })
 
-  pub trimmed : (file text : List ℕ) → KeepsPromise (Trim file) before after line 0 → before.remaining file ≡ Some text → Adds before after (IsTrimmedText text)
+  pub trimmed : (file text : List ℕ) → KeepsPromise (trimming file) before after line 0 → before.remaining file ≡ Some text → Adds before after (IsTrimmedText text)
   trimmed file text is known =
-      let command : Command = Trim file in
+      let command : Meaning = trimming file in
       let done = is.done refl (told (before.remaining file) text known, tt) in
       let first = first_of (turn (table_input file) (bytes_at before file)) (Ok []) done.values done.pass.turns in
       let read = tabled file text first.value (turn_told before (table_input file) text first.value known first.turned_is) in
-      let gives = subst (λ (v : Value). Gives command (v ∷ first.rest) done.outcome) read.2 (subst (λ (vs : List Value). Gives command vs done.outcome) first.values_are done.gives) in
+      let gives = subst (λ (v : Value). command.gives (v ∷ first.rest) done.outcome) read.2 (subst (λ (vs : List Value). command.gives vs done.outcome) first.values_are done.gives) in
       (done.outcome.text, done.written, record { table = read.0; trimmed = gives.0; table_spelled = read.1; reads_back = gives.2.spells; is_trimmed = gives.1 })
 
-  pub merged : (file text : List ℕ) → KeepsPromise (Merge file) before after line 0 → before.remaining file ≡ Some text → Adds before after (IsMergedText text)
+  pub merged : (file text : List ℕ) → KeepsPromise (merging file) before after line 0 → before.remaining file ≡ Some text → Adds before after (IsMergedText text)
   merged file text is known =
-      let command : Command = Merge file in
+      let command : Meaning = merging file in
       let done = is.done refl (told (before.remaining file) text known, tt) in
       let first = first_of (turn (table_input file) (bytes_at before file)) (Ok []) done.values done.pass.turns in
       let read = tabled file text first.value (turn_told before (table_input file) text first.value known first.turned_is) in
-      let gives = subst (λ (v : Value). Gives command (v ∷ first.rest) done.outcome) read.2 (subst (λ (vs : List Value). Gives command vs done.outcome) first.values_are done.gives) in
+      let gives = subst (λ (v : Value). command.gives (v ∷ first.rest) done.outcome) read.2 (subst (λ (vs : List Value). command.gives vs done.outcome) first.values_are done.gives) in
       let entries = read.0.entries in
       let out = gives.0.entries in
       let joined = gives.1.entries in (
@@ -287,42 +296,42 @@ module _ (before after : Outside) (line : List ℕ) where
         },
       )
 
-  pub audited : (file text : List ℕ) → KeepsPromise (Audit file) before after line 0 → before.remaining file ≡ Some text → Adds before after (IsAudited text)
+  pub audited : (file text : List ℕ) → KeepsPromise (auditing file) before after line 0 → before.remaining file ≡ Some text → Adds before after (IsAudited text)
   audited file text is known =
-      let command : Command = Audit file in
+      let command : Meaning = auditing file in
       let done = is.done refl (told (before.remaining file) text known, tt) in
       let first = first_of (turn (list_input file) (bytes_at before file)) (Ok []) done.values done.pass.turns in
       let read = listed file text first.value (turn_told before (list_input file) text first.value known first.turned_is) in
-      let gives = subst (λ (v : Value). Gives command (v ∷ first.rest) done.outcome) read.2 (subst (λ (vs : List Value). Gives command vs done.outcome) first.values_are done.gives) in
+      let gives = subst (λ (v : Value). command.gives (v ∷ first.rest) done.outcome) read.2 (subst (λ (vs : List Value). command.gives vs done.outcome) first.values_are done.gives) in
       (done.outcome.text, done.written, record { list = read.0; states = gives.text.0; spelled = read.1; right = gives.text.1; lines = gives.text.2 })
 
-  pub queried : (box : List Interval) (name : Option (List ℕ)) (file text : List ℕ) → KeepsPromise (Query file box name) before after line 0 → before.remaining file ≡ Some text → Adds before after (IsQueried box name text)
+  pub queried : (box : List Interval) (name : Option (List ℕ)) (file text : List ℕ) → KeepsPromise (querying file box name) before after line 0 → before.remaining file ≡ Some text → Adds before after (IsQueried box name text)
   queried box name file text is known =
-      let command : Command = Query file box name in
+      let command : Meaning = querying file box name in
       let done = is.done refl (told (before.remaining file) text known, tt) in
       let first = first_of (turn (list_input file) (bytes_at before file)) (Ok []) done.values done.pass.turns in
       let read = listed file text first.value (turn_told before (list_input file) text first.value known first.turned_is) in
-      let gives = subst (λ (v : Value). Gives command (v ∷ first.rest) done.outcome) read.2 (subst (λ (vs : List Value). Gives command vs done.outcome) first.values_are done.gives) in
+      let gives = subst (λ (v : Value). command.gives (v ∷ first.rest) done.outcome) read.2 (subst (λ (vs : List Value). command.gives vs done.outcome) first.values_are done.gives) in
       (done.outcome.text, done.written, record { list = read.0; spelled = read.1; answer = gives.text })
 
-  pub drawn : (seed rules : ℕ) → KeepsPromise (Gen seed rules) before after line 0 → Adds before after (λ written. written ≡ list_text (generated seed rules).rules)
+  pub drawn : (seed rules : ℕ) → KeepsPromise (generating seed rules) before after line 0 → Adds before after (λ written. written ≡ list_text (generated seed rules).rules)
   drawn seed rules is =
       let done = is.done refl tt in
       (done.outcome.text, done.written, ap (λ (o : Outcome). o.text) done.gives)
 
-  pub summed_up : (seed rules : ℕ) → KeepsPromise (Selfrun seed rules) before after line 0 → Adds before after (Summarises seed rules)
+  pub summed_up : (seed rules : ℕ) → KeepsPromise (running_load seed rules) before after line 0 → Adds before after (Summarises seed rules)
   summed_up seed rules is =
       let done = is.done refl tt in
       (done.outcome.text, done.written, done.gives.0)
 
-  pub driven : (slots : ℕ) (script : List ℕ) (tables : List (List ℕ)) (text : List ℕ) → KeepsPromise (Drive slots script tables) before after line 0 → Tells before (Drive slots script tables) → before.remaining script ≡ Some text →
+  pub driven : (slots : ℕ) (script : List ℕ) (tables : List (List ℕ)) (text : List ℕ) → KeepsPromise (swapping slots script tables) before after line 0 → Tells before (swapping slots script tables).inputs → before.remaining script ≡ Some text →
       Adds before after (IsDriven slots before tables text)
   driven slots script tables text is tells known =
-      let command : Command = Drive slots script tables in
+      let command : Meaning = swapping slots script tables in
       let done = is.done refl tells in
       let first = first_of (turn (script_input (length tables) script) (bytes_at before script)) (turns_of before (map table_input tables)) done.values done.pass.turns in
       let read = scripted (length tables) script text first.value (turn_told before (script_input (length tables) script) text first.value known first.turned_is) in
-      let gives = subst (λ (v : Value). Gives command (v ∷ first.rest) done.outcome) read.2 (subst (λ (vs : List Value). Gives command vs done.outcome) first.values_are done.gives) in (
+      let gives = subst (λ (v : Value). command.gives (v ∷ first.rest) done.outcome) read.2 (subst (λ (vs : List Value). command.gives vs done.outcome) first.values_are done.gives) in (
         done.outcome.text,
         done.written,
         record {
@@ -334,15 +343,15 @@ module _ (before after : Outside) (line : List ℕ) where
         },
       )
 
-  pub edited : (slots : ℕ) (sizes : Sizes) (script list first second : List ℕ) → KeepsPromise (Session slots sizes script list) before after line 0 → before.remaining script ≡ Some first → before.remaining list ≡ Some second →
+  pub edited : (slots : ℕ) (sizes : Sizes) (script list first second : List ℕ) → KeepsPromise (editing slots sizes script list) before after line 0 → before.remaining script ≡ Some first → before.remaining list ≡ Some second →
       Adds before after (IsEdited slots sizes first second)
   edited slots sizes script list first second is known also =
-      let command : Command = Session slots sizes script list in
+      let command : Meaning = editing slots sizes script list in
       let done = is.done refl (told (before.remaining script) first known, (told (before.remaining list) second also, tt)) in
       let one = first_of (turn (session_input script) (bytes_at before script)) (turns_of before (list_input list ∷ [])) done.values done.pass.turns in
       let two = first_of (turn (list_input list) (bytes_at before list)) (Ok []) one.rest one.others_are in
       let session = sessioned script first one.value (turn_told before (session_input script) first one.value known one.turned_is) in
       let rules = listed list second two.value (turn_told before (list_input list) second two.value also two.turned_is) in
       let values = two_are done.values one.rest two.rest one.value two.value (session_value session.0) (list_value rules.0) one.values_are session.2 two.values_are rules.2 in
-      let gives = subst (λ (vs : List Value). Gives command vs done.outcome) values done.gives in
+      let gives = subst (λ (vs : List Value). command.gives vs done.outcome) values done.gives in
       (done.outcome.text, done.written, record { events = session.0; list = rules.0; outcome = done.outcome; session_spelled = session.1; list_spelled = rules.1; edits = gives; lines = refl })

@@ -4,6 +4,7 @@ pub mod DriveEnding
 pub mod SessionEnding
 pub mod Ended
 pub mod Endings
+pub mod Sound
 pub mod Tables
 pub mod TraceEnding
 pub mod TrimEnding

@@ -11,7 +11,8 @@ use Rattle.field_boxes.specs.Names.{is_known, with_name}
 use Rattle.filter_reader.specs.FirstSeen.{first_seen}
 use Rattle.filter_reader.specs.Lists.{filter_list}
 use Rattle.filter_reader.specs.declared.list.RuleList.{RuleList}
-use Rattle.command_words.specs.Command.{Command, Session, Sizes}
+use Rattle.command_words.specs.Commands.{Command, Session}
+use Rattle.command_words.specs.Settings.{Sizes}
 use Rattle.bank_update.specs.Driven.{UnlessWriteFault}
 use Rattle.bank_update.specs.declared.drive.DriveError.{DriveError}
 use Rattle.bank_update.specs.declared.drive.DriveError.TheVariants as errors
@@ -25,10 +26,10 @@ use Rattle.razor_core.specs.declared.ending.Summary.{Summary}
 use Rattle.razor_core.specs.declared.ending.Summary.TheVariants.{Nothing}
 use Rattle.razor_core.specs.Drive.{IsEndOfDrive}
 use Rattle.razor_core.specs.Ending.{Ends}
-use Rattle.razor_core.specs.Inputs.{Value, inputs, list_input, session_input, session_value}
+use Rattle.razor_core.specs.Inputs.{Value, list_input, session_input, session_value}
 use Rattle.razor_core.specs.Outcome.{Outcome}
 use Rattle.razor_core.specs.Outside.{Outside, Tells}
-use Rattle.razor_core.specs.Session.{AreEdited, AreEditedSoFar, Edits, IsEndOfSession}
+use Rattle.razor_core.specs.Session.{AreEdited, AreEditedSoFar, Edits, IsEndOfSession, editing}
 use Rattle.razor_core.specs.Standing.{IsCutOff}
 use Rattle.razor_core.specs.Taking.{TakesTurn, value_of}
 use Rattle.razor_core.proofs.Ended.{done_ends}
@@ -94,19 +95,19 @@ pub record BothRead (script list : List ℕ) (before after : Outside) (events : 
   pub list_taken : TakesTurn (list_input list) (before.remaining list) (after.remaining list) (value_of rules)
 
 module _ (slots : ℕ) (sizes : Sizes) (script list : List ℕ) (before after : Outside) (events : List SessionEvent) (rules : RuleList) (reads : BothRead script list before after events rules) where
-  abbrev command : Command
-  command = Session slots sizes script list
+  abbrev command : Meaning
+  command = editing slots sizes script list
 
   abbrev values : List Value
   values = session_value events ∷ value_of rules ∷ []
 
-  passed : Passed before (inputs command) values
+  passed : Passed before command.inputs values
   passed = (
     passed_taken (session_input script) (before.remaining script) (after.remaining script) (session_value events) reads.session_taken,
     (passed_taken (list_input list) (before.remaining list) (after.remaining list) (value_of rules) reads.list_taken, tt),
   )
 
-  both_read : Tells before command → AllRead after (inputs command)
+  both_read : Tells before command.inputs → AllRead after command.inputs
   both_read tells = (
     read_taken (session_input script) (before.remaining script) (after.remaining script) (session_value events) reads.session_taken tells.0,
     (read_taken (list_input list) (before.remaining list) (after.remaining list) (value_of rules) reads.list_taken tells.1.0, tt),
@@ -119,17 +120,17 @@ module _ (slots : ℕ) (sizes : Sizes) (script list : List ℕ) (before after : 
         (subst (λ (o : Outcome). Appends before.written after.written o.text) h.edits.says h.written) (both_read tells) tells,
   )
 
-  cut : AreEditedSoFar slots sizes (filter_list rules).rules events before.written after.written → Tells before command → IsCutOff command before after
+  cut : AreEditedSoFar slots sizes (filter_list rules).rules events before.written after.written → Tells before command.inputs → IsCutOff command before after
   cut h tells = record {
     values = values;
     outcome = h.outcome;
-    turns = turns_pass before (inputs command) values passed tells;
+    turns = turns_pass before command.inputs values passed tells;
     free = inl (λ stop later. later);
-    gives = h.begins;
+    gives = inr h.begins;
     written = h.written;
   }
 
-  kept_or_cut : Keeps before.written after.written ⊎ AreEditedSoFar slots sizes (filter_list rules).rules events before.written after.written → Tells before command → Keeps before.written after.written ⊎ IsCutOff command before after
+  kept_or_cut : Keeps before.written after.written ⊎ AreEditedSoFar slots sizes (filter_list rules).rules events before.written after.written → Tells before command.inputs → Keeps before.written after.written ⊎ IsCutOff command before after
   kept_or_cut (inl keeps) tells = inl keeps
   kept_or_cut (inr far) tells = inr (cut far tells)
 
@@ -140,5 +141,5 @@ module _ (slots : ℕ) (sizes : Sizes) (script list : List ℕ) (before after : 
   session_ends (TooLong file limit) h = absurd h
   session_ends (TooMany needed limit) h = absurd h
   session_ends (ReadFault file) h = absurd h
-  session_ends WriteFault h = (h.0, cut h.1, pass_behind before after (inputs command) values passed)
-  session_ends Memory h = (h.0, kept_or_cut h.1, pass_behind before after (inputs command) values passed)
+  session_ends WriteFault h = (h.0, λ tells. (cut h.1 tells, tt), pass_behind before after command.inputs values passed)
+  session_ends Memory h = (h.0, λ tells. (kept_or_cut h.1 tells, tt), pass_behind before after command.inputs values passed)

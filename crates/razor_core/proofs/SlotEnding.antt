@@ -12,12 +12,12 @@ use Rattle.memory_text.specs.MemoryText.{memory_text, plan_text}
 use Rattle.memory_text.specs.Patching.{LeadsTo, slots_for}
 use Rattle.memory_text.specs.Views.{memory_of, plan_of}
 use Rattle.memory_text.proofs.Texts.{memory-read, plan-read}
-use Rattle.command_words.specs.Command.{Apply, Command, Patch, Place}
-use Rattle.razor_core.specs.Inputs.{Input, Value, inputs, memory_input, plan_input, table_input}
-use Rattle.razor_core.specs.Gives.{Gives}
+use Rattle.command_words.specs.Commands.{Apply, Command, Patch}
+use Rattle.razor_core.specs.Inputs.{Input, Value, memory_input, plan_input, table_input}
 use Rattle.razor_core.specs.Outcome.{Outcome}
 use Rattle.razor_core.specs.Outside.{Outside, Tells}
-use Rattle.razor_core.specs.Slots.{IsTextOfMemory, applied, misfit}
+use Rattle.razor_core.specs.Apply.{applied, misfit, applying}
+use Rattle.razor_core.specs.Place.{IsTextOfMemory, placing}
 use Rattle.razor_core.specs.Taking.{TakesTurn, memory_value_of, plan_value_of, table_value_of}
 use Rattle.razor_core.specs.Turns.{bad_line, too_long, too_many}
 use Rattle.razor_core.specs.Stopping.{IsFree}
@@ -27,16 +27,18 @@ use Rattle.razor_core.specs.declared.line_reason.LineReason.{LineReason}
 use Rattle.razor_core.specs.declared.line_reason.LineReason.TheVariants.{SlotWidth}
 use Rattle.razor_core.proofs.Ended.{cut_off_ends, done_ends}
 use Rattle.razor_core.proofs.Turns.{AllRead, AllTold, Passed, ends_in_turn, passed_taken, read_taken, turns_pass}
+use Rattle.razor_core.specs.Meaning.{in_turn}
+use Rattle.razor_core.specs.Patch.{patching}
 
 module _ (slots : ℕ) (file : List ℕ) (before after : Outside) (table : Table) (taken : TakesTurn (table_input file) (before.remaining file) (after.remaining file) (table_value_of table)) where
   -- there are slots for all entries
-  pub room_free : length (table_of table).entries ≤ slots → IsFree (Place slots file) (table_value_of table ∷ [])
+  pub room_free : length (table_of table).entries ≤ slots → IsFree (placing slots file) (table_value_of table ∷ [])
   room_free le (bad_line name bad) later = later
   room_free le (too_long name limit) later = later
   room_free le (too_many needed limit) later = omega (arith, le, later.0, later.2)
 
   -- there are fewer
-  pub lacks_stops : (needed : ℕ) → needed ≡ length (table_of table).entries → slots < needed → Keeps before.written after.written → Stops (Place slots file) before after (too_many needed slots)
+  pub lacks_stops : (needed : ℕ) → needed ≡ length (table_of table).entries → slots < needed → Keeps before.written after.written → Stops (placing slots file) before after (too_many needed slots)
   lacks_stops needed e lt keeps = record {
     unchanged = λ last. keeps;
     named = (refl, lt);
@@ -45,7 +47,7 @@ module _ (slots : ℕ) (file : List ℕ) (before after : Outside) (table : Table
       turns = turns_pass before (table_input file ∷ []) (table_value_of table ∷ []) (passed_taken (table_input file) (before.remaining file) (after.remaining file) (table_value_of table) taken, tt) tells;
       later = (e, refl, lt);
     });
-    stands = λ tells. record { in_turn = λ stop h. keeps; later = λ vs h. keeps };
+    stands = λ tells. record { in_a_turn = λ stop h. keeps; later = λ vs h. keeps };
   }
 
 -- two inputs were taken, one behind the other
@@ -65,81 +67,81 @@ none_or_some : {A : Type 0} (o : Option A) (x : A) → o ≡ None → o ≡ Some
 none_or_some o x none some = cc
 
 module _ (first second : List ℕ) (before after : Outside) (m : SlotMemory) (p : SlotPlan) (taken : BothTaken (memory_input first) (plan_input second) (memory_value_of m) (plan_value_of p) before after) where
-  abbrev applying : Command
-  applying = Apply first second
+  abbrev command : Meaning
+  command = applying first second
 
   abbrev held : List Value
   held = memory_value_of m ∷ plan_value_of p ∷ []
 
-  fits_free : misfit (memory_of m) (plan_of p) ≡ None → IsFree applying held
+  fits_free : misfit (memory_of m) (plan_of p) ≡ None → IsFree command held
   fits_free fits (bad_line name bad) later = none_or_some (misfit (memory_of m) (plan_of p)) bad.reason fits later.2
   fits_free fits (too_long name limit) later = later
   fits_free fits (too_many needed limit) later = later
 
   -- the plan is for other memories
-  pub misfit_stops : (reason : LineReason) → misfit (memory_of m) (plan_of p) ≡ Some reason → Keeps before.written after.written → Stops applying before after (bad_line second (record { line = 1; reason = reason }))
+  pub misfit_stops : (reason : LineReason) → misfit (memory_of m) (plan_of p) ≡ Some reason → Keeps before.written after.written → Stops command before after (bad_line second (record { line = 1; reason = reason }))
   misfit_stops reason is keeps = record {
     unchanged = λ last. keeps;
     named = ends_in_turn before after (λ input. second ≡ input.name) (memory_input first ∷ []) (memory_value_of m ∷ []) (plan_input second) []
         ((both_passed (memory_input first) (plan_input second) (memory_value_of m) (plan_value_of p) before after taken).0, tt) refl tt;
     stopped = λ tells. inr (record {
       values = held;
-      turns = turns_pass before (inputs applying) held (both_passed (memory_input first) (plan_input second) (memory_value_of m) (plan_value_of p) before after taken) tells;
+      turns = turns_pass before command.inputs held (both_passed (memory_input first) (plan_input second) (memory_value_of m) (plan_value_of p) before after taken) tells;
       later = (refl, refl, is);
     });
-    stands = λ tells. record { in_turn = λ stop h. keeps; later = λ vs h. keeps };
+    stands = λ tells. record { in_a_turn = λ stop h. keeps; later = λ vs h. keeps };
   }
 
   abbrev applied_outcome : SlotMemory → Outcome
   applied_outcome made = record { yes = true; text = memory_text (memory_of made); line = [] }
 
-  gives_applied : (made : SlotMemory) → memory_of made ≡ applied (memory_of m) (plan_of p) → Gives applying held (applied_outcome made)
+  gives_applied : (made : SlotMemory) → memory_of made ≡ applied (memory_of m) (plan_of p) → command.gives held (applied_outcome made)
   gives_applied made is =
       let text : IsTextOfMemory (memory_of made) (memory_text (memory_of made)) = record { written = refl; spells = memory-read made } in
       (subst (λ (x : Memory). IsTextOfMemory x (memory_text (memory_of made))) is text, refl, refl)
 
   pub applied_done : (made : SlotMemory) → memory_of made ≡ applied (memory_of m) (plan_of p) → misfit (memory_of m) (plan_of p) ≡ None → Appends before.written after.written (memory_text (memory_of made)) →
-      Tells before applying → IsDone applying before after true []
+      Tells before command.inputs → IsDone command before after true []
   applied_done made is fits written tells =
-      done_ends applying before after held (applied_outcome made) true (both_passed (memory_input first) (plan_input second) (memory_value_of m) (plan_value_of p) before after taken) (fits_free fits) (gives_applied made is) refl
+      done_ends command before after held (applied_outcome made) true (both_passed (memory_input first) (plan_input second) (memory_value_of m) (plan_value_of p) before after taken) (fits_free fits) (gives_applied made is) refl
       written (both_read (memory_input first) (plan_input second) (memory_value_of m) (plan_value_of p) before after taken tells) tells
 
   pub applied_cut : (made : SlotMemory) → memory_of made ≡ applied (memory_of m) (plan_of p) → misfit (memory_of m) (plan_of p) ≡ None → Rose before.write_faults after.write_faults →
-      AppendsFront before.written after.written (memory_text (memory_of made)) → Ends applying before after WriteFault
+      AppendsFront before.written after.written (memory_text (memory_of made)) → Ends command before after WriteFault
   applied_cut made is fits rose written =
-      cut_off_ends applying before after (λ cut. cut) held (applied_outcome made) (both_passed (memory_input first) (plan_input second) (memory_value_of m) (plan_value_of p) before after taken) (inl (fits_free fits)) (gives_applied made is) rose written
+      cut_off_ends command before after (λ tells. tt) held (applied_outcome made) (both_passed (memory_input first) (plan_input second) (memory_value_of m) (plan_value_of p) before after taken) (inl (fits_free fits)) (gives_applied made is) rose written
 
 module _ (first second : List ℕ) (before after : Outside) (m : SlotMemory) (table : Table) (taken : BothTaken (memory_input first) (table_input second) (memory_value_of m) (table_value_of table) before after) where
-  abbrev patching : Command
-  patching = Patch first second
+  abbrev command : Meaning
+  command = patching first second
 
   abbrev both : List Value
   both = memory_value_of m ∷ table_value_of table ∷ []
 
-  all_passed : Passed before (inputs patching) both
+  all_passed : Passed before command.inputs both
   all_passed = both_passed (memory_input first) (table_input second) (memory_value_of m) (table_value_of table) before after taken
 
   -- slots of another width
-  pub width_stops : (table.slot ≢ m.width) → Keeps before.written after.written → Stops patching before after (bad_line second (record { line = 1; reason = SlotWidth }))
+  pub width_stops : (table.slot ≢ m.width) → Keeps before.written after.written → Stops command before after (bad_line second (record { line = 1; reason = SlotWidth }))
   width_stops other keeps = record {
     unchanged = λ last. keeps;
     named = ends_in_turn before after (λ input. second ≡ input.name) (memory_input first ∷ []) (memory_value_of m ∷ []) (table_input second) [] (all_passed.0, tt) refl tt;
-    stopped = λ tells. inr (record { values = both; turns = turns_pass before (inputs patching) both all_passed tells; later = (refl, other, refl) });
-    stands = λ tells. record { in_turn = λ stop h. keeps; later = λ vs h. keeps };
+    stopped = λ tells. inr (record { values = both; turns = turns_pass before command.inputs both all_passed tells; later = (refl, other, refl) });
+    stands = λ tells. record { in_a_turn = λ stop h. keeps; later = λ vs h. keeps };
   }
 
   -- fewer slots than both tables need
   pub room_stops : (needed limit : ℕ) → table.slot ≡ m.width → needed ≡ slots_for (entries_in (memory_of m).slots) (table_of table).entries → limit ≡ length (memory_of m).slots → limit < needed → limit ≤ 262144 →
-      Keeps before.written after.written → Stops patching before after (too_many needed limit)
+      Keeps before.written after.written → Stops command before after (too_many needed limit)
   room_stops needed limit same is all less few keeps = record {
     unchanged = λ last. keeps;
     named = (few, less);
-    stopped = λ tells. inr (record { values = both; turns = turns_pass before (inputs patching) both all_passed tells; later = (same, is, all, less) });
-    stands = λ tells. record { in_turn = λ stop h. keeps; later = λ vs h. keeps };
+    stopped = λ tells. inr (record { values = both; turns = turns_pass before command.inputs both all_passed tells; later = (same, is, all, less) });
+    stands = λ tells. record { in_a_turn = λ stop h. keeps; later = λ vs h. keeps };
   }
 
   -- a plan can be made exactly where there is room
-  leads_free : table.slot ≡ m.width → slots_for (entries_in (memory_of m).slots) (table_of table).entries ≤ length (memory_of m).slots → IsFree patching both
+  leads_free : table.slot ≡ m.width → slots_for (entries_in (memory_of m).slots) (table_of table).entries ≤ length (memory_of m).slots → IsFree command both
   leads_free same fits (bad_line name bad) later = later.1 same
   leads_free same fits (too_long name limit) later = later
   leads_free same fits (too_many needed limit) later = omega (arith, fits, later.1, later.2, later.3)
@@ -147,15 +149,15 @@ module _ (first second : List ℕ) (before after : Outside) (m : SlotMemory) (ta
   abbrev patched_outcome : SlotPlan → Outcome
   patched_outcome plan = record { yes = true; text = plan_text (plan_of plan); line = [] }
 
-  gives_patched : (plan : SlotPlan) → LeadsTo (memory_of m) (table_of table) (plan_of plan) → Gives patching both (patched_outcome plan)
+  gives_patched : (plan : SlotPlan) → LeadsTo (memory_of m) (table_of table) (plan_of plan) → command.gives both (patched_outcome plan)
   gives_patched plan leads = (plan_of plan, leads, record { written = refl; spells = plan-read plan }, refl, refl)
 
   pub patched_done : (plan : SlotPlan) → LeadsTo (memory_of m) (table_of table) (plan_of plan) → table.slot ≡ m.width → slots_for (entries_in (memory_of m).slots) (table_of table).entries ≤ length (memory_of m).slots →
-      Appends before.written after.written (plan_text (plan_of plan)) → Tells before patching → IsDone patching before after true []
+      Appends before.written after.written (plan_text (plan_of plan)) → Tells before command.inputs → IsDone command before after true []
   patched_done plan leads same fits written tells =
-      done_ends patching before after both (patched_outcome plan) true all_passed (leads_free same fits) (gives_patched plan leads) refl
+      done_ends command before after both (patched_outcome plan) true all_passed (leads_free same fits) (gives_patched plan leads) refl
       written (both_read (memory_input first) (table_input second) (memory_value_of m) (table_value_of table) before after taken tells) tells
 
   pub patched_cut : (plan : SlotPlan) → LeadsTo (memory_of m) (table_of table) (plan_of plan) → table.slot ≡ m.width → slots_for (entries_in (memory_of m).slots) (table_of table).entries ≤ length (memory_of m).slots →
-      Rose before.write_faults after.write_faults → AppendsFront before.written after.written (plan_text (plan_of plan)) → Ends patching before after WriteFault
-  patched_cut plan leads same fits rose written = cut_off_ends patching before after (λ cut. cut) both (patched_outcome plan) all_passed (inl (leads_free same fits)) (gives_patched plan leads) rose written
+      Rose before.write_faults after.write_faults → AppendsFront before.written after.written (plan_text (plan_of plan)) → Ends command before after WriteFault
+  patched_cut plan leads same fits rose written = cut_off_ends command before after (λ tells. tt) both (patched_outcome plan) all_passed (inl (leads_free same fits)) (gives_patched plan leads) rose written

@@ -22,23 +22,22 @@ use Rattle.trace_run.specs.Trace.{trace_of, trace_within, whole_lines}
 use Rattle.trace_run.specs.declared.error.TraceError.{TraceError}
 use Rattle.trace_run.specs.declared.error.TraceError.TheVariants as errors
 use Rattle.trace_run.specs.declared.reason.TraceReason.{TraceReason}
-use Rattle.command_words.specs.Command.{Trace}
 use Rattle.razor_core.specs.declared.ending.Ending.{Ending}
 use Rattle.razor_core.specs.declared.ending.Ending.TheVariants.{BadLine as Bad, TooLong, ReadFault}
 use Rattle.razor_core.specs.declared.line_reason.LineReason.{LineReason}
 use Rattle.razor_core.specs.declared.line_reason.LineReason.TheVariants.{OfTrace}
-use Rattle.razor_core.specs.Inputs.{BadLine, Input, Value, inputs, table_input, table_value, text_of_trace, trace_input, lines_value}
+use Rattle.razor_core.specs.Inputs.{BadLine, Input, Value, table_input, table_value, text_of_trace, trace_input, lines_value}
 use Rattle.razor_core.specs.Outcome.{Outcome}
 use Rattle.razor_core.specs.Outside.{Outside, Tells, bytes_at}
-use Rattle.razor_core.specs.Trace.{IsEndOfRun, IsPacedTrace, AnswersCut, answer_line, answers_text, bad_line_of, taken_of}
-use Rattle.razor_core.specs.Standing.{IsCutOff, Stands, WroteFor}
+use Rattle.razor_core.specs.Trace.{IsEndOfRun, IsPacedTrace, AnswersCut, answer_line, answers_text, bad_line_of, taken_of, tracing}
+use Rattle.razor_core.specs.Standing.{IsCutOff, Stands, WroteBy}
 use Rattle.razor_core.specs.Taking.{TakesTurn}
 use Rattle.razor_core.specs.Turns.{Stop, bad_line, too_long, too_many, turn, turns_of}
-use Rattle.razor_core.specs.Stopping.{StopsLater}
 use Rattle.razor_core.specs.Deciding.{AreKeptBehind, EndsInTurn, IsFaultUnder, IsLong, IsReadFault}
 use Rattle.razor_core.specs.Ending.{Ends, IsDone, Stops}
 use Rattle.razor_core.proofs.Ended.{done_ends, passed_or_stopped, same_values}
 use Rattle.razor_core.proofs.Turns.{Passed, PassesWith, ends_in_turn, fault_later, kept_told, near_later, passed_taken, read_taken, some_bytes, told_turn, turn_behind, turns_pass}
+use Rattle.razor_core.specs.Meaning.{in_turn}
 
 abbrev pub most : ℕ
 most = 67108864
@@ -112,17 +111,17 @@ module _ (table trace : List ℕ) (before after : Outside) (entries : Table) (an
   abbrev outcome : Outcome
   outcome = record { yes = true; text = answers_text entries (taken_of text).headers; line = [] }
 
-  passed : (ended : Result ℕ TraceError) → IsRan ended → Passed before (inputs (Trace table trace)) values
+  passed : (ended : Result ℕ TraceError) → IsRan ended → Passed before (tracing table trace).inputs values
   passed ended ran = (passed_taken (table_input table) (before.remaining table) (after.remaining table) (table_value entries) ran.taken, (lines_pass trace (before.remaining trace), tt))
 
-  pass_all : (ended : Result ℕ TraceError) → IsRan ended → Tells before (Trace table trace) → turns_of before (inputs (Trace table trace)) ≡ Ok values
-  pass_all ended ran tells = turns_pass before (inputs (Trace table trace)) values (passed ended ran) tells
+  pass_all : (ended : Result ℕ TraceError) → IsRan ended → Tells before (tracing table trace).inputs → turns_of before (tracing table trace).inputs ≡ Ok values
+  pass_all ended ran tells = turns_pass before (tracing table trace).inputs values (passed ended ran) tells
 
   -- what the trace had when the run began is all of it
-  middle_is : (ended : Result ℕ TraceError) → IsRan ended → Tells before (Trace table trace) → middle ≡ Some text
+  middle_is : (ended : Result ℕ TraceError) → IsRan ended → Tells before (tracing table trace).inputs → middle ≡ Some text
   middle_is ended ran tells = kept_told (before.remaining trace) middle ran.kept tells.1.0 ∙ some_bytes (before.remaining trace) tells.1.0
 
-  at_text : (P : List ℕ → Type 0) (ended : Result ℕ TraceError) → IsRan ended → Tells before (Trace table trace) → IfSome middle P → P text
+  at_text : (P : List ℕ → Type 0) (ended : Result ℕ TraceError) → IsRan ended → Tells before (tracing table trace).inputs → IfSome middle P → P text
   at_text P ended ran tells h = subst (λ (o : Option (List ℕ)). IfSome o P) (middle_is ended ran tells) h
 
   -- what was written, by the table's own answers
@@ -132,7 +131,7 @@ module _ (table trace : List ℕ) (before after : Outside) (entries : Table) (an
   begun : (ended : Result ℕ TraceError) → IsRan ended → (headers : List (List ℕ)) → AppendsFront before.written after.written (answers headers) → AppendsFront before.written after.written (answers_text entries headers)
   begun ended ran headers h = subst (AppendsFront before.written after.written) (ran.answer headers) h
 
-  free : (headers : ℕ) → IsWhole most text (after.remaining trace) headers → (stop : Stop) → StopsLater (Trace table trace) values stop → ⊥
+  free : (headers : ℕ) → IsWhole most text (after.remaining trace) headers → (stop : Stop) → (tracing table trace).stops values stop → ⊥
   free headers whole (bad_line name bad) later = no_bad (taken_of text).bad bad (ap (λ (t : traces.Trace). t.bad) (within_text text whole.within) ∙ whole.good) later.1
   free headers whole (too_long name limit) later =
       let longer = later.2.longer in
@@ -141,16 +140,16 @@ module _ (table trace : List ℕ) (before after : Outside) (entries : Table) (an
       omega arith
   free headers whole (too_many needed limit) later = later
 
-  done : (count : ℕ) → IsRan (Ok count) → Tells before (Trace table trace) → IsDone (Trace table trace) before after true []
+  done : (count : ℕ) → IsRan (Ok count) → Tells before (tracing table trace).inputs → IsDone (tracing table trace) before after true []
   done count ran tells =
       let h = at_text (λ all. IsWhole most all (after.remaining trace) count × Appends before.written after.written (answers (trace_of all).headers)) (Ok count) ran tells ran.outcome in
       let same = ap (λ (t : traces.Trace). answers_text entries t.headers) (sym (within_text text h.0.within)) in
-      done_ends (Trace table trace) before after values outcome true (passed (Ok count) ran) (free count h.0) refl refl
+      done_ends (tracing table trace) before after values outcome true (passed (Ok count) ran) (free count h.0) refl refl
       (subst (Appends before.written after.written) same (appended (Ok count) ran (trace_of text).headers h.1))
       (read_taken (table_input table) (before.remaining table) (after.remaining table) (table_value entries) ran.taken tells.0, (h.0.read, tt)) tells
 
   -- the table's turn passed, and nothing stands behind the trace
-  in_trace : (ended : Result ℕ TraceError) → IsRan ended → (Ended : Input → Type 0) → Ended (trace_input trace) → EndsInTurn before after Ended (inputs (Trace table trace))
+  in_trace : (ended : Result ℕ TraceError) → IsRan ended → (Ended : Input → Type 0) → Ended (trace_input trace) → EndsInTurn before after Ended (tracing table trace).inputs
   in_trace ended ran Ended h =
       ends_in_turn before after Ended (table_input table ∷ []) (table_value entries ∷ []) (trace_input trace) [] (passed_taken (table_input table) (before.remaining table) (after.remaining table) (table_value entries) ran.taken, tt) h tt
 
@@ -160,22 +159,22 @@ module _ (table trace : List ℕ) (before after : Outside) (entries : Table) (an
       (record { rose = ran.read_fault refl; seen = ran.outcome.0; read = ran.outcome.1.read; within = ran.outcome.1.within })
 
   -- what stands where something ends the command later: the answers to all that was taken
-  stands : (ended : Result ℕ TraceError) → IsRan ended → Tells before (Trace table trace) → Appends before.written after.written (answers (taken_of text).headers) → Stands (Trace table trace) before after
+  stands : (ended : Result ℕ TraceError) → IsRan ended → Tells before (tracing table trace).inputs → Appends before.written after.written (answers (taken_of text).headers) → Stands (tracing table trace) before after
   stands ended ran tells written = record {
-    in_turn = λ stop e. absurd (passed_or_stopped (turns_of before (inputs (Trace table trace))) values stop (pass_all ended ran tells) e);
-    later = λ vs e. subst (λ (v : List Value). WroteFor (Trace table trace) v before.written after.written) (same_values (turns_of before (inputs (Trace table trace))) values vs (pass_all ended ran tells) e)
+    in_a_turn = λ stop e. absurd (passed_or_stopped (turns_of before (tracing table trace).inputs) values stop (pass_all ended ran tells) e);
+    later = λ vs e. subst (λ (v : List Value). WroteBy in_turn (tracing table trace) v before after) (same_values (turns_of before (tracing table trace).inputs) values vs (pass_all ended ran tells) e)
         (outcome, refl, appended ended ran (taken_of text).headers written);
   }
 
-  bad_at : (line : ℕ) (reason : TraceReason) → IsRan (Err (errors.BadLine line reason)) → Tells before (Trace table trace) →
+  bad_at : (line : ℕ) (reason : TraceReason) → IsRan (Err (errors.BadLine line reason)) → Tells before (tracing table trace).inputs →
       run_outcomes.IsBadIn most text (record { line = line; reason = reason }) × Appends before.written after.written (answers (trace_within most text).headers)
   bad_at line reason ran tells =
       at_text (λ all. run_outcomes.IsBadIn most all (record { line = line; reason = reason }) × Appends before.written after.written (answers (trace_within most all).headers)) (Err (errors.BadLine line reason)) ran tells ran.outcome
 
-  long_at : IsRan (Err errors.TooLong) → Tells before (Trace table trace) → GoesOn most text × Appends before.written after.written (answers (trace_within most text).headers)
+  long_at : IsRan (Err errors.TooLong) → Tells before (tracing table trace).inputs → GoesOn most text × Appends before.written after.written (answers (trace_within most text).headers)
   long_at ran tells = at_text (λ all. GoesOn most all × Appends before.written after.written (answers (trace_within most all).headers)) (Err errors.TooLong) ran tells ran.outcome
 
-  bad_ends : (file : List ℕ) (line : ℕ) (reason : TraceReason) → IsRan (Err (errors.BadLine line reason)) → file ≡ trace → Stops (Trace table trace) before after (bad_line file (record { line = line; reason = OfTrace reason }))
+  bad_ends : (file : List ℕ) (line : ℕ) (reason : TraceReason) → IsRan (Err (errors.BadLine line reason)) → file ≡ trace → Stops (tracing table trace) before after (bad_line file (record { line = line; reason = OfTrace reason }))
   bad_ends file line reason ran named =
       let ended : Result ℕ TraceError = Err (errors.BadLine line reason) in
       let at = bad_at line reason ran in
@@ -186,7 +185,7 @@ module _ (table trace : List ℕ) (before after : Outside) (entries : Table) (an
         stands = λ tells. stands ended ran tells (at tells).1;
       }
 
-  long_ends : (file : List ℕ) (limit : ℕ) → IsRan (Err errors.TooLong) → file ≡ trace → limit ≡ most → Stops (Trace table trace) before after (too_long file limit)
+  long_ends : (file : List ℕ) (limit : ℕ) → IsRan (Err errors.TooLong) → file ≡ trace → limit ≡ most → Stops (tracing table trace) before after (too_long file limit)
   long_ends file limit ran named limited =
       let ended : Result ℕ TraceError = Err errors.TooLong in
       let at = long_at ran in
@@ -202,10 +201,10 @@ module _ (table trace : List ℕ) (before after : Outside) (entries : Table) (an
         stands = λ tells. stands ended ran tells (at tells).1;
       }
 
-  first_turn : (ended : Result ℕ TraceError) → IsRan ended → Tells before (Trace table trace) → turn (table_input table) (bytes_at before table) ≡ Ok (table_value entries)
+  first_turn : (ended : Result ℕ TraceError) → IsRan ended → Tells before (tracing table trace).inputs → turn (table_input table) (bytes_at before table) ≡ Ok (table_value entries)
   first_turn ended ran tells = told_turn (table_input table) (before.remaining table) (Ok (table_value entries)) (passed_taken (table_input table) (before.remaining table) (after.remaining table) (table_value entries) ran.taken) tells.0
 
-  cut : (file : List ℕ) → IsRan (Err errors.ReadFault) → file ≡ trace → Tells before (Trace table trace) → AnswersCut table trace file before after
+  cut : (file : List ℕ) → IsRan (Err errors.ReadFault) → file ≡ trace → Tells before (tracing table trace).inputs → AnswersCut table trace file before after
   cut file ran named tells =
       let ended : Result ℕ TraceError = Err errors.ReadFault in
       let h = ran.outcome in
@@ -221,18 +220,18 @@ module _ (table trace : List ℕ) (before after : Outside) (entries : Table) (an
         );
       }
 
-  cut_off : (ended : Result ℕ TraceError) → IsRan ended → Tells before (Trace table trace) → AppendsFront before.written after.written (answers (taken_of text).headers) → IsCutOff (Trace table trace) before after
+  cut_off : (ended : Result ℕ TraceError) → IsRan ended → Tells before (tracing table trace).inputs → AppendsFront before.written after.written (answers (taken_of text).headers) → IsCutOff (tracing table trace) before after
   cut_off ended ran tells front = record {
     values = values;
     outcome = outcome;
     turns = pass_all ended ran tells;
-    free = inr (inl tt);
-    gives = refl;
+    free = inr (inl refl);
+    gives = inl refl;
     written = begun ended ran (taken_of text).headers front;
   }
 
   -- what was read of the trace was answered, but for one piece
-  paced : (ended : Result ℕ TraceError) → IsRan ended → Tells before (Trace table trace) → IsPacedTrace table trace before after
+  paced : (ended : Result ℕ TraceError) → IsRan ended → Tells before (tracing table trace).inputs → IsPacedTrace table trace before after
   paced ended ran tells other turned =
       let p = ran.paced in
       let same = same_entries (turn (table_input table) (bytes_at before table)) entries other (first_turn ended ran tells) turned in record {
@@ -245,18 +244,18 @@ module _ (table trace : List ℕ) (before after : Outside) (entries : Table) (an
             (subst (λ text. Appends before.written after.written (text ++ p.more)) (ran.answer (trace_of (whole_lines p.seen)).headers) p.answered);
       }
 
-  front_of : (ended : Result ℕ TraceError) → IsRan ended → Tells before (Trace table trace) → IfSome middle (λ all. AppendsFront before.written after.written (answers (trace_within most all).headers)) →
+  front_of : (ended : Result ℕ TraceError) → IsRan ended → Tells before (tracing table trace).inputs → IfSome middle (λ all. AppendsFront before.written after.written (answers (trace_within most all).headers)) →
       AppendsFront before.written after.written (answers (taken_of text).headers)
   front_of ended ran tells h = at_text (λ all. AppendsFront before.written after.written (answers (trace_within most all).headers)) ended ran tells h
 
-  behind : (ended : Result ℕ TraceError) → IsRan ended → AreKeptBehind before after (inputs (Trace table trace))
-  behind ended ran = turn_behind before after (λ i. Unit {0}) (inputs (Trace table trace)) (in_trace ended ran (λ i. Unit {0}) tt)
+  behind : (ended : Result ℕ TraceError) → IsRan ended → AreKeptBehind before after (tracing table trace).inputs
+  behind ended ran = turn_behind before after (λ i. Unit {0}) (tracing table trace).inputs (in_trace ended ran (λ i. Unit {0}) tt)
 
-  pub run_ends : (ended : Result ℕ TraceError) (ending : Ending) → IsRan ended → IsEndOfRun trace ended ending → Ends (Trace table trace) before after ending
-  run_ends (Ok count) ending ran is = subst (Ends (Trace table trace) before after) (sym is) (refl, done count ran)
+  pub run_ends : (ended : Result ℕ TraceError) (ending : Ending) → IsRan ended → IsEndOfRun trace ended ending → Ends (tracing table trace) before after ending
+  run_ends (Ok count) ending ran is = subst (Ends (tracing table trace) before after) (sym is) (refl, done count ran)
   run_ends (Err (errors.BadLine line reason)) (Bad file at why) ran is =
-      subst (λ (n : ℕ). Stops (Trace table trace) before after (bad_line file.now (record { line = n; reason = why }))) (sym is.1)
-      (subst (λ (w : LineReason). Stops (Trace table trace) before after (bad_line file.now (record { line = line; reason = w }))) (sym is.2) (bad_ends file.now line reason ran is.0))
+      subst (λ (n : ℕ). Stops (tracing table trace) before after (bad_line file.now (record { line = n; reason = why }))) (sym is.1)
+      (subst (λ (w : LineReason). Stops (tracing table trace) before after (bad_line file.now (record { line = line; reason = w }))) (sym is.2) (bad_ends file.now line reason ran is.0))
   run_ends (Err (errors.BadLine line reason)) ending ran is = absurd is
   run_ends (Err errors.TooLong) (TooLong file limit) ran is = long_ends file.now limit ran is.0 is.1
   run_ends (Err errors.TooLong) ending ran is = absurd is
@@ -265,7 +264,7 @@ module _ (table trace : List ℕ) (before after : Outside) (entries : Table) (an
     cut file.now ran is,
   )
   run_ends (Err errors.ReadFault) ending ran is = absurd is
-  run_ends (Err errors.WriteFault) ending ran is = subst (Ends (Trace table trace) before after) (sym is)
+  run_ends (Err errors.WriteFault) ending ran is = subst (Ends (tracing table trace) before after) (sym is)
       (ran.write_fault, (λ tells. (cut_off (Err errors.WriteFault) ran tells (front_of (Err errors.WriteFault) ran tells ran.outcome), paced (Err errors.WriteFault) ran tells)), behind (Err errors.WriteFault) ran)
-  run_ends (Err errors.Memory) ending ran is = subst (Ends (Trace table trace) before after) (sym is)
+  run_ends (Err errors.Memory) ending ran is = subst (Ends (tracing table trace) before after) (sym is)
       (ran.calm, (λ tells. (inr (cut_off (Err errors.Memory) ran tells (front_of (Err errors.Memory) ran tells ran.outcome)), paced (Err errors.Memory) ran tells)), behind (Err errors.Memory) ran)

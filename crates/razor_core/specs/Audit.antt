@@ -8,6 +8,8 @@ use Rattle.rule_audit.specs.declared.state.RuleState.{RuleState}
 use Rattle.rule_audit.specs.declared.state.RuleState.TheVariants.{Live, Droppable, Never}
 use Rattle.razor_core.specs.Outcome.{Outcome}
 use Rattle.razor_core.specs.OneText.{IsText}
+use Rattle.razor_core.specs.Meaning.{Meaning, of_list, usual}
+use Rattle.razor_core.specs.Inputs.{list_input}
 
 -- the line of the rule with this number: its state, and the header that shows it
 abbrev pub found_state : ℕ → List ℕ → List ℕ → List ℕ
@@ -35,3 +37,6 @@ AreStated rules text = (states : List RuleState) × AreStates rules states × (t
 -- that text
 abbrev pub Audits : List (Rule (List ℕ)) → Outcome → Type 0
 Audits rules outcome = IsText (AreStated rules) outcome
+
+abbrev pub auditing : List ℕ → Meaning
+auditing list = usual (list_input list ∷ []) (of_list (λ list outcome. Audits list.rules outcome))

@@ -1,5 +1,5 @@
 -- What `cert` defines: the certificate of a list and a table, and the word that isn't a prefix and ends it.
-use Rattle.std.specs.Prelude.{◌≡◌, ℕ, ◌<◌, ◌+◌, List, Some, slice_get, ◌⊎◌, true, [], Option}
+use Rattle.std.specs.Prelude.{◌≡◌, ℕ, ◌<◌, ◌+◌, List, Some, slice_get, ◌⊎◌, true, [], ◌∷◌, Option}
 use Rattle.std.specs.Io.KnownBytes.{Appends, Keeps}
 use Rattle.field_boxes.specs.Alike.{IsFirstDifference, source_of}
 use Rattle.filter_reader.specs.Headline.FilterList.{FilterList}
@@ -20,11 +20,12 @@ use Rattle.razor_core.specs.Outcome.{Outcome}
 use Rattle.razor_core.specs.Equiv.{differ_line, IsDifference}
 use Rattle.razor_core.specs.Turns.{Stop, bad_line}
 use Rattle.razor_core.specs.Check.{Checks}
-use Rattle.razor_core.specs.Inputs.{BadLine}
+use Rattle.razor_core.specs.Inputs.{BadLine, Value, list_input, list_value, table_input, table_value}
 use Rattle.razor_core.specs.declared.line_reason.LineReason.TheVariants.{NotPrefix}
 use Rattle.razor_core.specs.declared.ending.Ending.{Ending}
 use Rattle.razor_core.specs.declared.ending.Ending.TheVariants.{Done, No, BadLine as Bad, WriteFault, Memory}
 use Rattle.razor_core.specs.declared.ending.Summary.TheVariants.{Nothing}
+use Rattle.razor_core.specs.Meaning.{Meaning, usual, by_lines}
 
 -- the text of the coarsest good certificate of a list and a table that have these rules and entries
 pub record IsCertificateOf (rules : FilterList) (entries : Table) (text : List ℕ) : Type 0 where
@@ -69,3 +70,15 @@ IsEndOfCert list table name before after old new (Bad file line reason) =
 IsEndOfCert list table name before after old new WriteFault = Rose old new × ArePrefixes table.entries.items × (IsCut list table before after ⊎ SaysDifference list table (AppendsFront before after))
 IsEndOfCert list table name before after old new Memory = (new ≡ old) × (Keeps before after ⊎ (ArePrefixes table.entries.items × IsCut list table before after))
 IsEndOfCert list table name before after old new ending = ⊥
+
+abbrev of_both : List Value → Outcome → Type 0
+of_both (list_value rules ∷ table_value entries ∷ values) outcome = Writes rules entries outcome
+of_both values outcome = ⊥
+
+abbrev other_of : List ℕ → List Value → Stop → Type 0
+other_of table (list_value rules ∷ table_value entries ∷ values) stop = HasOther table entries stop
+other_of table values stop = ⊥
+
+-- the rows are written as they are found
+abbrev pub certifying : List ℕ → List ℕ → Meaning
+certifying list table = record (usual (list_input list ∷ table_input table ∷ []) of_both) { may_say_no = Unit {0}; stops = other_of table; writes = by_lines }

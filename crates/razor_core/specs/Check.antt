@@ -24,11 +24,12 @@ use Rattle.razor_base.specs.declared.limits.TheConstants.{PIECE_BYTES}
 use Rattle.partition_check.specs.Agreement.{Agree}
 use Rattle.razor_core.specs.Outcome.{Outcome}
 use Rattle.razor_core.specs.Turns.{Stop, too_long, turn}
-use Rattle.razor_core.specs.Inputs.{most_bytes, text_of_certificate, list_value, table_value, list_input, table_input}
+use Rattle.razor_core.specs.Inputs.{Value, most_bytes, text_of_certificate, certificate_input, lines_value, list_input, list_value, table_input, table_value}
 use Rattle.razor_core.specs.Outside.{Outside, bytes_at}
 use Rattle.razor_core.specs.declared.ending.Ending.{Ending}
 use Rattle.razor_core.specs.declared.ending.Ending.TheVariants.{Done, No, TooLong, ReadFault, WriteFault}
 use Rattle.razor_core.specs.declared.ending.Summary.TheVariants.{Nothing}
+use Rattle.razor_core.specs.Meaning.{Meaning, usual}
 
 abbrev line_end : List ℕ
 line_end = 10 ∷ []
@@ -122,3 +123,20 @@ IsEndOfCheck list table name before after WriteFault =
     Rose before.write_faults after.write_faults
     × (SaysValid list table (before.remaining name) (after.remaining name) (AppendsFront before.written after.written) ⊎ SaysWrong list table (before.remaining name) (AppendsFront before.written after.written))
 IsEndOfCheck list table name before after ending = ⊥
+
+abbrev of_all : List Value → Outcome → Type 0
+of_all (list_value rules ∷ table_value entries ∷ lines_value text ∷ values) outcome = Certifies rules entries text outcome
+of_all values outcome = ⊥
+
+abbrev too_much_of : List ℕ → List Value → Stop → Type 0
+too_much_of certificate (list_value rules ∷ table_value entries ∷ lines_value text ∷ values) stop = HasTooMuch certificate rules entries text stop
+too_much_of certificate values stop = ⊥
+
+-- a certificate that is wrong needn't be read to its end, and where a read of it failed, no line of it was wrong
+abbrev pub checking : List ℕ → List ℕ → List ℕ → Meaning
+checking list table certificate = record (usual (list_input list ∷ table_input table ∷ certificate_input certificate ∷ []) of_all) {
+  read_by_no = list_input list ∷ table_input table ∷ [];
+  may_say_no = Unit {0};
+  stops = too_much_of certificate;
+  where_unread = λ before after file. file ≡ certificate → IsRightSoFar list table certificate before after;
+}

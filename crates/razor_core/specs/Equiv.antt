@@ -11,6 +11,8 @@ use Rattle.razor_core.specs.Outcome.{Outcome}
 use Rattle.razor_core.specs.declared.ending.Ending.{Ending}
 use Rattle.razor_core.specs.declared.ending.Ending.TheVariants.{Done, No}
 use Rattle.razor_core.specs.declared.ending.Summary.TheVariants.{Nothing}
+use Rattle.razor_core.specs.Meaning.{Meaning, usual}
+use Rattle.razor_core.specs.Inputs.{Value, list_input, list_value}
 
 abbrev pub equal_line : List ℕ
 equal_line = codes "equal" ++ 10 ∷ []
@@ -43,3 +45,10 @@ verdict_text (Differ header first second) left right = differ_line header.values
 abbrev pub IsAnswer : Verdict → Ending → Type 0
 IsAnswer Equal ending = ending ≡ Done Nothing
 IsAnswer (Differ header first second) ending = ending ≡ No
+
+abbrev of_lists : List Value → Outcome → Type 0
+of_lists (list_value first ∷ list_value second ∷ values) outcome = Compares first.rules second.rules outcome
+of_lists values outcome = ⊥
+
+abbrev pub comparing : List ℕ → List ℕ → Meaning
+comparing left right = record (usual (list_input left ∷ list_input right ∷ []) of_lists) { may_say_no = Unit {0} }

@@ -5,7 +5,8 @@ use Rattle.std.specs.List.{concat}
 use Rattle.bank_update.specs.Machine.{unsettled}
 use Rattle.bank_update.specs.Runs.{session}
 use Rattle.bank_update.specs.Script.{Event, script_of}
-use Rattle.command_words.specs.Command.{Arrange, Shorten, Sizes}
+use Rattle.command_words.specs.Commands.{Arrange, Shorten}
+use Rattle.command_words.specs.Settings.{Sizes}
 use Rattle.command_words.specs.Orders.{Wanted}
 use Rattle.field_boxes.specs.Alike.{AreAlike, IsTight, source_of}
 use Rattle.field_boxes.specs.Headline.Classifier.{Interval, Rule}

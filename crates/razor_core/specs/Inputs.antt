@@ -1,4 +1,4 @@
--- The inputs of a command, in the order in which they are read, and what their texts come to.
+-- Inputs of commands, and what their texts come to.
 use Rattle.std.specs.Prelude.{ℕ, Bool, false, nat_lt, List, [], ◌∷◌, length, map, Result, Ok, Err}
 use Rattle.razor_base.specs.declared.limits.TheConstants.{MOST_LIST_BYTES, MOST_TABLE_BYTES, MOST_SCRIPT_BYTES, MOST_TRACE_BYTES, MOST_CERTIFICATE_BYTES}
 use Rattle.filter_reader.specs.Headline.FilterList as lists
@@ -8,7 +8,6 @@ use Rattle.edit_session.specs.SessionText as sessions
 use Rattle.memory_text.specs.Memory.{Memory, Plan}
 use Rattle.memory_text.specs.Reading as memories
 use Rattle.ternary_words.specs.Headline.Table.{Table}
-use Rattle.command_words.specs.Command.{Command, Make, Equiv, Cert, Check, Trace, Drive, Gen, Selfrun, Migrate, Merge, Audit, Query, Session, Trim, Place, Patch, Apply, Dump}
 use Rattle.razor_core.specs.declared.line_reason.LineReason.{LineReason}
 use Rattle.razor_core.specs.declared.line_reason.LineReason.TheVariants.{OfList, OfTable, OfScript, OfSession, OfSlots}
 
@@ -64,32 +63,6 @@ trace_input name = record { name = name; kind = text_of_trace }
 -- a certificate under this name
 abbrev pub certificate_input : List ℕ → Input
 certificate_input name = record { name = name; kind = text_of_certificate }
-
--- the inputs of a command
-abbrev pub inputs : Command → List Input
-inputs (Make method sizes list) = list_input list ∷ []
-inputs (Equiv left right) = list_input left ∷ list_input right ∷ []
-inputs (Cert list table) = list_input list ∷ table_input table ∷ []
-inputs (Check list table certificate) = list_input list ∷ table_input table ∷ certificate_input certificate ∷ []
-inputs (Trace table trace) = table_input table ∷ trace_input trace ∷ []
-inputs (Drive slots script tables) = script_input (length tables) script ∷ map table_input tables
-inputs (Gen seed rules) = []
-inputs (Selfrun seed rules) = []
-inputs (Migrate table) = table_input table ∷ []
-inputs (Merge table) = table_input table ∷ []
-inputs (Audit list) = list_input list ∷ []
-inputs (Query list box name) = list_input list ∷ []
-inputs (Session slots sizes script list) = session_input script ∷ list_input list ∷ []
-inputs (Trim table) = table_input table ∷ []
-inputs (Place slots table) = table_input table ∷ []
-inputs (Patch memory table) = memory_input memory ∷ table_input table ∷ []
-inputs (Apply memory plan) = memory_input memory ∷ plan_input plan ∷ []
-inputs (Dump memory) = memory_input memory ∷ []
-
--- the inputs that a command reads to their end where its answer is yes, or no: a certificate that is wrong needn't be
-abbrev pub read_by : Command → Bool → List Input
-read_by (Check list table certificate) false = list_input list ∷ table_input table ∷ []
-read_by command answer = inputs command
 
 -- the greatest number of bytes of a text
 abbrev pub most_bytes : Kind → ℕ

@@ -2,6 +2,8 @@ pub mod Headline
 pub mod Outcome
 pub mod Inputs
 pub mod Turns
+pub mod Meaning
+pub mod Commands
 pub mod Make
 pub mod Equiv
 pub mod Cert
@@ -13,12 +15,14 @@ pub mod Selfrun
 pub mod Migrate
 pub mod Merge
 pub mod Trim
-pub mod Slots
+pub mod Place
+pub mod Patch
+pub mod Apply
+pub mod Dump
 pub mod Session
 pub mod OneText
 pub mod Audit
 pub mod Query
-pub mod Gives
 pub mod Outside
 pub mod Stopping
 pub mod Deciding

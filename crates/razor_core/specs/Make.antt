@@ -1,5 +1,5 @@
 -- What `expand`, `compile`, `arrange` and `shorten` define: the table of a list.
-use Rattle.std.specs.Prelude.{◌≡◌, ℕ, ◌<◌, ◌≤◌, true, List, length, Some, None}
+use Rattle.std.specs.Prelude.{◌≡◌, ℕ, ◌<◌, ◌≤◌, true, List, [], ◌∷◌, length, Some, None}
 use Rattle.field_boxes.specs.Headline.Classifier.{Rule}
 use Rattle.field_boxes.specs.Headline.Fields.{stated}
 use Rattle.field_boxes.specs.Orders.{IsOrder}
@@ -11,13 +11,16 @@ use Rattle.rule_compilation.specs.Compiled.{IsCompiledIn}
 use Rattle.rule_expansion.specs.Expansion.{expanded_count}
 use Rattle.rule_expansion.specs.Tables.{IsExpansion}
 use Rattle.rule_shortening.specs.Shortened.{IsLesser, IsShortTable, IsShortTableIn}
-use Rattle.command_words.specs.Command.{Method, Sizes, Expand, Compile, Arrange, Shorten}
+use Rattle.command_words.specs.Commands.{Method, Expand, Compile, Arrange, Shorten}
+use Rattle.command_words.specs.Settings.{Sizes}
 use Rattle.command_words.specs.Orders.{Wanted, Best, In}
 use Rattle.razor_core.specs.Messages.{ordered_line, rules_line}
 use Rattle.razor_core.specs.Outcome.{Outcome, IsTextOf}
 use Rattle.razor_core.specs.Turns.{Stop, too_many}
 use Rattle.razor_core.specs.declared.ending.Ending.{Ending}
 use Rattle.razor_core.specs.declared.ending.Ending.TheVariants.{TooMany, Memory}
+use Rattle.razor_core.specs.Meaning.{Meaning, of_list, usual}
+use Rattle.razor_core.specs.Inputs.{Value, list_input, list_value}
 
 -- the order is the one that is wanted: the one that costs least, or the one that is asked for
 abbrev pub IsWanted : Wanted → List (Rule (List ℕ)) → List ℕ → Type 0
@@ -96,3 +99,24 @@ abbrev pub IsNotMade : (ℕ → Type 0) → ℕ → Ending → Type 0
 IsNotMade Needed limit (TooMany needed most) = Needed needed × (most ≡ limit) × (limit < needed)
 IsNotMade Needed limit Memory = Unit {0}
 IsNotMade Needed limit ending = ⊥
+
+abbrev needs : Method → ℕ → List Value → Stop → Type 0
+needs method limit (list_value list ∷ values) stop = NeedsMore method list.rules limit stop
+needs method limit values stop = ⊥
+
+-- a search may find a table within the limit, however many entries are counted
+abbrev MaySearch : Method → Type 0
+MaySearch (Shorten wanted) = Unit {0}
+MaySearch method = ⊥
+
+-- how many rules its list has, how many are flagged and, where it may be asked for, the order
+abbrev IsMadeLine : Method → List ℕ → Type 0
+IsMadeLine method line = (order : List ℕ) × MayBeOrderOf method order × (rules : ℕ) × (flagged : ℕ) × (line ≡ made_line method order rules flagged)
+
+abbrev pub making : Method → Sizes → List ℕ → Meaning
+making method sizes file = record (usual (list_input file ∷ []) (of_list (λ list outcome. IsTableOf method list sizes outcome))) {
+  stops = needs method sizes.limit;
+  above = λ needed limit. (limit ≡ sizes.limit) × (limit < needed);
+  goes_on = MaySearch method;
+  says = IsMadeLine method;
+}

@@ -1,9 +1,8 @@
 -- What a call sees of the desk and of the output.
-use Rattle.std.specs.Prelude.{◌≡◌, ◌≢◌, ℕ, List, [], Option, Some, None, IsSome, unwrap_or}
+use Rattle.std.specs.Prelude.{◌≡◌, ◌≢◌, ℕ, List, [], Option, Some, IsSome, unwrap_or}
 use Rattle.std.specs.Io.KnownBytes.{Keeps}
 use Rattle.std.specs.List.{AllByRecursion}
-use Rattle.command_words.specs.Command.{Command}
-use Rattle.razor_core.specs.Inputs.{Input, inputs}
+use Rattle.razor_core.specs.Inputs.{Input}
 
 -- the bytes left under each name and the bytes written, where they are told, and the counts of faults
 pub record Outside : Type 0 where
@@ -16,9 +15,9 @@ pub record Outside : Type 0 where
 abbrev pub seen : {D K : Type 0} → (D → List ℕ → Option (List ℕ)) → (D → List ℕ → ℕ) → (K → Option (List ℕ)) → (K → ℕ) → D → K → Outside
 seen remaining read_faults written write_faults desk out = record { remaining = remaining desk; read_faults = read_faults desk; written = written out; write_faults = write_faults out }
 
--- the desk tells the bytes of each input of the command
-abbrev pub Tells : Outside → Command → Type 0
-Tells outside command = AllByRecursion (λ input. IsSome (outside.remaining input.name)) (inputs command)
+-- the desk tells the bytes of each of these inputs
+abbrev pub Tells : Outside → List Input → Type 0
+Tells outside some = AllByRecursion (λ input. IsSome (outside.remaining input.name)) some
 
 -- each of these inputs was read to its end
 abbrev pub AreReadThrough : Outside → List Input → Type 0
@@ -28,10 +27,9 @@ AreReadThrough outside some = AllByRecursion (λ input. outside.remaining input.
 abbrev pub AreKept : Outside → Outside → List Input → Type 0
 AreKept before after some = AllByRecursion (λ input. Keeps (before.remaining input.name) (after.remaining input.name)) some
 
--- the name is that of no input
-abbrev pub IsNoInput : Option Command → List ℕ → Type 0
-IsNoInput None name = Unit {0}
-IsNoInput (Some command) name = AllByRecursion (λ input. name ≢ input.name) (inputs command)
+-- the name is that of none of these inputs
+abbrev pub IsNoInput : List Input → List ℕ → Type 0
+IsNoInput some name = AllByRecursion (λ input. name ≢ input.name) some
 
 -- the bytes under a name
 abbrev pub bytes_at : Outside → List ℕ → List ℕ

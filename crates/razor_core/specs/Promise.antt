@@ -2,15 +2,17 @@
 use Rattle.std.specs.Prelude.{◌≡◌, ◌≢◌, ◌≤◌, ℕ, ◌⊎◌, true, false, List, [], Option, Some, None}
 use Rattle.std.specs.Io.KnownBytes.{Keeps}
 use Rattle.razor_base.specs.Faults.{Rose}
-use Rattle.command_words.specs.Command.{Command}
+use Rattle.command_words.specs.Commands.{Command}
 use Rattle.command_words.specs.Spelling.{command_of}
-use Rattle.razor_core.specs.Inputs.{Value, inputs}
+use Rattle.razor_core.specs.Commands.{meaning}
+use Rattle.razor_core.specs.Inputs.{Input, Value}
+use Rattle.razor_core.specs.Meaning.{Meaning, Writing, at_the_end, in_turn}
 use Rattle.razor_core.specs.Outside.{Outside, Tells, IsNoInput}
 use Rattle.razor_core.specs.Turns.{Stop, stop_status, too_many}
-use Rattle.razor_core.specs.Stopping.{MayGoOn, Pass, IsStopped}
+use Rattle.razor_core.specs.Stopping.{Pass, IsStopped}
 use Rattle.razor_core.specs.Deciding.{AreKeptBehind, FailsToRead, IsStopOf}
-use Rattle.razor_core.specs.Ending.{IsDone, IsDoneLine, MaySayNo}
-use Rattle.razor_core.specs.Standing.{Stands, StandsBroken, StandsCut, StandsShort, WritesInTurn, WritesNothing}
+use Rattle.razor_core.specs.Ending.{IsDone}
+use Rattle.razor_core.specs.Standing.{Stands, StandsBroken, StandsCut, StandsShort, WritesNothing}
 use Rattle.razor_core.specs.Messages.{usage_text, stop_line, read_fault_line, write_fault_line, memory_line}
 
 -- the status where all turns pass, where reading, writing and memory allow it
@@ -18,16 +20,16 @@ abbrev pub IsStatusOfPass : ℕ → Type 0
 IsStatusOfPass status = (status ≡ 0) ⊎ (status ≡ 1) ⊎ (status ≡ 5) ⊎ (status ≡ 6) ⊎ (status ≡ 7)
 
 -- the status where a command goes on that counted more entries than its limit: its table was written, or a write failed
-abbrev pub IsStatusOfGoingOn : Command → Stop → ℕ → Type 0
-IsStatusOfGoingOn command (too_many needed limit) status = MayGoOn command × ((status ≡ 0) ⊎ (status ≡ 6))
+abbrev pub IsStatusOfGoingOn : Meaning → Stop → ℕ → Type 0
+IsStatusOfGoingOn command (too_many needed limit) status = command.goes_on × ((status ≡ 0) ⊎ (status ≡ 6))
 IsStatusOfGoingOn command stop status = ⊥
 
 -- the status where this ends the command, where reading and memory allow it, and writing by then
-abbrev pub IsStatusOfStop : Command → Stop → ℕ → Type 0
-IsStatusOfStop command stop status = (status ≡ stop_status stop) ⊎ (status ≡ 5) ⊎ (status ≡ 7) ⊎ ((status ≡ 6) × WritesInTurn command) ⊎ IsStatusOfGoingOn command stop status
+abbrev pub IsStatusOfStop : Meaning → Stop → ℕ → Type 0
+IsStatusOfStop command stop status = (status ≡ stop_status stop) ⊎ (status ≡ 5) ⊎ (status ≡ 7) ⊎ ((status ≡ 6) × (command.writes ≡ in_turn)) ⊎ IsStatusOfGoingOn command stop status
 
 -- the command is ended by a bad line, by a byte after the limit, or by more entries than the limit
-pub record IsEnded (command : Command) (before after : Outside) (line : List ℕ) (status : ℕ) : Type 0 where
+pub record IsEnded (command : Meaning) (before after : Outside) (line : List ℕ) (status : ℕ) : Type 0 where
   pub stop : Stop
   -- the status and the line are those of what ends it
   pub status_is : status ≡ stop_status stop
@@ -35,11 +37,11 @@ pub record IsEnded (command : Command) (before after : Outside) (line : List ℕ
   -- the line names an input, behind which all is as it was, or gives a number of entries above the limit
   pub named : IsStopOf command before after stop
   -- it is the first that ends the command, and what had been written by then
-  pub stopped : Tells before command → IsStopped command before stop
-  pub stands : Tells before command → Stands command before after
+  pub stopped : Tells before command.inputs → IsStopped command before stop
+  pub stands : Tells before command.inputs → Stands command before after
 
 -- the command is ended by a read that failed
-pub record IsUnread (command : Command) (before after : Outside) (line : List ℕ) : Type 0 where
+pub record IsUnread (command : Meaning) (before after : Outside) (line : List ℕ) : Type 0 where
   pub file : List ℕ
   -- the line names the file
   pub line_is : line ≡ read_fault_line file
@@ -49,13 +51,13 @@ pub record IsUnread (command : Command) (before after : Outside) (line : List �
   pub stands : StandsCut command before after file
 
 -- the promise for a command, of which this line was said
-pub record KeepsPromise (command : Command) (before after : Outside) (line : List ℕ) (status : ℕ) : Type 0 where
+pub record KeepsPromise (command : Meaning) (before after : Outside) (line : List ℕ) (status : ℕ) : Type 0 where
   -- 0: all turns pass, all that the command defines was written and said, and every input was read to its end
-  pub done : status ≡ 0 → Tells before command → IsDone command before after true line
-  pub done_line : status ≡ 0 → IsDoneLine command line
+  pub done : status ≡ 0 → Tells before command.inputs → IsDone command before after true line
+  pub done_line : status ≡ 0 → command.says line
   -- 1: likewise, and the answer is no
-  pub answered_no : status ≡ 1 → Tells before command → IsDone command before after false []
-  pub may_say_no : status ≡ 1 → MaySayNo command
+  pub answered_no : status ≡ 1 → Tells before command.inputs → IsDone command before after false []
+  pub may_say_no : status ≡ 1 → command.may_say_no
   pub no_line : status ≡ 1 → line ≡ []
   -- 3 and 4: something ends the command; the inputs behind the one in whose turn it ended are as they were, with 6 and 7 too
   pub ended : (status ≡ 3) ⊎ (status ≡ 4) → IsEnded command before after line status
@@ -65,21 +67,30 @@ pub record KeepsPromise (command : Command) (before after : Outside) (line : Lis
   -- read than was answered
   pub write_fault : status ≡ 6 → Rose before.write_faults after.write_faults
   pub write_line : status ≡ 6 → line ≡ write_fault_line
-  pub cut_off : status ≡ 6 → Tells before command → StandsBroken command before after
+  pub cut_off : status ≡ 6 → Tells before command.inputs → StandsBroken command before after
   -- 7: no write failed, and what had been written by then; a trace is read no further than with 6
   pub calm : status ≡ 7 → after.write_faults ≡ before.write_faults
   pub short : status ≡ 7 → StandsShort command before after
   pub short_line : status ≡ 7 → line ≡ memory_line
-  pub behind : (status ≡ 6) ⊎ (status ≡ 7) → AreKeptBehind before after (inputs command)
+  pub behind : (status ≡ 6) ⊎ (status ≡ 7) → AreKeptBehind before after command.inputs
   -- no other status than those, and where the desk tells, than those that the turns allow
   pub known : (status ≤ 7) × (status ≢ 2)
-  pub complete : Tells before command → (values : List Value) → Pass command before values → IsStatusOfPass status
-  pub stopped : Tells before command → (stop : Stop) → IsStopped command before stop → IsStatusOfStop command stop status
+  pub complete : Tells before command.inputs → (values : List Value) → Pass command before values → IsStatusOfPass status
+  pub stopped : Tells before command.inputs → (stop : Stop) → IsStopped command before stop → IsStatusOfStop command stop status
 
 -- the promise of a call with these words, of which this line was said
 abbrev pub KeepsPromiseOf : Option Command → Outside → Outside → List ℕ → ℕ → Type 0
 KeepsPromiseOf None before after line status = (status ≡ 2) × (line ≡ usage_text)
-KeepsPromiseOf (Some command) before after line status = KeepsPromise command before after line status
+KeepsPromiseOf (Some command) before after line status = KeepsPromise (meaning command) before after line status
+
+-- the inputs that words name, and when their command writes
+abbrev pub inputs_of : Option Command → List Input
+inputs_of None = []
+inputs_of (Some command) = (meaning command).inputs
+
+abbrev pub writing_of : Option Command → Writing
+writing_of None = at_the_end
+writing_of (Some command) = (meaning command).writes
 
 -- what the top call promises, where Heard tells what was said on standard error
 pub record Promise (words : List (List ℕ)) (before after : Outside) (Heard : List ℕ → Type 0) (status : ℕ) : Type 0 where
@@ -89,6 +100,6 @@ pub record Promise (words : List (List ℕ)) (before after : Outside) (Heard : L
   -- 2 exactly where the words spell no command; the other statuses are those of the command
   pub command : KeepsPromiseOf (command_of words) before after line status
   -- nothing was written but with 0, 1 and 6, by commands that write when nothing else can end them
-  pub unchanged : WritesNothing (command_of words) status → status ≢ 0 → status ≢ 1 → status ≢ 6 → Keeps before.written after.written
+  pub unchanged : WritesNothing (writing_of (command_of words)) status → status ≢ 0 → status ≢ 1 → status ≢ 6 → Keeps before.written after.written
   -- no input was touched but those that the command names
-  pub untouched : (name : List ℕ) → IsNoInput (command_of words) name → Keeps (before.remaining name) (after.remaining name)
+  pub untouched : (name : List ℕ) → IsNoInput (inputs_of (command_of words)) name → Keeps (before.remaining name) (after.remaining name)

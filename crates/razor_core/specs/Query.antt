@@ -12,6 +12,8 @@ use Rattle.razor_core.specs.OneText.{IsText}
 use Rattle.razor_core.specs.declared.ending.Ending.{Ending}
 use Rattle.razor_core.specs.declared.ending.Ending.TheVariants.{Done, WriteFault}
 use Rattle.razor_core.specs.declared.ending.Summary.TheVariants.{Nothing}
+use Rattle.razor_core.specs.Meaning.{Meaning, of_list, usual}
+use Rattle.razor_core.specs.Inputs.{list_input}
 
 -- how many boxes there are
 abbrev pub count_line : ℕ → List ℕ
@@ -32,3 +34,6 @@ abbrev pub IsCounted : ℕ → Option (List ℕ) → Option (List ℕ) → ℕ �
 IsCounted count before after old new (Done summary) = (summary ≡ Nothing) × Appends before after (count_line count)
 IsCounted count before after old new WriteFault = Rose old new × AppendsFront before after (count_line count)
 IsCounted count before after old new ending = ⊥
+
+abbrev pub querying : List ℕ → List Interval → Option (List ℕ) → Meaning
+querying list box name = usual (list_input list ∷ []) (of_list (λ list outcome. Queries box name list.rules outcome))

@@ -12,12 +12,13 @@ use Rattle.trace_run.specs.Outcome.{IsCut, GoesOn}
 use Rattle.trace_run.specs.Pace.{IsPaced}
 use Rattle.razor_core.specs.Turns.{Stop, bad_line, too_long, turn}
 use Rattle.razor_core.specs.Outcome.{Outcome}
-use Rattle.razor_core.specs.Inputs.{BadLine, most_bytes, text_of_trace, table_value, table_input}
+use Rattle.razor_core.specs.Inputs.{BadLine, Value, lines_value, most_bytes, table_input, table_value, text_of_trace, trace_input}
 use Rattle.razor_core.specs.declared.line_reason.LineReason.TheVariants.{OfTrace}
 use Rattle.razor_core.specs.declared.ending.Ending.{Ending}
 use Rattle.razor_core.specs.declared.ending.Ending.TheVariants.{Done, BadLine as Bad, TooLong, ReadFault, WriteFault, Memory}
 use Rattle.razor_core.specs.declared.ending.Summary.TheVariants.{Nothing}
 use Rattle.razor_core.specs.Outside.{Outside, bytes_at}
+use Rattle.razor_core.specs.Meaning.{Meaning, usual, in_turn}
 
 -- the name of what the table answers on the header, or the word for no decision
 abbrev pub answer_line : Table → List ℕ → List ℕ
@@ -74,3 +75,20 @@ IsEndOfRun name (Err errors.ReadFault) (ReadFault file) = file.now ≡ name
 IsEndOfRun name (Err errors.WriteFault) ending = ending ≡ WriteFault
 IsEndOfRun name (Err errors.Memory) ending = ending ≡ Memory
 IsEndOfRun name ended ending = ⊥
+
+abbrev of_trace : List Value → Outcome → Type 0
+of_trace (table_value entries ∷ lines_value text ∷ values) outcome = Answers entries text outcome
+of_trace values outcome = ⊥
+
+abbrev ends_of : List ℕ → List Value → Stop → Type 0
+ends_of trace (table_value entries ∷ lines_value text ∷ values) stop = EndsTrace trace text stop
+ends_of trace values stop = ⊥
+
+-- the answers are written while the trace is read
+abbrev pub tracing : List ℕ → List ℕ → Meaning
+tracing table trace = record (usual (table_input table ∷ trace_input trace ∷ []) of_trace) {
+  stops = ends_of trace;
+  writes = in_turn;
+  where_unread = λ before after file. AnswersCut table trace file before after;
+  pace = IsPacedTrace table trace;
+}

@@ -1,8 +1,12 @@
 -- What `trim` defines: the text of a table without its redundant entries.
-use Rattle.std.specs.Prelude.{◌≡◌, ◌⊎◌, true, List, [], ◌∷◌}
+use Rattle.std.specs.Prelude.{◌≡◌, ◌⊎◌, ℕ, true, List, [], ◌∷◌}
 use Rattle.field_boxes.specs.Alike.{AreAlike, IsTight}
 use Rattle.ternary_words.specs.Headline.Table.{Entry, Table, answer}
 use Rattle.razor_core.specs.Outcome.{Outcome, IsTextOf}
+use Rattle.razor_core.specs.Meaning.{Meaning, of_table, usual}
+use Rattle.razor_core.specs.Inputs.{Value, table_input, table_value}
+use Rattle.razor_core.specs.Cert.{HasOther}
+use Rattle.razor_core.specs.Turns.{Stop}
 
 -- the first list is the second without some of its entries
 abbrev pub IsPartOf : List Entry → List Entry → Type 0
@@ -20,3 +24,10 @@ pub record IsTrimmedTable (table trimmed : Table) : Type 0 where
 -- the text of that table
 abbrev pub Trims : Table → Outcome → Type 0
 Trims table outcome = (trimmed : Table) × IsTrimmedTable table trimmed × IsTextOf trimmed outcome.text × (outcome.yes ≡ true) × (outcome.line ≡ [])
+
+abbrev other_of : List ℕ → List Value → Stop → Type 0
+other_of table (table_value entries ∷ values) stop = HasOther table entries stop
+other_of table values stop = ⊥
+
+abbrev pub trimming : List ℕ → Meaning
+trimming table = record (usual (table_input table ∷ []) (of_table Trims)) { stops = other_of table }

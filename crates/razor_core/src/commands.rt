@@ -2,9 +2,10 @@
 //!
 //! A command takes the turns of its inputs, one after another, works on what they come to, and writes. It answers how it
 //! ended.
-ghost use Rattle.std.specs.Prelude.{ℕ, List, Some};
+ghost use Rattle.std.specs.Prelude.{ℕ, List};
 ghost use Rattle.std.specs.Io.KnownBytes.{Keeps};
-ghost use Rattle.command_words.specs.Asked.{meant};
+ghost use Rattle.command_words.specs.Commands.{command_seen};
+ghost use Rattle.razor_core.specs.Commands.{meaning};
 ghost use Rattle.razor_core.specs.Outside.{seen, IsNoInput};
 ghost use Rattle.razor_core.specs.Ending.{Ends};
 
@@ -38,7 +39,7 @@ use apply::apply_plan;
 use audit::audit_list;
 use cert::certify;
 use check::check_certificate;
-use command_words::{Asked, Command};
+use command_words::Command;
 use drive::run_script;
 use dump::dump_memory;
 use equiv::compare_lists;
@@ -59,42 +60,42 @@ use trim::trim_table;
 /// Does what the command says.
 pub fn run<'a, D: Desk, K: Sink>(
     alloc: Global,
-    asked: Asked<'a>,
+    command: &Command<'a>,
     desk: &mut D,
     out: &mut K,
 ) -> Ending<'a>
-    ensures ends { Ends (meant asked.entry)
+    ensures ends { Ends (meaning (command_seen command.now))
         (seen D.remaining D.faults K.written K.faults desk.old out.old)
         (seen D.remaining D.faults K.written K.faults desk.new out.new)
         result }
-    ensures others { (other : List ℕ) → IsNoInput (Some (meant asked.entry)) other → Keeps (D.remaining desk.old other) (D.remaining desk.new other) }
+    ensures others { (other : List ℕ) → IsNoInput (meaning (command_seen command.now)).inputs other → Keeps (D.remaining desk.old other) (D.remaining desk.new other) }
 {
-    match asked.command {
+    match command {
         Command::Make {
             method,
             sizes,
             list,
-        } => make_table(alloc, method, sizes, list, desk, out),
-        Command::Equiv(files) => compare_lists(alloc, files, desk, out),
-        Command::Cert(files) => certify(alloc, files, desk, out),
-        Command::Check(files) => check_certificate(alloc, files, desk, out),
-        Command::Trace(files) => answer_trace(alloc, files, desk, out),
-        Command::Drive(slots) => run_script(alloc, slots, asked.words.as_slice(), desk, out),
-        Command::Gen(drawing) => draw_list(alloc, drawing, out),
-        Command::Selfrun(drawing) => run_load(alloc, drawing, out),
+        } => make_table(alloc, *method, *sizes, list, desk, out),
+        Command::Equiv(files) => compare_lists(alloc, *files, desk, out),
+        Command::Cert(files) => certify(alloc, *files, desk, out),
+        Command::Check(files) => check_certificate(alloc, *files, desk, out),
+        Command::Trace(files) => answer_trace(alloc, *files, desk, out),
+        Command::Drive(run) => run_script(alloc, run, desk, out),
+        Command::Gen(drawing) => draw_list(alloc, *drawing, out),
+        Command::Selfrun(drawing) => run_load(alloc, *drawing, out),
         Command::Migrate(file) => migrate_table(alloc, file, desk, out),
         Command::Merge(file) => merge_table(alloc, file, desk, out),
         Command::Audit(file) => audit_list(alloc, file, desk, out),
-        Command::Query(question) => query_list(alloc, question, desk, out),
+        Command::Query(question) => query_list(alloc, *question, desk, out),
         Command::Session {
             slots,
             sizes,
             files,
-        } => run_session(alloc, slots, sizes, files, desk, out),
+        } => run_session(alloc, *slots, *sizes, *files, desk, out),
         Command::Trim(file) => trim_table(alloc, file, desk, out),
-        Command::Place { slots, table } => place_table(alloc, slots, table, desk, out),
-        Command::Patch(files) => plan_patch(alloc, files, desk, out),
-        Command::Apply(files) => apply_plan(alloc, files, desk, out),
+        Command::Place { slots, table } => place_table(alloc, *slots, table, desk, out),
+        Command::Patch(files) => plan_patch(alloc, *files, desk, out),
+        Command::Apply(files) => apply_plan(alloc, *files, desk, out),
         Command::Dump(file) => dump_memory(alloc, file, desk, out),
     }
 }

@@ -42,11 +42,11 @@ pub fn razor<D: Desk, K: Sink, E: Sink>(
         let after = seen D.remaining D.faults K.written K.faults desk.new out.new in
         Promise words.now before after (Says E.written E.faults err.old err.new) result }
 {
-    let Some(asked) = spelled_command(words) else {
+    let Some(command) = spelled_command(words) else {
         say_usage(err);
         return 2;
     };
-    let ending = run(alloc, asked, desk, out);
+    let ending = run(alloc, &command, desk, out);
     say_ending(err, ending);
     status(ending)
 }

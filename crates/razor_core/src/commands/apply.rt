@@ -1,11 +1,10 @@
 //! `apply`: a memory after the writes of a plan.
 ghost use Rattle.std.specs.Prelude.{◌≡◌, ◌≢◌, ℕ, List};
 ghost use Rattle.std.specs.Io.KnownBytes.{Keeps};
-ghost use Rattle.command_words.specs.Command.{Apply};
 ghost use Rattle.memory_text.specs.Views.{memory_of, plan_of};
 ghost use Rattle.razor_core.specs.Ending.{Ends};
 ghost use Rattle.razor_core.specs.Outside.{seen};
-ghost use Rattle.razor_core.specs.Slots.{misfit};
+ghost use Rattle.razor_core.specs.Apply.{misfit, applying};
 
 use crate::ending::{Ending, Summary};
 use crate::line_reason::LineReason;
@@ -23,7 +22,7 @@ pub fn apply_plan<'a, D: Desk, K: Sink>(
     desk: &mut D,
     out: &mut K,
 ) -> Ending<'a>
-    ensures ends { Ends (Apply files.entry.first.now files.entry.second.now)
+    ensures ends { Ends (applying files.entry.first.now files.entry.second.now)
         (seen D.remaining D.faults K.written K.faults desk.old out.old)
         (seen D.remaining D.faults K.written K.faults desk.new out.new)
         result }

@@ -1,8 +1,8 @@
 //! `arrange`: the table of a list's least cost in an order of the fields.
 ghost use Rattle.std.specs.Prelude.{◌≡◌, ◌≤◌, ℕ, IfOk, MatchResult};
 ghost use Rattle.razor_base.specs.declared.limits.TheConstants.{MOST_ENTRIES};
-ghost use Rattle.command_words.specs.Command.{Arrange};
-ghost use Rattle.command_words.specs.Views.{wanted_seen};
+ghost use Rattle.command_words.specs.Commands.{Arrange};
+ghost use Rattle.command_words.specs.Settings.{wanted_seen};
 ghost use Rattle.filter_reader.specs.Lists.{filter_list};
 ghost use Rattle.rule_compilation.specs.Compiled.{IsCompiledIn};
 ghost use Rattle.ternary_words.specs.Limits.{IsSlotWidth};
@@ -31,10 +31,7 @@ pub(super) fn order_of(alloc: Global, list: &RuleList, wanted: Wanted) -> Result
             let (order, _) = best_order(alloc, &list.rules)?;
             Ok(order)
         }
-        Wanted::In(asked) => match Order::new(asked.fields) {
-            Some(order) => Ok(order),
-            None => unreachable!(),
-        },
+        Wanted::In(asked) => Ok(asked),
     }
 }
 

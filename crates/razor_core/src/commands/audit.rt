@@ -1,10 +1,9 @@
 //! `audit`: the state of each rule of a list.
 ghost use Rattle.std.specs.Prelude.{◌≢◌, ℕ, List};
 ghost use Rattle.std.specs.Io.KnownBytes.{Keeps};
-ghost use Rattle.command_words.specs.Command.{Audit};
 ghost use Rattle.filter_reader.specs.Lists.{filter_list};
 ghost use Rattle.razor_base.specs.Output.{Puts, Writes};
-ghost use Rattle.razor_core.specs.Audit.{found_state, state_line, states_text, AreStated};
+ghost use Rattle.razor_core.specs.Audit.{found_state, state_line, states_text, AreStated, auditing};
 ghost use Rattle.razor_core.specs.Ending.{Ends};
 ghost use Rattle.razor_core.specs.OneText.{IsEndOf};
 ghost use Rattle.razor_core.specs.Outside.{seen};
@@ -25,7 +24,7 @@ pub fn audit_list<'a, D: Desk, K: Sink>(
     desk: &mut D,
     out: &mut K,
 ) -> Ending<'a>
-    ensures ends { Ends (Audit file.now)
+    ensures ends { Ends (auditing file.now)
         (seen D.remaining D.faults K.written K.faults desk.old out.old)
         (seen D.remaining D.faults K.written K.faults desk.new out.new)
         result }

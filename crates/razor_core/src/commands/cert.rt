@@ -1,8 +1,7 @@
 //! `cert`: the certificate that a list and a table decide every header alike.
 ghost use Rattle.std.specs.Prelude.{◌≢◌, ℕ, List};
 ghost use Rattle.std.specs.Io.KnownBytes.{Keeps};
-ghost use Rattle.razor_core.specs.Cert.{IsEndOfCert};
-ghost use Rattle.command_words.specs.Command.{Cert};
+ghost use Rattle.razor_core.specs.Cert.{IsEndOfCert, certifying};
 ghost use Rattle.razor_core.specs.Outside.{seen};
 ghost use Rattle.razor_core.specs.Ending.{Ends};
 
@@ -62,7 +61,7 @@ pub fn certify<'a, D: Desk, K: Sink>(
     desk: &mut D,
     out: &mut K,
 ) -> Ending<'a>
-    ensures ends { Ends (Cert files.entry.first.now files.entry.second.now)
+    ensures ends { Ends (certifying files.entry.first.now files.entry.second.now)
         (seen D.remaining D.faults K.written K.faults desk.old out.old)
         (seen D.remaining D.faults K.written K.faults desk.new out.new)
         result }

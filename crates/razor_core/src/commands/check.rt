@@ -3,8 +3,7 @@ ghost use Rattle.std.specs.Prelude.{◌≡◌, ◌≢◌, ◌∷◌, ◌++◌, [
 ghost use Rattle.std.specs.Io.KnownBytes.{Keeps};
 ghost use Rattle.razor_base.specs.Output.{Writes};
 ghost use Rattle.partition_check.specs.Agreement.{HaveNames};
-ghost use Rattle.razor_core.specs.Check.{row_line, valid_line, wrong_line, IsEndOfCheck};
-ghost use Rattle.command_words.specs.Command.{Check};
+ghost use Rattle.razor_core.specs.Check.{row_line, valid_line, wrong_line, IsEndOfCheck, checking};
 ghost use Rattle.razor_core.specs.Outside.{seen};
 ghost use Rattle.razor_core.specs.Ending.{Ends};
 
@@ -135,7 +134,7 @@ pub fn check_certificate<'a, D: Desk, K: Sink>(
     desk: &mut D,
     out: &mut K,
 ) -> Ending<'a>
-    ensures ends { Ends (Check files.entry.first.now files.entry.second.now files.entry.third.now)
+    ensures ends { Ends (checking files.entry.first.now files.entry.second.now files.entry.third.now)
         (seen D.remaining D.faults K.written K.faults desk.old out.old)
         (seen D.remaining D.faults K.written K.faults desk.new out.new)
         result }

@@ -1,7 +1,10 @@
 //! `drive`: a script of updates, run over tables in a memory.
 ghost use Rattle.std.specs.Prelude.{◌≡◌, ◌≢◌, ◌≤◌, ◌<◌, ◌++◌, ℕ, List, IfErr, IsTrue, OnOk, Some, length, map};
 ghost use Rattle.std.specs.Io.KnownBytes.{Keeps};
-ghost use Rattle.command_words.specs.Naming.{all_differ, driving};
+ghost use Rattle.command_words.specs.Commands.{Drive};
+ghost use Rattle.command_words.specs.Files.{all_differ, script_and_tables};
+ghost use Rattle.command_words.specs.PlainWords.{plain_seen};
+ghost use Rattle.razor_core.specs.Commands.{meaning};
 ghost use Rattle.razor_core.specs.Outside.{seen, IsNoInput};
 ghost use Rattle.razor_core.specs.Ending.{Ends};
 ghost use Rattle.razor_core.specs.Drive.{IsEndOfDrive};
@@ -12,7 +15,7 @@ use crate::taking::take;
 use crate::texts::{ScriptText, TableText};
 use bank_update::laws::a_run_without_faults_is_the_session;
 use bank_update::{DriveError, Swapper, drive_on};
-use command_words::Slots;
+use command_words::{ScriptRun, Slots};
 use razor_base::{Desk, Sink};
 use std::alloc::Global;
 use tcam_sim::Bank;
@@ -58,6 +61,22 @@ pub(super) fn drive_ended<'a>(ended: Result<u64, DriveError>) -> Ending<'a>
 /// Writes the line of each command of the script, run over the tables in a memory of so many slots.
 pub fn run_script<'a, D: Desk, K: Sink>(
     alloc: Global,
+    run: &ScriptRun<'a>,
+    desk: &mut D,
+    out: &mut K,
+) -> Ending<'a>
+    ensures ends { Ends (meaning (script_and_tables (Drive run.now.slots.count) (plain_seen run.now.words)))
+        (seen D.remaining D.faults K.written K.faults desk.old out.old)
+        (seen D.remaining D.faults K.written K.faults desk.new out.new)
+        result }
+    ensures others { (other : List ℕ) → IsNoInput (meaning (script_and_tables (Drive run.now.slots.count) (plain_seen run.now.words))).inputs other → Keeps (D.remaining desk.old other) (D.remaining desk.new other) }
+{
+    run_words(alloc, run.slots, run.words.as_slice(), desk, out)
+}
+
+/// The same, where the first of the words is the script's and the others are the tables'.
+fn run_words<'a, D: Desk, K: Sink>(
+    alloc: Global,
     slots: Slots,
     files: &[&'a str],
     desk: &mut D,
@@ -66,11 +85,11 @@ pub fn run_script<'a, D: Desk, K: Sink>(
     requires some { 0 < length files.now }
     requires few { length files.now ≤ 9 }
     requires apart { IsTrue (all_differ (map (λ word. word.now) files.now)) }
-    ensures ends { Ends (driving slots.count (map (λ word. word.now) files.now))
+    ensures ends { Ends (meaning (script_and_tables (Drive slots.count) (map (λ word. word.now) files.now)))
         (seen D.remaining D.faults K.written K.faults desk.old out.old)
         (seen D.remaining D.faults K.written K.faults desk.new out.new)
         result }
-    ensures others { (other : List ℕ) → IsNoInput (Some (driving slots.count (map (λ word. word.now) files.now))) other → Keeps (D.remaining desk.old other) (D.remaining desk.new other) }
+    ensures others { (other : List ℕ) → IsNoInput (meaning (script_and_tables (Drive slots.count) (map (λ word. word.now) files.now))).inputs other → Keeps (D.remaining desk.old other) (D.remaining desk.new other) }
 {
     let [script, table_files @ ..] = files else {
         unreachable!()

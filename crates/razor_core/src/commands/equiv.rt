@@ -1,12 +1,11 @@
 //! `equiv`: whether two lists decide every header alike, or on which they first differ.
 ghost use Rattle.std.specs.Prelude.{◌≢◌, ℕ, List};
 ghost use Rattle.std.specs.Io.KnownBytes.{Keeps};
-ghost use Rattle.command_words.specs.Command.{Equiv};
 ghost use Rattle.filter_reader.specs.Lists.{filter_list};
 ghost use Rattle.list_equiv.specs.Verdict.{IsListVerdict};
 ghost use Rattle.razor_base.specs.Output.{Writes};
 ghost use Rattle.razor_core.specs.Ending.{Ends};
-ghost use Rattle.razor_core.specs.Equiv.{verdict_text, IsAnswer};
+ghost use Rattle.razor_core.specs.Equiv.{verdict_text, IsAnswer, comparing};
 ghost use Rattle.razor_core.specs.Outside.{seen};
 
 use crate::commands::difference::write_difference;
@@ -26,7 +25,7 @@ pub fn compare_lists<'a, D: Desk, K: Sink>(
     desk: &mut D,
     out: &mut K,
 ) -> Ending<'a>
-    ensures ends { Ends (Equiv files.entry.first.now files.entry.second.now)
+    ensures ends { Ends (comparing files.entry.first.now files.entry.second.now)
         (seen D.remaining D.faults K.written K.faults desk.old out.old)
         (seen D.remaining D.faults K.written K.faults desk.new out.new)
         result }

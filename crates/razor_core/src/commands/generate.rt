@@ -1,7 +1,7 @@
 //! `gen`: the list that a seed gives.
 ghost use Rattle.std.specs.Prelude.{ℕ, List, Option};
-ghost use Rattle.command_words.specs.Command.{Gen};
 ghost use Rattle.razor_core.specs.Ending.{Ends};
+ghost use Rattle.razor_core.specs.Gen.{generating};
 
 use crate::ending::{Ending, Summary};
 use command_words::Drawing;
@@ -12,7 +12,7 @@ use std::alloc::Global;
 
 /// Writes the list that a seed gives.
 pub fn draw_list<'a, K: Sink>(alloc: Global, drawing: Drawing, out: &mut K) -> Ending<'a>
-    ensures { (remaining : List ℕ → Option (List ℕ)) (read_faults : List ℕ → ℕ) → Ends (Gen drawing.seed drawing.rules)
+    ensures { (remaining : List ℕ → Option (List ℕ)) (read_faults : List ℕ → ℕ) → Ends (generating drawing.seed drawing.rules)
         (record { remaining = remaining; read_faults = read_faults; written = K.written out.old; write_faults = K.faults out.old })
         (record { remaining = remaining; read_faults = read_faults; written = K.written out.new; write_faults = K.faults out.new })
         result }

@@ -1,13 +1,13 @@
 //! What `expand`, `compile`, `arrange` and `shorten` share: a list is read, and its table is written.
 ghost use Rattle.std.specs.Prelude.{◌≡◌, ◌≢◌, ◌≤◌, ℕ, List, IfOk, MatchResult, length};
 ghost use Rattle.std.specs.Io.KnownBytes.{Keeps};
-ghost use Rattle.command_words.specs.Command.{Make};
-ghost use Rattle.command_words.specs.Views.{method_seen, sizes_of};
+ghost use Rattle.command_words.specs.Commands.{method_seen};
+ghost use Rattle.command_words.specs.Settings.{sizes_of};
 ghost use Rattle.filter_reader.specs.Lists.{filter_list};
 ghost use Rattle.ternary_words.specs.Views.{table_of};
 ghost use Rattle.razor_core.specs.Outside.{seen};
 ghost use Rattle.razor_core.specs.Ending.{Ends, summary_text};
-ghost use Rattle.razor_core.specs.Make.{IsMade, IsNeeded, IsNotMade, IsOrderOf, IsRoom, made_line};
+ghost use Rattle.razor_core.specs.Make.{IsMade, IsNeeded, IsNotMade, IsOrderOf, IsRoom, made_line, making};
 
 use crate::commands::arrange::arrange_list;
 use crate::commands::compile::compile_list;
@@ -32,7 +32,7 @@ pub fn make_table<'a, D: Desk, K: Sink>(
     desk: &mut D,
     out: &mut K,
 ) -> Ending<'a>
-    ensures ends { Ends (Make (method_seen method) (sizes_of sizes) file.now)
+    ensures ends { Ends (making (method_seen method) (sizes_of sizes) file.now)
         (seen D.remaining D.faults K.written K.faults desk.old out.old)
         (seen D.remaining D.faults K.written K.faults desk.new out.new)
         result }
@@ -47,7 +47,7 @@ pub fn make_table<'a, D: Desk, K: Sink>(
         Err(ending) => return ending,
     };
     match write_table(&made.table, out) {
-        Ok(()) => Ending::Done(summary(method, &list, made.order)),
+        Ok(()) => Ending::Done(summary(&method, &list, made.order)),
         Err(_) => Ending::WriteFault,
     }
 }
@@ -74,8 +74,8 @@ fn make_by<'a>(
 }
 
 /// What is said of a list of which the method made a table in the order.
-fn summary(method: Method, list: &RuleList, order: [u8; 5]) -> Summary
-    ensures { summary_text result ≡ made_line (method_seen method) order (length (filter_list list.now).rules) list.now.flagged }
+fn summary(method: &Method, list: &RuleList, order: [u8; 5]) -> Summary
+    ensures { summary_text result ≡ made_line (method_seen method.now) order (length (filter_list list.now).rules) list.now.flagged }
 {
     let rules = list.rules.len() as u64;
     let flagged = list.flagged;

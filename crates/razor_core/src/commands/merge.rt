@@ -1,10 +1,9 @@
 //! `merge`: a table whose entries are merged.
 ghost use Rattle.std.specs.Prelude.{◌≡◌, ◌≢◌, ℕ, List, IfOk};
 ghost use Rattle.std.specs.Io.KnownBytes.{Keeps};
-ghost use Rattle.command_words.specs.Command.{Merge};
 ghost use Rattle.ternary_words.specs.Views.{table_of};
 ghost use Rattle.razor_core.specs.Ending.{Ends};
-ghost use Rattle.razor_core.specs.Merge.{IsMergedTable};
+ghost use Rattle.razor_core.specs.Merge.{IsMergedTable, merging};
 ghost use Rattle.razor_core.specs.Outside.{seen};
 
 use crate::ending::{Ending, Summary};
@@ -22,7 +21,7 @@ pub fn merge_table<'a, D: Desk, K: Sink>(
     desk: &mut D,
     out: &mut K,
 ) -> Ending<'a>
-    ensures ends { Ends (Merge file.now)
+    ensures ends { Ends (merging file.now)
         (seen D.remaining D.faults K.written K.faults desk.old out.old)
         (seen D.remaining D.faults K.written K.faults desk.new out.new)
         result }

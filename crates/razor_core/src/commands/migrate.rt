@@ -1,9 +1,9 @@
 //! `migrate`: a table of either version in the compact text.
 ghost use Rattle.std.specs.Prelude.{◌≢◌, ℕ, List};
 ghost use Rattle.std.specs.Io.KnownBytes.{Keeps};
-ghost use Rattle.command_words.specs.Command.{Migrate};
 ghost use Rattle.razor_core.specs.Ending.{Ends};
 ghost use Rattle.razor_core.specs.Outside.{seen};
+ghost use Rattle.razor_core.specs.Migrate.{migrating};
 
 use crate::ending::{Ending, Summary};
 use crate::taking::take;
@@ -19,7 +19,7 @@ pub fn migrate_table<'a, D: Desk, K: Sink>(
     desk: &mut D,
     out: &mut K,
 ) -> Ending<'a>
-    ensures ends { Ends (Migrate file.now)
+    ensures ends { Ends (migrating file.now)
         (seen D.remaining D.faults K.written K.faults desk.old out.old)
         (seen D.remaining D.faults K.written K.faults desk.new out.new)
         result }

@@ -1,9 +1,9 @@
 //! `patch`: a plan that leads from a memory to a table.
 ghost use Rattle.std.specs.Prelude.{◌≡◌, ◌≢◌, ℕ, List};
 ghost use Rattle.std.specs.Io.KnownBytes.{Keeps};
-ghost use Rattle.command_words.specs.Command.{Patch};
 ghost use Rattle.razor_core.specs.Ending.{Ends};
 ghost use Rattle.razor_core.specs.Outside.{seen};
+ghost use Rattle.razor_core.specs.Patch.{patching};
 
 use crate::ending::{Ending, Summary};
 use crate::line_reason::LineReason;
@@ -21,7 +21,7 @@ pub fn plan_patch<'a, D: Desk, K: Sink>(
     desk: &mut D,
     out: &mut K,
 ) -> Ending<'a>
-    ensures ends { Ends (Patch files.entry.first.now files.entry.second.now)
+    ensures ends { Ends (patching files.entry.first.now files.entry.second.now)
         (seen D.remaining D.faults K.written K.faults desk.old out.old)
         (seen D.remaining D.faults K.written K.faults desk.new out.new)
         result }

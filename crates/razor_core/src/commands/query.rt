@@ -1,7 +1,6 @@
 //! `query`: the boxes inside a box in which a list decides as asked.
 ghost use Rattle.std.specs.Prelude.{◌≢◌, ℕ, List};
 ghost use Rattle.std.specs.Io.KnownBytes.{Keeps};
-ghost use Rattle.command_words.specs.Command.{Query};
 ghost use Rattle.command_words.specs.Questions.{name_in};
 ghost use Rattle.field_boxes.specs.Spans.{intervals_of};
 ghost use Rattle.filter_reader.specs.Lists.{filter_list};
@@ -9,7 +8,7 @@ ghost use Rattle.razor_base.specs.Output.{Writes};
 ghost use Rattle.razor_core.specs.Ending.{Ends};
 ghost use Rattle.razor_core.specs.Outside.{seen};
 ghost use Rattle.razor_core.specs.OneText.{IsEndOf};
-ghost use Rattle.razor_core.specs.Query.{count_line, AreAnswered, IsCounted};
+ghost use Rattle.razor_core.specs.Query.{count_line, AreAnswered, IsCounted, querying};
 
 use crate::ending::{Ending, Summary};
 use crate::taking::take;
@@ -27,7 +26,7 @@ pub fn query_list<'a, D: Desk, K: Sink>(
     desk: &mut D,
     out: &mut K,
 ) -> Ending<'a>
-    ensures ends { Ends (Query question.entry.list.now (intervals_of question.entry.spans) (name_in question.entry.decision.now))
+    ensures ends { Ends (querying question.entry.list.now (intervals_of question.entry.spans) (name_in question.entry.decision.now))
         (seen D.remaining D.faults K.written K.faults desk.old out.old)
         (seen D.remaining D.faults K.written K.faults desk.new out.new)
         result }

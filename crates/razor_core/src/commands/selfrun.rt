@@ -1,9 +1,8 @@
 //! `selfrun`: a load that is drawn from a seed and run.
 ghost use Rattle.std.specs.Prelude.{◌≡◌, ℕ, List, Option};
 ghost use Rattle.razor_base.specs.Output.{Writes};
-ghost use Rattle.command_words.specs.Command.{Selfrun};
 ghost use Rattle.razor_core.specs.Ending.{Ends};
-ghost use Rattle.razor_core.specs.Selfrun.{summary_line};
+ghost use Rattle.razor_core.specs.Selfrun.{summary_line, running_load};
 
 use crate::ending::{Ending, Summary};
 use command_words::Drawing;
@@ -44,7 +43,7 @@ fn write_summary<K: Sink>(
 
 /// Compiles the list that a seed gives, looks up the headers that are drawn behind it, and sums it up.
 pub fn run_load<'a, K: Sink>(alloc: Global, drawing: Drawing, out: &mut K) -> Ending<'a>
-    ensures { (remaining : List ℕ → Option (List ℕ)) (read_faults : List ℕ → ℕ) → Ends (Selfrun drawing.seed drawing.rules)
+    ensures { (remaining : List ℕ → Option (List ℕ)) (read_faults : List ℕ → ℕ) → Ends (running_load drawing.seed drawing.rules)
         (record { remaining = remaining; read_faults = read_faults; written = K.written out.old; write_faults = K.faults out.old })
         (record { remaining = remaining; read_faults = read_faults; written = K.written out.new; write_faults = K.faults out.new })
         result }

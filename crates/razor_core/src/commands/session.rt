@@ -4,12 +4,12 @@ ghost use Rattle.std.specs.Io.KnownBytes.{Keeps};
 ghost use Rattle.razor_base.specs.declared.limits.TheConstants.{MOST_SCRIPT_BYTES};
 ghost use Rattle.filter_reader.specs.FirstSeen.{first_seen};
 ghost use Rattle.filter_reader.specs.Lists.{filter_list};
-ghost use Rattle.command_words.specs.Command.{Session};
-ghost use Rattle.command_words.specs.Views.{sizes_of};
+ghost use Rattle.command_words.specs.Commands.{Session};
+ghost use Rattle.command_words.specs.Settings.{sizes_of};
 ghost use Rattle.edit_session.specs.SessionText.{is_add};
 ghost use Rattle.razor_core.specs.Ending.{Ends};
 ghost use Rattle.razor_core.specs.Outside.{seen};
-ghost use Rattle.razor_core.specs.Session.{IsEndOfSession};
+ghost use Rattle.razor_core.specs.Session.{IsEndOfSession, editing};
 
 use crate::commands::drive::drive_ended;
 use crate::ending::Ending;
@@ -53,7 +53,7 @@ pub fn run_session<'a, D: Desk, K: Sink>(
     desk: &mut D,
     out: &mut K,
 ) -> Ending<'a>
-    ensures ends { Ends (Session slots.count (sizes_of sizes) files.entry.first.now files.entry.second.now)
+    ensures ends { Ends (editing slots.count (sizes_of sizes) files.entry.first.now files.entry.second.now)
         (seen D.remaining D.faults K.written K.faults desk.old out.old)
         (seen D.remaining D.faults K.written K.faults desk.new out.new)
         result }

@@ -1,7 +1,7 @@
 //! `shorten`: a short table of a list, by a search.
 ghost use Rattle.std.specs.Prelude.{◌≡◌, ◌≤◌, ℕ, List, IfOk, MatchResult, option_map};
-ghost use Rattle.command_words.specs.Command.{Shorten};
-ghost use Rattle.command_words.specs.Views.{wanted_seen};
+ghost use Rattle.command_words.specs.Commands.{Shorten};
+ghost use Rattle.command_words.specs.Settings.{wanted_seen};
 ghost use Rattle.filter_reader.specs.Lists.{filter_list};
 ghost use Rattle.razor_base.specs.declared.limits.TheConstants.{MOST_ENTRIES};
 ghost use Rattle.rule_shortening.specs.Shortened.{IsLesser, IsShortTableIn};

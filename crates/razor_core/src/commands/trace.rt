@@ -1,10 +1,9 @@
 //! `trace`: what a table answers to the headers of a trace.
 ghost use Rattle.std.specs.Prelude.{◌≢◌, ℕ, List};
 ghost use Rattle.std.specs.Io.KnownBytes.{Keeps};
-ghost use Rattle.command_words.specs.Command.{Trace};
 ghost use Rattle.razor_core.specs.Outside.{seen};
 ghost use Rattle.razor_core.specs.Ending.{Ends};
-ghost use Rattle.razor_core.specs.Trace.{IsEndOfRun};
+ghost use Rattle.razor_core.specs.Trace.{IsEndOfRun, tracing};
 
 use crate::ending::{Ending, Summary};
 use crate::line_reason::LineReason;
@@ -46,7 +45,7 @@ pub fn answer_trace<'a, D: Desk, K: Sink>(
     desk: &mut D,
     out: &mut K,
 ) -> Ending<'a>
-    ensures ends { Ends (Trace files.entry.first.now files.entry.second.now)
+    ensures ends { Ends (tracing files.entry.first.now files.entry.second.now)
         (seen D.remaining D.faults K.written K.faults desk.old out.old)
         (seen D.remaining D.faults K.written K.faults desk.new out.new)
         result }

@@ -1,12 +1,11 @@
 //! `trim`: a table without its redundant entries.
 ghost use Rattle.std.specs.Prelude.{◌≡◌, ◌≢◌, ℕ, List, IfOk};
 ghost use Rattle.std.specs.Io.KnownBytes.{Keeps};
-ghost use Rattle.command_words.specs.Command.{Trim};
 ghost use Rattle.partition_check.specs.PrefixWords.{ArePrefixes};
 ghost use Rattle.ternary_words.specs.Views.{table_of};
 ghost use Rattle.razor_core.specs.Ending.{Ends};
 ghost use Rattle.razor_core.specs.Outside.{seen};
-ghost use Rattle.razor_core.specs.Trim.{IsTrimmedTable};
+ghost use Rattle.razor_core.specs.Trim.{IsTrimmedTable, trimming};
 
 use crate::ending::{Ending, Summary};
 use crate::line_reason::LineReason;
@@ -26,7 +25,7 @@ pub fn trim_table<'a, D: Desk, K: Sink>(
     desk: &mut D,
     out: &mut K,
 ) -> Ending<'a>
-    ensures ends { Ends (Trim file.now)
+    ensures ends { Ends (trimming file.now)
         (seen D.remaining D.faults K.written K.faults desk.old out.old)
         (seen D.remaining D.faults K.written K.faults desk.new out.new)
         result }

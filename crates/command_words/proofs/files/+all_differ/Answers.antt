@@ -1,5 +1,5 @@
 use Rattle.std.proofs.Common.{◌∙◌, ap, map, sym, ◌&&◌, not}
-use Rattle.command_words.specs.Naming.{all_differ}
+use Rattle.command_words.specs.Files.{all_differ}
 use Rattle.command_words.proofs.Fitting.{first_differs}
 use Rattle.command_words.proofs.Taking.{behind}
 use Rattle.command_words.proofs.files.+all_differ.Goals as goal

@@ -1,6 +1,6 @@
 use Rattle.std.proofs.Common.{◌∙◌, None, ap, sym, string_bytes}
 use Rattle.command_words.specs.Spelling.{command_of}
-use Rattle.command_words.specs.Views.{form_seen}
+use Rattle.command_words.specs.Forms.{form_seen}
 use Rattle.command_words.proofs.Fitting.{by_form, by_parts, by_settings, no_words}
 use Rattle.command_words.proofs.Taking.{first_text, none_behind}
 use Rattle.command_words.proofs.spelling.spelled_command.Goals as goal
@@ -25,14 +25,8 @@ returns-in_err-settings c =
     (sym (by_settings _ _ _ (sym c.texts.ensures ∙ first_text string_bytes c.texts.result.now _ _ c.in-len1-up.len_at_least c.name-item.is c.as_str.ensures.value)
     (form_seen c.in_ok-form.form) c.in_ok-form.ensures _ None c.in_ok-parts.ensures c.in_err-settings.ensures))
 
-pub returns-in_err-command : goal.returns-in_err-command
-returns-in_err-command c =
-    let set = by_settings _ _ _ (sym c.texts.ensures ∙ first_text string_bytes c.texts.result.now _ _ c.in-len1-up.len_at_least c.name-item.is c.as_str.ensures.value)
-    (form_seen c.in_ok-form.form) c.in_ok-form.ensures _ _ c.in_ok-parts.ensures c.in_ok-settings.ensures in
-    rw c.from_residual-in_err-command.ensures (sym (set ∙ rw (← c.as_slice.ensures.words) (sym c.in_err-command.ensures.spelled)))
-
 pub returns : goal.returns
 returns c =
-    let set = by_settings _ _ _ (sym c.texts.ensures ∙ first_text string_bytes c.texts.result.now _ _ c.in-len1-up.len_at_least c.name-item.is c.as_str.ensures.value)
-    (form_seen c.in_ok-form.form) c.in_ok-form.ensures _ _ c.in_ok-parts.ensures c.in_ok-settings.ensures in
-    sym (set ∙ rw (← c.as_slice.ensures.words) (sym c.in_ok-command.ensures.spelled))
+    c.named.ensures
+    ∙ sym (by_settings _ _ _ (sym c.texts.ensures ∙ first_text string_bytes c.texts.result.now _ _ c.in-len1-up.len_at_least c.name-item.is c.as_str.ensures.value)
+    (form_seen c.in_ok-form.form) c.in_ok-form.ensures _ _ c.in_ok-parts.ensures c.in_ok-settings.ensures)

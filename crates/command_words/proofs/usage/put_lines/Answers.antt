@@ -1,14 +1,13 @@
 use Rattle.std.proofs.Common.{[], arith, refl}
 use Rattle.razor_base.proofs.Writing.{puts-is, puts-next, puts-next_cut, puts-each, texts_map}
 use Rattle.command_words.specs.declared.form.CommandForm.{CommandForm}
-use Rattle.command_words.specs.declared.form.CommandName.TheVariants.{Expand}
-use Rattle.command_words.specs.declared.form.Need.TheVariants.{Never}
+use Rattle.command_words.specs.declared.commands.CommandName.TheVariants.{Expand}
+use Rattle.command_words.specs.Forms.{form_seen}
 use Rattle.command_words.specs.Usage.{usage_line}
-use Rattle.command_words.specs.Views.{form_seen}
 use Rattle.command_words.proofs.usage.put_lines.Goals as goal
 
 abbrev no_form : CommandForm
-no_form = record { command = Expand; name = record { ref_ptr = (0, 0); now = [] }; limit = Never; slot = Never; slots = Never; order = Never; label = record { ref_ptr = (0, 0); now = [] } }
+no_form = record { command = Expand; name = record { ref_ptr = (0, 0); now = [] }; options = record { ref_ptr = (0, 0); now = [] }; label = record { ref_ptr = (0, 0); now = [] } }
 
 pub returns-in_err-put_line : goal.returns-in_err-put_line
 returns-in_err-put_line g c =

@@ -1,7 +1,7 @@
 use Rattle.std.proofs.Common.{take, flat_map}
 use Rattle.razor_base.proofs.Writing.{HasPut}
 use Rattle.command_words.specs.Usage.{usage_line}
-use Rattle.command_words.specs.Views.{form_seen}
+use Rattle.command_words.specs.Forms.{form_seen}
 use Rattle.command_words.proofs.usage.put_lines.Given as goal
 
 abbrev pub invariant-loop-form : goal.invariant-loop-form

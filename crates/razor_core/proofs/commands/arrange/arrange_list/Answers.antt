@@ -1,6 +1,6 @@
 use Rattle.std.proofs.Common.{ℕ, List, subst, sym}
-use Rattle.command_words.specs.Command.{Arrange}
-use Rattle.command_words.specs.Views.{wanted_seen}
+use Rattle.command_words.specs.Commands.{Arrange}
+use Rattle.command_words.specs.Settings.{wanted_seen}
 use Rattle.filter_reader.specs.Lists.{filter_list}
 use Rattle.razor_core.specs.Make.{IsOrderOf}
 use Rattle.razor_core.proofs.FieldOrders.{room_in}

@@ -1,5 +1,4 @@
 use Rattle.std.proofs.Common.{[], ◌∷◌, inl, refl, sym}
-use Rattle.command_words.specs.Command.{Cert}
 use Rattle.razor_core.specs.Inputs.{list_input, table_input}
 use Rattle.razor_core.specs.Outside.{seen}
 use Rattle.razor_core.specs.Taking.{table_value_of, value_of}
@@ -7,6 +6,7 @@ use Rattle.razor_core.proofs.CertEnding.{BothRead, cert_ends}
 use Rattle.razor_core.proofs.Ended.{ends_later, turn_ends}
 use Rattle.razor_core.proofs.Turns.{kept, passed_taken, taken_before, taken_later}
 use Rattle.razor_core.proofs.commands.cert.certify.Goals as goal
+use Rattle.razor_core.specs.Cert.{certifying}
 
 pub returns-in-Err-clause-ends : goal.returns-in-Err-clause-ends
 returns-in-Err-clause-ends g c =
@@ -15,9 +15,9 @@ returns-in-Err-clause-ends g c =
     let before = seen g.D.Desk.remaining g.D.Desk.faults g.K.Sink.written g.K.Sink.faults c.args.desk.now c.args.out.now in
     let after = seen g.D.Desk.remaining g.D.Desk.faults g.K.Sink.written g.K.Sink.faults c.take.new.desk c.args.out.now in
     let still = kept (g.K.Sink.written c.args.out.now) in
-    turn_ends (Cert first second) before after [] [] (list_input first) (table_input second ∷ []) c.in-Err.ending
+    turn_ends (certifying first second) before after [] [] (list_input first) (table_input second ∷ []) c.in-Err.ending
     (record { inputs_are = refl; passed = tt; kept = (c.in-Err.ensures.others second (λ e. c.args.files.apart (sym e)), tt) })
-    (record { keeps = still; cut = λ file e. still; calm = refl; short = λ tells. inl still }) c.in-Err.ensures.turn
+    (record { keeps = still; calm = refl; unread = λ file e tells. tt; pace = λ tells. tt }) c.in-Err.ensures.turn
 
 pub returns-in-Err-take-clause-ends : goal.returns-in-Err-take-clause-ends
 returns-in-Err-take-clause-ends g c =
@@ -27,9 +27,9 @@ returns-in-Err-take-clause-ends g c =
     let after = seen g.D.Desk.remaining g.D.Desk.faults g.K.Sink.written g.K.Sink.faults c.take-2.new.desk c.args.out.now in
     let between = c.take.new.desk in
     let still = kept (g.K.Sink.written c.args.out.now) in
-    turn_ends (Cert first second) before after (list_input first ∷ []) (value_of c.in-Ok.list ∷ []) (table_input second) [] c.in-Err-take.ending
+    turn_ends (certifying first second) before after (list_input first ∷ []) (value_of c.in-Ok.list ∷ []) (table_input second) [] c.in-Err-take.ending
     (record { inputs_are = refl; passed = (passed_taken (list_input first) (before.remaining first) (g.D.Desk.remaining between first) (value_of c.in-Ok.list) c.in-Ok.ensures.turn, tt); kept = tt })
-    (record { keeps = still; cut = λ file e. still; calm = refl; short = λ tells. inl still })
+    (record { keeps = still; calm = refl; unread = λ file e tells. tt; pace = λ tells. tt })
     (ends_later (table_input second) (before.remaining second) (g.D.Desk.remaining between second) (after.remaining second) (before.read_faults second) (g.D.Desk.faults between second) (after.read_faults second) c.in-Err-take.ending
     (c.in-Ok.ensures.others second (λ e. c.args.files.apart (sym e))) (c.in-Ok.ensures.counts second) c.in-Err-take.ensures.turn)
 

@@ -1,5 +1,4 @@
 use Rattle.std.proofs.Common.{[], ◌∷◌, ◌∙◌, arith, refl, sym}
-use Rattle.command_words.specs.Command.{Check}
 use Rattle.razor_core.specs.Inputs.{certificate_input, list_input, table_input}
 use Rattle.razor_core.specs.Outside.{seen}
 use Rattle.razor_core.specs.Taking.{table_value_of, value_of}
@@ -8,6 +7,7 @@ use Rattle.razor_core.proofs.Ended.{ends_later, turn_ends}
 use Rattle.razor_core.proofs.Turns.{kept, passed_taken, taken_before, taken_later}
 use Rattle.std.proofs.KnownBytes.{Keeps-trans}
 use Rattle.razor_core.proofs.commands.check.check_certificate.Goals as goal
+use Rattle.razor_core.specs.Check.{checking}
 
 pub returns-in-Err-clause-ends : goal.returns-in-Err-clause-ends
 returns-in-Err-clause-ends g c =
@@ -17,13 +17,13 @@ returns-in-Err-clause-ends g c =
     let before = seen g.D.Desk.remaining g.D.Desk.faults g.K.Sink.written g.K.Sink.faults c.args.desk.now c.args.out.now in
     let after = seen g.D.Desk.remaining g.D.Desk.faults g.K.Sink.written g.K.Sink.faults c.take.new.desk c.args.out.now in
     let still = kept (g.K.Sink.written c.args.out.now) in
-    turn_ends (Check first second third) before after [] [] (list_input first) (table_input second ∷ certificate_input third ∷ []) c.in-Err.ending
+    turn_ends (checking first second third) before after [] [] (list_input first) (table_input second ∷ certificate_input third ∷ []) c.in-Err.ending
     (record {
       inputs_are = refl;
       passed = tt;
       kept = (c.in-Err.ensures.others second (λ e. c.args.files.front (sym e)), (c.in-Err.ensures.others third (λ e. c.args.files.ends (sym e)), tt));
     })
-    (record { keeps = still; cut = λ file e. (still, λ tells same. absurd (c.args.files.ends (sym e ∙ same))); calm = refl; short = still }) c.in-Err.ensures.turn
+    (record { keeps = still; calm = refl; unread = λ file e tells same. absurd (c.args.files.ends (sym e ∙ same)); pace = λ tells. tt }) c.in-Err.ensures.turn
 
 pub returns-in-Err-take-clause-ends : goal.returns-in-Err-take-clause-ends
 returns-in-Err-take-clause-ends g c =
@@ -35,13 +35,13 @@ returns-in-Err-take-clause-ends g c =
     let between = c.take.new.desk in
     let list = c.in-Ok.list in
     let still = kept (g.K.Sink.written c.args.out.now) in
-    turn_ends (Check first second third) before after (list_input first ∷ []) (value_of list ∷ []) (table_input second) (certificate_input third ∷ []) c.in-Err-take.ending
+    turn_ends (checking first second third) before after (list_input first ∷ []) (value_of list ∷ []) (table_input second) (certificate_input third ∷ []) c.in-Err-take.ending
     (record {
       inputs_are = refl;
       passed = (passed_taken (list_input first) (before.remaining first) (g.D.Desk.remaining between first) (value_of list) c.in-Ok.ensures.turn, tt);
       kept = (Keeps-trans (before.remaining third) (g.D.Desk.remaining between third) (after.remaining third) (c.in-Ok.ensures.others third (λ e. c.args.files.ends (sym e))) (c.in-Err-take.ensures.others third (λ e. c.args.files.back (sym e))), tt);
     })
-    (record { keeps = still; cut = λ file e. (still, λ tells same. absurd (c.args.files.back (sym e ∙ same))); calm = refl; short = still })
+    (record { keeps = still; calm = refl; unread = λ file e tells same. absurd (c.args.files.back (sym e ∙ same)); pace = λ tells. tt })
     (ends_later (table_input second) (before.remaining second) (g.D.Desk.remaining between second) (after.remaining second) (before.read_faults second) (g.D.Desk.faults between second) (after.read_faults second) c.in-Err-take.ending
     (c.in-Ok.ensures.others second (λ e. c.args.files.front (sym e))) (c.in-Ok.ensures.counts second) c.in-Err-take.ensures.turn)
 

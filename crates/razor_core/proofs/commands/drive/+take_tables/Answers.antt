@@ -1,6 +1,6 @@
 use Rattle.std.proofs.Common.{◌++◌, ◌∷◌, ◌∙◌, [], List, ℕ, ap, subst, sym}
 use Rattle.std.specs.Prelude.{Bool, IsTrue, if◌then◌else◌, not}
-use Rattle.command_words.specs.Naming.{all_differ}
+use Rattle.command_words.specs.Files.{all_differ}
 use Rattle.razor_core.specs.declared.ending.Ending.TheVariants.{Memory}
 use Rattle.razor_core.specs.Tables.{AreAdded, FailsAmong, IsNone}
 use Rattle.razor_core.proofs.Tables.{first_fails, first_text, if_err_then, later_fails, later_words, on_ok_then, one_more, others_keep, texts, words_parted}

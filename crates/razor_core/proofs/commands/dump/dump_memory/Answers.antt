@@ -3,7 +3,6 @@ use Rattle.ternary_words.specs.Headline.Table.{Table}
 use Rattle.ternary_words.specs.Headline.TableText.{table_text}
 use Rattle.ternary_words.specs.Views.{table_of}
 use Rattle.table_text.proofs.TableTexts.{table-read}
-use Rattle.command_words.specs.Command.{Dump}
 use Rattle.razor_core.specs.Inputs.{memory_input}
 use Rattle.razor_core.specs.Outcome.{IsTextOf, Outcome}
 use Rattle.razor_core.specs.Outside.{seen}
@@ -11,6 +10,7 @@ use Rattle.razor_core.specs.Taking.{memory_value_of}
 use Rattle.razor_core.proofs.Ended.{cut_off_ends, done_ends, turn_ends}
 use Rattle.razor_core.proofs.Turns.{kept, passed_taken, read_taken}
 use Rattle.razor_core.proofs.commands.dump.dump_memory.Goals as goal
+use Rattle.razor_core.specs.Dump.{dumping}
 
 pub returns-in-Err-clause-ends : goal.returns-in-Err-clause-ends
 returns-in-Err-clause-ends g c =
@@ -18,8 +18,8 @@ returns-in-Err-clause-ends g c =
     let before = seen g.D.Desk.remaining g.D.Desk.faults g.K.Sink.written g.K.Sink.faults c.args.desk.now c.args.out.now in
     let after = seen g.D.Desk.remaining g.D.Desk.faults g.K.Sink.written g.K.Sink.faults c.take.new.desk c.args.out.now in
     let still = kept (g.K.Sink.written c.args.out.now) in
-    turn_ends (Dump file) before after [] [] (memory_input file) [] c.in-Err.ending (record { inputs_are = refl; passed = tt; kept = tt })
-    (record { keeps = still; cut = λ file e. still; calm = refl; short = still }) c.in-Err.ensures.turn
+    turn_ends (dumping file) before after [] [] (memory_input file) [] c.in-Err.ending (record { inputs_are = refl; passed = tt; kept = tt })
+    (record { keeps = still; calm = refl; unread = λ file e tells. tt; pace = λ tells. tt }) c.in-Err.ensures.turn
 
 pub returns-in-Ok-write_table-clause-ends : goal.returns-in-Ok-write_table-clause-ends
 returns-in-Ok-write_table-clause-ends g c =
@@ -33,7 +33,7 @@ returns-in-Ok-write_table-clause-ends g c =
     let text = subst (λ (t : Table). IsTextOf t (table_text made)) c.in-Ok-table_in.ensures.table read in
     let outcome : Outcome = record { yes = true; text = table_text made; line = [] } in (
       refl,
-      λ tells. done_ends (Dump file) before after (value ∷ []) outcome true (passed_taken (memory_input file) (before.remaining file) (after.remaining file) value taken, tt) (λ stop later. later) (text, refl, refl) refl
+      λ tells. done_ends (dumping file) before after (value ∷ []) outcome true (passed_taken (memory_input file) (before.remaining file) (after.remaining file) value taken, tt) (λ stop later. later) (text, refl, refl) refl
           c.in-Ok-write_table.ensures.ok (read_taken (memory_input file) (before.remaining file) (after.remaining file) value taken tells.0, tt) tells,
     )
 
@@ -47,5 +47,5 @@ returns-clause-ends g c =
     let read : IsTextOf made (table_text made) = record { written = refl; spells = table-read c.in-Ok-table_in.table c.in-Ok-table_in.ensures.spelled } in
     let text = subst (λ (t : Table). IsTextOf t (table_text made)) c.in-Ok-table_in.ensures.table read in
     let outcome : Outcome = record { yes = true; text = table_text made; line = [] } in
-    cut_off_ends (Dump file) before after (λ cut. cut) (value ∷ []) outcome (passed_taken (memory_input file) (before.remaining file) (after.remaining file) value c.in-Ok.ensures.turn, tt) (inl (λ stop later. later)) (text, refl, refl)
+    cut_off_ends (dumping file) before after (λ tells. tt) (value ∷ []) outcome (passed_taken (memory_input file) (before.remaining file) (after.remaining file) value c.in-Ok.ensures.turn, tt) (inl (λ stop later. later)) (text, refl, refl)
     c.in-Err-write_table.ensures.failed c.in-Err-write_table.ensures.err

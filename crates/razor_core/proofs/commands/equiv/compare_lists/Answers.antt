@@ -1,12 +1,12 @@
 use Rattle.std.proofs.Common.{[], ◌∷◌, refl, sym}
-use Rattle.command_words.specs.Command.{Equiv}
-use Rattle.razor_core.specs.Inputs.{inputs, list_input}
+use Rattle.razor_core.specs.Inputs.{list_input}
 use Rattle.razor_core.specs.Outside.{seen}
 use Rattle.razor_core.specs.Taking.{value_of}
 use Rattle.razor_core.proofs.EquivEnding.{ReadBoth, answered_ends, cut_verdict_ends}
 use Rattle.razor_core.proofs.Ended.{ends_later, turn_ends}
 use Rattle.razor_core.proofs.Turns.{kept, pass_behind, passed_taken, taken_before, taken_later}
 use Rattle.razor_core.proofs.commands.equiv.compare_lists.Goals as goal
+use Rattle.razor_core.specs.Equiv.{comparing}
 
 pub returns-in-Err-clause-ends : goal.returns-in-Err-clause-ends
 returns-in-Err-clause-ends g c =
@@ -15,9 +15,9 @@ returns-in-Err-clause-ends g c =
     let before = seen g.D.Desk.remaining g.D.Desk.faults g.K.Sink.written g.K.Sink.faults c.args.desk.now c.args.out.now in
     let after = seen g.D.Desk.remaining g.D.Desk.faults g.K.Sink.written g.K.Sink.faults c.take.new.desk c.args.out.now in
     let still = kept (g.K.Sink.written c.args.out.now) in
-    turn_ends (Equiv left right) before after [] [] (list_input left) (list_input right ∷ []) c.in-Err.ending
+    turn_ends (comparing left right) before after [] [] (list_input left) (list_input right ∷ []) c.in-Err.ending
     (record { inputs_are = refl; passed = tt; kept = (c.in-Err.ensures.others right (λ e. c.args.files.apart (sym e)), tt) })
-    (record { keeps = still; cut = λ file e. still; calm = refl; short = still }) c.in-Err.ensures.turn
+    (record { keeps = still; calm = refl; unread = λ file e tells. tt; pace = λ tells. tt }) c.in-Err.ensures.turn
 
 pub returns-in-Err-take-clause-ends : goal.returns-in-Err-take-clause-ends
 returns-in-Err-take-clause-ends g c =
@@ -27,9 +27,9 @@ returns-in-Err-take-clause-ends g c =
     let after = seen g.D.Desk.remaining g.D.Desk.faults g.K.Sink.written g.K.Sink.faults c.take-2.new.desk c.args.out.now in
     let between = c.take.new.desk in
     let still = kept (g.K.Sink.written c.args.out.now) in
-    turn_ends (Equiv left right) before after (list_input left ∷ []) (value_of c.in-Ok.list ∷ []) (list_input right) [] c.in-Err-take.ending
+    turn_ends (comparing left right) before after (list_input left ∷ []) (value_of c.in-Ok.list ∷ []) (list_input right) [] c.in-Err-take.ending
     (record { inputs_are = refl; passed = (passed_taken (list_input left) (before.remaining left) (g.D.Desk.remaining between left) (value_of c.in-Ok.list) c.in-Ok.ensures.turn, tt); kept = tt })
-    (record { keeps = still; cut = λ file e. still; calm = refl; short = still })
+    (record { keeps = still; calm = refl; unread = λ file e tells. tt; pace = λ tells. tt })
     (ends_later (list_input right) (before.remaining right) (g.D.Desk.remaining between right) (after.remaining right) (before.read_faults right) (g.D.Desk.faults between right) (after.read_faults right) c.in-Err-take.ending
     (c.in-Ok.ensures.others right (λ e. c.args.files.apart (sym e))) (c.in-Ok.ensures.counts right) c.in-Err-take.ensures.turn)
 
@@ -79,7 +79,7 @@ returns-in-Err-equal-clause-ends g c =
     let second = taken_later (list_input right) (start right) (between right) (end right) (value_of c.in-Ok-take.list) (c.in-Ok.ensures.others right (λ e. c.args.files.apart (sym e))) c.in-Ok-take.ensures.turn in (
       refl,
       kept (g.K.Sink.written c.args.out.now),
-      pass_behind before after (inputs (Equiv left right)) (value_of c.in-Ok.list ∷ value_of c.in-Ok-take.list ∷ []) (
+      pass_behind before after (comparing left right).inputs (value_of c.in-Ok.list ∷ value_of c.in-Ok-take.list ∷ []) (
         passed_taken (list_input left) (start left) (between left) (value_of c.in-Ok.list) c.in-Ok.ensures.turn,
         (passed_taken (list_input right) (start right) (end right) (value_of c.in-Ok-take.list) second, tt),
       ),

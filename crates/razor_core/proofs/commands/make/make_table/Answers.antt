@@ -3,11 +3,12 @@ use Rattle.filter_reader.specs.Lists.{filter_list}
 use Rattle.ternary_words.specs.Headline.TableText.{table_text}
 use Rattle.ternary_words.specs.Views.{table_of}
 use Rattle.table_text.proofs.TableTexts.{table-read}
-use Rattle.command_words.specs.Command.{Make}
-use Rattle.command_words.specs.Views.{method_seen, sizes_of}
+use Rattle.command_words.specs.Commands.{Make}
+use Rattle.command_words.specs.Commands.{method_seen}
+use Rattle.command_words.specs.Settings.{sizes_of}
 use Rattle.razor_core.specs.Ending.{IsDone}
 use Rattle.razor_core.specs.Inputs.{list_input}
-use Rattle.razor_core.specs.Make.{made_line}
+use Rattle.razor_core.specs.Make.{made_line, making}
 use Rattle.razor_core.specs.Outcome.{IsTextOf, Outcome}
 use Rattle.razor_core.specs.Outside.{seen}
 use Rattle.razor_core.specs.Taking.{value_of}
@@ -22,8 +23,8 @@ returns-in-Err-clause-ends g c =
     let before = seen g.D.Desk.remaining g.D.Desk.faults g.K.Sink.written g.K.Sink.faults c.args.desk.now c.args.out.now in
     let after = seen g.D.Desk.remaining g.D.Desk.faults g.K.Sink.written g.K.Sink.faults c.take.new.desk c.args.out.now in
     let still = kept (g.K.Sink.written c.args.out.now) in
-    turn_ends (Make (method_seen c.args.method) (sizes_of c.args.sizes) file) before after [] [] (list_input file) [] c.in-Err.ending (record { inputs_are = refl; passed = tt; kept = tt })
-    (record { keeps = still; cut = λ file e. still; calm = refl; short = still }) c.in-Err.ensures.turn
+    turn_ends (making (method_seen c.args.method) (sizes_of c.args.sizes) file) before after [] [] (list_input file) [] c.in-Err.ending (record { inputs_are = refl; passed = tt; kept = tt })
+    (record { keeps = still; calm = refl; unread = λ file e tells. tt; pace = λ tells. tt }) c.in-Err.ensures.turn
 
 pub returns-in-Err-make_by-clause-ends : goal.returns-in-Err-make_by-clause-ends
 returns-in-Err-make_by-clause-ends g c =
@@ -37,7 +38,7 @@ returns-in-Err-make_by-clause-ends g c =
 pub returns-in-Ok-write_table-clause-ends : goal.returns-in-Ok-write_table-clause-ends
 returns-in-Ok-write_table-clause-ends g c =
     let file = c.args.file.now in
-    let command = Make (method_seen c.args.method) (sizes_of c.args.sizes) file in
+    let command = making (method_seen c.args.method) (sizes_of c.args.sizes) file in
     let before = seen g.D.Desk.remaining g.D.Desk.faults g.K.Sink.written g.K.Sink.faults c.args.desk.now c.args.out.now in
     let after = seen g.D.Desk.remaining g.D.Desk.faults g.K.Sink.written g.K.Sink.faults c.take.new.desk c.write_table.new.out in
     let taken = c.in-Ok.ensures.turn in
@@ -60,7 +61,7 @@ returns-in-Ok-write_table-clause-ends g c =
 pub returns-clause-ends : goal.returns-clause-ends
 returns-clause-ends g c =
     let file = c.args.file.now in
-    let command = Make (method_seen c.args.method) (sizes_of c.args.sizes) file in
+    let command = making (method_seen c.args.method) (sizes_of c.args.sizes) file in
     let before = seen g.D.Desk.remaining g.D.Desk.faults g.K.Sink.written g.K.Sink.faults c.args.desk.now c.args.out.now in
     let after = seen g.D.Desk.remaining g.D.Desk.faults g.K.Sink.written g.K.Sink.faults c.take.new.desk c.write_table.new.out in
     let value = value_of c.in-Ok.list in
@@ -68,6 +69,6 @@ returns-clause-ends g c =
     let table = table_of c.in-Ok-make_by.made.table in
     let text : IsTextOf table (table_text table) = record { written = refl; spells = table-read c.in-Ok-make_by.made.table (subst AreSpelled (sym c.in-Ok-make_by.ensures.names) c.in-Ok.ensures.holds.spelled) } in
     let made : Outcome = record { yes = true; text = table_text table; line = made_line (method_seen c.args.method) order (length (filter_list c.in-Ok.list).rules) c.in-Ok.list.flagged } in
-    cut_off_ends command before after (λ cut. cut) (value ∷ []) made (passed_taken (list_input file) (before.remaining file) (after.remaining file) value c.in-Ok.ensures.turn, tt)
+    cut_off_ends command before after (λ tells. tt) (value ∷ []) made (passed_taken (list_input file) (before.remaining file) (after.remaining file) value c.in-Ok.ensures.turn, tt)
     (or_in_turn (make_free (method_seen c.args.method) (sizes_of c.args.sizes) file (filter_list c.in-Ok.list) c.in-Ok-make_by.ensures.room))
     (record { order = order; is_order = c.in-Ok-make_by.ensures.made.0; table = table; meets = c.in-Ok-make_by.ensures.made.1; yes = refl; text = text; line = refl }) c.in-Err-write_table.ensures.failed c.in-Err-write_table.ensures.err

@@ -2,8 +2,7 @@ use Rattle.std.proofs.Common.{[], ◌∷◌, inl, refl, subst, sym, true}
 use Rattle.ternary_words.specs.Headline.TableText.{table_text}
 use Rattle.ternary_words.specs.Views.{table_of}
 use Rattle.table_text.proofs.TableTexts.{table-read}
-use Rattle.command_words.specs.Command.{Merge}
-use Rattle.razor_core.specs.Inputs.{inputs, table_input}
+use Rattle.razor_core.specs.Inputs.{table_input}
 use Rattle.razor_core.specs.Outcome.{IsTextOf, Outcome}
 use Rattle.razor_core.specs.Outside.{seen}
 use Rattle.razor_core.specs.Taking.{table_value_of}
@@ -11,6 +10,7 @@ use Rattle.razor_core.proofs.Ended.{cut_off_ends, done_ends, turn_ends}
 use Rattle.razor_core.proofs.SpelledNames.{AreSpelled}
 use Rattle.razor_core.proofs.Turns.{kept, pass_behind, passed_taken, read_taken}
 use Rattle.razor_core.proofs.commands.merge.merge_table.Goals as goal
+use Rattle.razor_core.specs.Merge.{merging}
 
 pub returns-in-Err-clause-ends : goal.returns-in-Err-clause-ends
 returns-in-Err-clause-ends g c =
@@ -18,8 +18,8 @@ returns-in-Err-clause-ends g c =
     let before = seen g.D.Desk.remaining g.D.Desk.faults g.K.Sink.written g.K.Sink.faults c.args.desk.now c.args.out.now in
     let after = seen g.D.Desk.remaining g.D.Desk.faults g.K.Sink.written g.K.Sink.faults c.take.new.desk c.args.out.now in
     let still = kept (g.K.Sink.written c.args.out.now) in
-    turn_ends (Merge file) before after [] [] (table_input file) [] c.in-Err.ending (record { inputs_are = refl; passed = tt; kept = tt })
-    (record { keeps = still; cut = λ file e. still; calm = refl; short = still }) c.in-Err.ensures.turn
+    turn_ends (merging file) before after [] [] (table_input file) [] c.in-Err.ending (record { inputs_are = refl; passed = tt; kept = tt })
+    (record { keeps = still; calm = refl; unread = λ file e tells. tt; pace = λ tells. tt }) c.in-Err.ensures.turn
 
 pub returns-in-Ok-write_table-clause-ends : goal.returns-in-Ok-write_table-clause-ends
 returns-in-Ok-write_table-clause-ends g c =
@@ -32,7 +32,7 @@ returns-in-Ok-write_table-clause-ends g c =
     let text : IsTextOf table (table_text table) = record { written = refl; spells = table-read c.in-Ok-merged.table (subst AreSpelled (sym c.in-Ok-merged.ensures.names) c.in-Ok.ensures.holds) } in
     let outcome : Outcome = record { yes = true; text = table_text table; line = [] } in (
       refl,
-      λ tells. done_ends (Merge file) before after (value ∷ []) outcome true (passed_taken (table_input file) (before.remaining file) (after.remaining file) value taken, tt) (λ stop later. later) (table, c.in-Ok-merged.ensures.merged, text, refl, refl) refl
+      λ tells. done_ends (merging file) before after (value ∷ []) outcome true (passed_taken (table_input file) (before.remaining file) (after.remaining file) value taken, tt) (λ stop later. later) (table, c.in-Ok-merged.ensures.merged, text, refl, refl) refl
           c.in-Ok-write_table.ensures.ok (read_taken (table_input file) (before.remaining file) (after.remaining file) value taken tells.0, tt) tells,
     )
 
@@ -45,7 +45,7 @@ returns-clause-ends g c =
     let table = table_of c.in-Ok-merged.table in
     let text : IsTextOf table (table_text table) = record { written = refl; spells = table-read c.in-Ok-merged.table (subst AreSpelled (sym c.in-Ok-merged.ensures.names) c.in-Ok.ensures.holds) } in
     let outcome : Outcome = record { yes = true; text = table_text table; line = [] } in
-    cut_off_ends (Merge file) before after (λ cut. cut) (value ∷ []) outcome (passed_taken (table_input file) (before.remaining file) (after.remaining file) value c.in-Ok.ensures.turn, tt) (inl (λ stop later. later)) (table, c.in-Ok-merged.ensures.merged, text, refl, refl)
+    cut_off_ends (merging file) before after (λ tells. tt) (value ∷ []) outcome (passed_taken (table_input file) (before.remaining file) (after.remaining file) value c.in-Ok.ensures.turn, tt) (inl (λ stop later. later)) (table, c.in-Ok-merged.ensures.merged, text, refl, refl)
     c.in-Err-write_table.ensures.failed c.in-Err-write_table.ensures.err
 
 pub returns-in-Err-merged-clause-ends : goal.returns-in-Err-merged-clause-ends
@@ -54,4 +54,4 @@ returns-in-Err-merged-clause-ends g c =
     let before = seen g.D.Desk.remaining g.D.Desk.faults g.K.Sink.written g.K.Sink.faults c.args.desk.now c.args.out.now in
     let after = seen g.D.Desk.remaining g.D.Desk.faults g.K.Sink.written g.K.Sink.faults c.take.new.desk c.args.out.now in
     let passed = passed_taken (table_input file) (before.remaining file) (after.remaining file) (table_value_of c.in-Ok.table) c.in-Ok.ensures.turn in
-    (refl, kept (g.K.Sink.written c.args.out.now), pass_behind before after (inputs (Merge file)) (table_value_of c.in-Ok.table ∷ []) (passed, tt))
+    (refl, kept (g.K.Sink.written c.args.out.now), pass_behind before after (merging file).inputs (table_value_of c.in-Ok.table ∷ []) (passed, tt))

@@ -4,7 +4,6 @@ use Rattle.ternary_words.specs.Views.{table_of}
 use Rattle.memory_text.specs.Patched.{IsPatched}
 use Rattle.memory_text.specs.Views.{memory_of}
 use Rattle.memory_text.specs.declared.patching.Patched.TheVariants.{NoRoom, Ready}
-use Rattle.command_words.specs.Command.{Patch}
 use Rattle.razor_core.specs.Inputs.{memory_input, table_input}
 use Rattle.razor_core.specs.Outside.{seen}
 use Rattle.razor_core.specs.Taking.{memory_value_of, table_value_of}
@@ -12,6 +11,7 @@ use Rattle.razor_core.proofs.Ended.{ends_later, turn_ends}
 use Rattle.razor_core.proofs.SlotEnding.{BothTaken, patched_cut, patched_done, room_stops, width_stops}
 use Rattle.razor_core.proofs.Turns.{kept, passed_taken, taken_before, taken_later}
 use Rattle.razor_core.proofs.commands.patch.plan_patch.Goals as goal
+use Rattle.razor_core.specs.Patch.{patching}
 
 pub returns-in-Err-clause-ends : goal.returns-in-Err-clause-ends
 returns-in-Err-clause-ends g c =
@@ -20,9 +20,9 @@ returns-in-Err-clause-ends g c =
     let before = seen g.D.Desk.remaining g.D.Desk.faults g.K.Sink.written g.K.Sink.faults c.args.desk.now c.args.out.now in
     let after = seen g.D.Desk.remaining g.D.Desk.faults g.K.Sink.written g.K.Sink.faults c.take.new.desk c.args.out.now in
     let still = kept (g.K.Sink.written c.args.out.now) in
-    turn_ends (Patch first second) before after [] [] (memory_input first) (table_input second ∷ []) c.in-Err.ending
+    turn_ends (patching first second) before after [] [] (memory_input first) (table_input second ∷ []) c.in-Err.ending
     (record { inputs_are = refl; passed = tt; kept = (c.in-Err.ensures.others second (λ e. c.args.files.apart (sym e)), tt) })
-    (record { keeps = still; cut = λ file e. still; calm = refl; short = still }) c.in-Err.ensures.turn
+    (record { keeps = still; calm = refl; unread = λ file e tells. tt; pace = λ tells. tt }) c.in-Err.ensures.turn
 
 pub returns-in-Err-take-clause-ends : goal.returns-in-Err-take-clause-ends
 returns-in-Err-take-clause-ends g c =
@@ -32,9 +32,9 @@ returns-in-Err-take-clause-ends g c =
     let after = seen g.D.Desk.remaining g.D.Desk.faults g.K.Sink.written g.K.Sink.faults c.take-2.new.desk c.args.out.now in
     let between = c.take.new.desk in
     let still = kept (g.K.Sink.written c.args.out.now) in
-    turn_ends (Patch first second) before after (memory_input first ∷ []) (memory_value_of c.in-Ok.memory ∷ []) (table_input second) [] c.in-Err-take.ending
+    turn_ends (patching first second) before after (memory_input first ∷ []) (memory_value_of c.in-Ok.memory ∷ []) (table_input second) [] c.in-Err-take.ending
     (record { inputs_are = refl; passed = (passed_taken (memory_input first) (before.remaining first) (g.D.Desk.remaining between first) (memory_value_of c.in-Ok.memory) c.in-Ok.ensures.turn, tt); kept = tt })
-    (record { keeps = still; cut = λ file e. still; calm = refl; short = still })
+    (record { keeps = still; calm = refl; unread = λ file e tells. tt; pace = λ tells. tt })
     (ends_later (table_input second) (before.remaining second) (g.D.Desk.remaining between second) (after.remaining second) (before.read_faults second) (g.D.Desk.faults between second) (after.read_faults second) c.in-Err-take.ending
     (c.in-Ok.ensures.others second (λ e. c.args.files.apart (sym e))) (c.in-Ok.ensures.counts second) c.in-Err-take.ensures.turn)
 

@@ -4,11 +4,10 @@ use Rattle.memory_text.specs.Memory.{Memory}
 use Rattle.memory_text.specs.MemoryText.{memory_text}
 use Rattle.memory_text.specs.Views.{memory_of}
 use Rattle.memory_text.proofs.Texts.{memory-read}
-use Rattle.command_words.specs.Command.{Place}
 use Rattle.razor_core.specs.Inputs.{table_input}
 use Rattle.razor_core.specs.Outcome.{Outcome}
 use Rattle.razor_core.specs.Outside.{seen}
-use Rattle.razor_core.specs.Slots.{IsTextOfMemory}
+use Rattle.razor_core.specs.Place.{IsTextOfMemory, placing}
 use Rattle.razor_core.specs.Taking.{table_value_of}
 use Rattle.razor_core.proofs.Ended.{cut_off_ends, done_ends}
 use Rattle.razor_core.proofs.SlotEnding.{lacks_stops, room_free}
@@ -39,7 +38,7 @@ returns-in-Ok-write_memory-clause-ends g c =
     let outcome : Outcome = record { yes = true; text = memory_text made; line = [] } in
     let free = room_free slots file before after c.in-Ok.table taken (subst (λ n. n ≤ slots) (sym (length-map entries _)) (search rules)) in (
       refl,
-      λ tells. done_ends (Place slots file) before after (value ∷ []) outcome true (passed_taken (table_input file) (before.remaining file) (after.remaining file) value taken, tt) free (text, refl, refl) refl
+      λ tells. done_ends (placing slots file) before after (value ∷ []) outcome true (passed_taken (table_input file) (before.remaining file) (after.remaining file) value taken, tt) free (text, refl, refl) refl
           c.in-Ok-write_memory.ensures.ok (read_taken (table_input file) (before.remaining file) (after.remaining file) value taken tells.0, tt) tells,
     )
 
@@ -57,5 +56,5 @@ returns-clause-ends g c =
     let text = subst (λ (m : Memory). IsTextOfMemory m (memory_text made)) c.in-Ok-spread.ensures read in
     let outcome : Outcome = record { yes = true; text = memory_text made; line = [] } in
     let free = room_free slots file before after c.in-Ok.table taken (subst (λ n. n ≤ slots) (sym (length-map entries _)) (search rules)) in
-    cut_off_ends (Place slots file) before after (λ cut. cut) (value ∷ []) outcome (passed_taken (table_input file) (before.remaining file) (after.remaining file) value taken, tt) (inl free) (text, refl, refl)
+    cut_off_ends (placing slots file) before after (λ tells. tt) (value ∷ []) outcome (passed_taken (table_input file) (before.remaining file) (after.remaining file) value taken, tt) (inl free) (text, refl, refl)
     c.in-Err-write_memory.ensures.failed c.in-Err-write_memory.ensures.err

@@ -1,9 +1,8 @@
 use Rattle.std.proofs.Common.{[], ◌∷◌, refl}
-use Rattle.command_words.specs.Command.{Query}
 use Rattle.filter_reader.specs.Lists.{filter_list}
 use Rattle.command_words.specs.Questions.{name_in}
 use Rattle.field_boxes.specs.Spans.{intervals_of}
-use Rattle.razor_core.specs.Query.{AreAnswered}
+use Rattle.razor_core.specs.Query.{AreAnswered, querying}
 use Rattle.razor_core.specs.Inputs.{list_input}
 use Rattle.razor_core.specs.Outside.{seen}
 use Rattle.razor_core.specs.Taking.{value_of}
@@ -18,8 +17,8 @@ returns-in-Err-clause-ends g c =
     let before = seen g.D.Desk.remaining g.D.Desk.faults g.K.Sink.written g.K.Sink.faults c.args.desk.now c.args.out.now in
     let after = seen g.D.Desk.remaining g.D.Desk.faults g.K.Sink.written g.K.Sink.faults c.take.new.desk c.args.out.now in
     let still = kept (g.K.Sink.written c.args.out.now) in
-    turn_ends (Query file (intervals_of c.args.question.spans) (name_in c.args.question.decision.now)) before after [] [] (list_input file) [] c.in-Err.ending (record { inputs_are = refl; passed = tt; kept = tt })
-    (record { keeps = still; cut = λ file e. still; calm = refl; short = still }) c.in-Err.ensures.turn
+    turn_ends (querying file (intervals_of c.args.question.spans) (name_in c.args.question.decision.now)) before after [] [] (list_input file) [] c.in-Err.ending (record { inputs_are = refl; passed = tt; kept = tt })
+    (record { keeps = still; calm = refl; unread = λ file e tells. tt; pace = λ tells. tt }) c.in-Err.ensures.turn
 
 pub returns-clause-ends : goal.returns-clause-ends
 returns-clause-ends g c =
@@ -28,13 +27,12 @@ returns-clause-ends g c =
     let after = seen g.D.Desk.remaining g.D.Desk.faults g.K.Sink.written g.K.Sink.faults c.take.new.desk c.answer_question.new.out in
     let taken = c.in-Ok.ensures.turn in
     let value = value_of c.in-Ok.list in
-    text_ends (Query file (intervals_of c.args.question.spans) (name_in c.args.question.decision.now)) before after (value ∷ []) (AreAnswered (intervals_of c.args.question.spans) (name_in c.args.question.decision.now) (filter_list c.in-Ok.list).rules)
+    text_ends (querying file (intervals_of c.args.question.spans) (name_in c.args.question.decision.now)) before after (value ∷ []) (AreAnswered (intervals_of c.args.question.spans) (name_in c.args.question.decision.now) (filter_list c.in-Ok.list).rules)
     (record {
       passed = (passed_taken (list_input file) (before.remaining file) (after.remaining file) value taken, tt);
       free = λ stop later. later;
       gives = λ text right. record { text = right; yes = refl; line = refl };
       read = λ tells. (read_taken (list_input file) (before.remaining file) (after.remaining file) value taken tells.0, tt);
       line = refl;
-      short = λ keeps. keeps;
-      broken = λ cut. cut;
+      pace = λ tells. tt;
     }) c.answer_question.result c.answer_question.ensures

@@ -1,6 +1,5 @@
 use Rattle.std.proofs.Common.{[], ◌∷◌, inl, refl, sym}
-use Rattle.command_words.specs.Command.{Session}
-use Rattle.command_words.specs.Views.{sizes_of}
+use Rattle.command_words.specs.Settings.{sizes_of}
 use Rattle.razor_core.specs.Inputs.{list_input, session_input, session_value}
 use Rattle.razor_core.specs.Outside.{seen}
 use Rattle.razor_core.specs.Taking.{value_of}
@@ -8,6 +7,7 @@ use Rattle.razor_core.proofs.Ended.{ends_later, turn_ends}
 use Rattle.razor_core.proofs.SessionEnding.{BothRead, session_ends}
 use Rattle.razor_core.proofs.Turns.{kept, passed_taken, taken_before, taken_later}
 use Rattle.razor_core.proofs.commands.session.run_session.Goals as goal
+use Rattle.razor_core.specs.Session.{editing}
 
 pub run_over-requires-clause-names : goal.run_over-requires-clause-names
 run_over-requires-clause-names g c = c.in-Ok-take.ensures.holds.numbers
@@ -19,9 +19,9 @@ returns-in-Err-clause-ends g c =
     let before = seen g.D.Desk.remaining g.D.Desk.faults g.K.Sink.written g.K.Sink.faults c.args.desk.now c.args.out.now in
     let after = seen g.D.Desk.remaining g.D.Desk.faults g.K.Sink.written g.K.Sink.faults c.take.new.desk c.args.out.now in
     let still = kept (g.K.Sink.written c.args.out.now) in
-    turn_ends (Session c.args.slots.count (sizes_of c.args.sizes) first second) before after [] [] (session_input first) (list_input second ∷ []) c.in-Err.ending
+    turn_ends (editing c.args.slots.count (sizes_of c.args.sizes) first second) before after [] [] (session_input first) (list_input second ∷ []) c.in-Err.ending
     (record { inputs_are = refl; passed = tt; kept = (c.in-Err.ensures.others second (λ e. c.args.files.apart (sym e)), tt) })
-    (record { keeps = still; cut = λ file e. still; calm = refl; short = λ tells. inl still }) c.in-Err.ensures.turn
+    (record { keeps = still; calm = refl; unread = λ file e tells. tt; pace = λ tells. tt }) c.in-Err.ensures.turn
 
 pub returns-in-Err-take-clause-ends : goal.returns-in-Err-take-clause-ends
 returns-in-Err-take-clause-ends g c =
@@ -32,9 +32,9 @@ returns-in-Err-take-clause-ends g c =
     let between = c.take.new.desk in
     let still = kept (g.K.Sink.written c.args.out.now) in
     let events = c.in-Ok.session in
-    turn_ends (Session c.args.slots.count (sizes_of c.args.sizes) first second) before after (session_input first ∷ []) (session_value events ∷ []) (list_input second) [] c.in-Err-take.ending
+    turn_ends (editing c.args.slots.count (sizes_of c.args.sizes) first second) before after (session_input first ∷ []) (session_value events ∷ []) (list_input second) [] c.in-Err-take.ending
     (record { inputs_are = refl; passed = (passed_taken (session_input first) (before.remaining first) (g.D.Desk.remaining between first) (session_value events) c.in-Ok.ensures.turn, tt); kept = tt })
-    (record { keeps = still; cut = λ file e. still; calm = refl; short = λ tells. inl still })
+    (record { keeps = still; calm = refl; unread = λ file e tells. tt; pace = λ tells. tt })
     (ends_later (list_input second) (before.remaining second) (g.D.Desk.remaining between second) (after.remaining second) (before.read_faults second) (g.D.Desk.faults between second) (after.read_faults second) c.in-Err-take.ending
     (c.in-Ok.ensures.others second (λ e. c.args.files.apart (sym e))) (c.in-Ok.ensures.counts second) c.in-Err-take.ensures.turn)
 

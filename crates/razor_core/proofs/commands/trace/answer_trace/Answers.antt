@@ -1,5 +1,4 @@
 use Rattle.std.proofs.Common.{[], ◌∷◌, ◌∙◌, inl, refl, sym}
-use Rattle.command_words.specs.Command.{Trace}
 use Rattle.trace_run.specs.Answers as runs
 use Rattle.tcam_sim.specs.Bank.{slots_of}
 use Rattle.ternary_words.specs.Views.{table_of}
@@ -10,6 +9,7 @@ use Rattle.razor_core.proofs.TraceEnding.{Ran, loaded_answers, run_ends, unread}
 use Rattle.razor_core.proofs.Ended.{turn_ends}
 use Rattle.razor_core.proofs.Turns.{kept, taken_before}
 use Rattle.razor_core.proofs.commands.trace.answer_trace.Goals as goal
+use Rattle.razor_core.specs.Trace.{tracing}
 
 pub returns-in-Err-clause-ends : goal.returns-in-Err-clause-ends
 returns-in-Err-clause-ends g c =
@@ -18,13 +18,13 @@ returns-in-Err-clause-ends g c =
     let before = seen g.D.Desk.remaining g.D.Desk.faults g.K.Sink.written g.K.Sink.faults c.args.desk.now c.args.out.now in
     let after = seen g.D.Desk.remaining g.D.Desk.faults g.K.Sink.written g.K.Sink.faults c.take.new.desk c.args.out.now in
     let still = kept (g.K.Sink.written c.args.out.now) in
-    turn_ends (Trace table trace) before after [] [] (table_input table) (trace_input trace ∷ []) c.in-Err.ending
+    turn_ends (tracing table trace) before after [] [] (table_input table) (trace_input trace ∷ []) c.in-Err.ending
     (record { inputs_are = refl; passed = tt; kept = (c.in-Err.ensures.others trace (λ e. c.args.files.apart (sym e)), tt) })
     (record {
       keeps = still;
-      cut = λ file e tells. record { in_table = λ same. still; in_trace = λ same. absurd (c.args.files.apart (sym e ∙ same)) };
       calm = refl;
-      short = λ tells. (inl still, unread table trace before after still (c.in-Err.ensures.others trace (λ e. c.args.files.apart (sym e))));
+      unread = λ file e tells. record { in_table = λ same. still; in_trace = λ same. absurd (c.args.files.apart (sym e ∙ same)) };
+      pace = λ tells. unread table trace before after still (c.in-Err.ensures.others trace (λ e. c.args.files.apart (sym e)));
     }) c.in-Err.ensures.turn
 
 pub returns-clause-ends : goal.returns-clause-ends

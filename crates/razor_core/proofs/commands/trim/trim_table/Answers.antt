@@ -2,8 +2,7 @@ use Rattle.std.proofs.Common.{[], ◌∷◌, inl, refl, subst, sym, true}
 use Rattle.ternary_words.specs.Headline.TableText.{table_text}
 use Rattle.ternary_words.specs.Views.{table_of}
 use Rattle.table_text.proofs.TableTexts.{table-read}
-use Rattle.command_words.specs.Command.{Trim}
-use Rattle.razor_core.specs.Inputs.{inputs, table_input}
+use Rattle.razor_core.specs.Inputs.{table_input}
 use Rattle.razor_core.specs.Outcome.{IsTextOf, Outcome}
 use Rattle.razor_core.specs.Outside.{seen}
 use Rattle.razor_core.specs.Taking.{table_value_of}
@@ -12,6 +11,7 @@ use Rattle.razor_core.proofs.SpelledNames.{AreSpelled}
 use Rattle.razor_core.proofs.TrimEnding.{free, other_stops}
 use Rattle.razor_core.proofs.Turns.{kept, pass_behind, passed_taken, read_taken}
 use Rattle.razor_core.proofs.commands.trim.trim_table.Goals as goal
+use Rattle.razor_core.specs.Trim.{trimming}
 
 pub returns-in-Err-clause-ends : goal.returns-in-Err-clause-ends
 returns-in-Err-clause-ends g c =
@@ -19,8 +19,8 @@ returns-in-Err-clause-ends g c =
     let before = seen g.D.Desk.remaining g.D.Desk.faults g.K.Sink.written g.K.Sink.faults c.args.desk.now c.args.out.now in
     let after = seen g.D.Desk.remaining g.D.Desk.faults g.K.Sink.written g.K.Sink.faults c.take.new.desk c.args.out.now in
     let still = kept (g.K.Sink.written c.args.out.now) in
-    turn_ends (Trim file) before after [] [] (table_input file) [] c.in-Err.ending (record { inputs_are = refl; passed = tt; kept = tt })
-    (record { keeps = still; cut = λ file e. still; calm = refl; short = still }) c.in-Err.ensures.turn
+    turn_ends (trimming file) before after [] [] (table_input file) [] c.in-Err.ending (record { inputs_are = refl; passed = tt; kept = tt })
+    (record { keeps = still; calm = refl; unread = λ file e tells. tt; pace = λ tells. tt }) c.in-Err.ensures.turn
 
 pub returns-in-Some-clause-ends : goal.returns-in-Some-clause-ends
 returns-in-Some-clause-ends g c =
@@ -42,7 +42,7 @@ returns-in-Ok-write_table-clause-ends g c =
     let text : IsTextOf table (table_text table) = record { written = refl; spells = table-read c.in-Ok-trimmed.table (subst AreSpelled (sym c.in-Ok-trimmed.ensures.names) c.in-Ok.ensures.holds) } in
     let outcome : Outcome = record { yes = true; text = table_text table; line = [] } in (
       refl,
-      λ tells. done_ends (Trim file) before after (value ∷ []) outcome true (passed_taken (table_input file) (before.remaining file) (after.remaining file) value taken, tt) (free file before after c.in-Ok.table taken (rw c.deref.ensures.value at c.in_default.ensures)) (table, c.in-Ok-trimmed.ensures.trimmed, text, refl, refl) refl
+      λ tells. done_ends (trimming file) before after (value ∷ []) outcome true (passed_taken (table_input file) (before.remaining file) (after.remaining file) value taken, tt) (free file before after c.in-Ok.table taken (rw c.deref.ensures.value at c.in_default.ensures)) (table, c.in-Ok-trimmed.ensures.trimmed, text, refl, refl) refl
           c.in-Ok-write_table.ensures.ok (read_taken (table_input file) (before.remaining file) (after.remaining file) value taken tells.0, tt) tells,
     )
 
@@ -55,7 +55,7 @@ returns-clause-ends g c =
     let table = table_of c.in-Ok-trimmed.table in
     let text : IsTextOf table (table_text table) = record { written = refl; spells = table-read c.in-Ok-trimmed.table (subst AreSpelled (sym c.in-Ok-trimmed.ensures.names) c.in-Ok.ensures.holds) } in
     let outcome : Outcome = record { yes = true; text = table_text table; line = [] } in
-    cut_off_ends (Trim file) before after (λ cut. cut) (value ∷ []) outcome (passed_taken (table_input file) (before.remaining file) (after.remaining file) value c.in-Ok.ensures.turn, tt) (inl (free file before after c.in-Ok.table c.in-Ok.ensures.turn (rw c.deref.ensures.value at c.in_default.ensures))) (table, c.in-Ok-trimmed.ensures.trimmed, text, refl, refl)
+    cut_off_ends (trimming file) before after (λ tells. tt) (value ∷ []) outcome (passed_taken (table_input file) (before.remaining file) (after.remaining file) value c.in-Ok.ensures.turn, tt) (inl (free file before after c.in-Ok.table c.in-Ok.ensures.turn (rw c.deref.ensures.value at c.in_default.ensures))) (table, c.in-Ok-trimmed.ensures.trimmed, text, refl, refl)
     c.in-Err-write_table.ensures.failed c.in-Err-write_table.ensures.err
 
 pub returns-in-Err-trimmed-clause-ends : goal.returns-in-Err-trimmed-clause-ends
@@ -64,4 +64,4 @@ returns-in-Err-trimmed-clause-ends g c =
     let before = seen g.D.Desk.remaining g.D.Desk.faults g.K.Sink.written g.K.Sink.faults c.args.desk.now c.args.out.now in
     let after = seen g.D.Desk.remaining g.D.Desk.faults g.K.Sink.written g.K.Sink.faults c.take.new.desk c.args.out.now in
     let passed = passed_taken (table_input file) (before.remaining file) (after.remaining file) (table_value_of c.in-Ok.table) c.in-Ok.ensures.turn in
-    (refl, kept (g.K.Sink.written c.args.out.now), pass_behind before after (inputs (Trim file)) (table_value_of c.in-Ok.table ∷ []) (passed, tt))
+    (refl, kept (g.K.Sink.written c.args.out.now), pass_behind before after (trimming file).inputs (table_value_of c.in-Ok.table ∷ []) (passed, tt))

@@ -1,7 +1,7 @@
 use Rattle.std.proofs.Common.{◌∙◌, ap, sym, find, option_map, bytes_eq}
-use Rattle.command_words.specs.Views.{form_seen}
+use Rattle.command_words.specs.Forms.{form_seen}
 use Rattle.command_words.proofs.Fitting.{named}
-use Rattle.command_words.proofs.form.form_named.Goals as goal
+use Rattle.command_words.proofs.commands.form_named.Goals as goal
 
 pub returns : goal.returns
 returns c =

@@ -3,7 +3,8 @@ use Rattle.std.specs.Prelude.{All, IsTrue, map, ◌++◌}
 use Rattle.std.specs.Borrow.{Bor}
 use Rattle.std.specs.Io.KnownBytes.{Appends, Keeps}
 use Rattle.std.proofs.lemmas.List.{length-map, length-replicate}
-use Rattle.command_words.specs.Naming.{all_differ, driving}
+use Rattle.command_words.specs.Files.{all_differ, script_and_tables}
+use Rattle.command_words.specs.Commands.{Drive}
 use Rattle.ternary_words.specs.declared.table.Table.{Table}
 use Rattle.bank_update.specs.Driven as drives
 use Rattle.bank_update.specs.Machine.{State, unsettled}
@@ -11,8 +12,7 @@ use Rattle.bank_update.specs.Runs.{IsRun}
 use Rattle.bank_update.proofs.Driving.{runs-of}
 use Rattle.tcam_sim.specs.Bank.{sets_of}
 use Rattle.bank_update.specs.Script.{IsWithin}
-use Rattle.command_words.specs.Command.{Drive}
-use Rattle.razor_core.specs.Inputs.{inputs, script_input, script_value, table_input}
+use Rattle.razor_core.specs.Inputs.{script_input, script_value, table_input}
 use Rattle.razor_core.specs.Outside.{seen}
 use Rattle.razor_core.specs.Taking.{EndsTurn, TakesTurn, table_value_of}
 use Rattle.razor_core.specs.Ending.{Ends}
@@ -22,7 +22,9 @@ use Rattle.razor_core.proofs.Ended.{turn_ends}
 use Rattle.razor_core.proofs.Tables.{NoneOf, all_fail_later, all_passed, all_stay, all_taken_later, among_ends, first_text, later_words, none_later, none_of_inputs, stay_kept, taken_length, texts, words_parted}
 use Rattle.razor_core.proofs.Turns.{kept, pass_behind, passed_taken, taken_before}
 use Rattle.std.proofs.KnownBytes.{Keeps-trans}
-use Rattle.razor_core.proofs.commands.drive.run_script.Goals as goal
+use Rattle.razor_core.proofs.commands.drive.run_words.Goals as goal
+use Rattle.razor_core.specs.Commands.{meaning}
+use Rattle.razor_core.specs.Drive.{swapping}
 
 pub returns-in-Err-clause-ends : goal.returns-in-Err-clause-ends
 returns-in-Err-clause-ends g c =
@@ -37,9 +39,9 @@ returns-in-Err-clause-ends g c =
     let before = seen g.D.Desk.remaining g.D.Desk.faults g.K.Sink.written g.K.Sink.faults c.args.desk.now c.args.out.now in
     let after = seen g.D.Desk.remaining g.D.Desk.faults g.K.Sink.written g.K.Sink.faults c.take.new.desk c.args.out.now in
     let still = kept (g.K.Sink.written c.args.out.now) in
-    subst (λ (ws : List (List ℕ)). Ends (driving slots ws) before after c.in-Err.ending) (sym seen_is)
-    (turn_ends (Drive slots script files) before after [] [] (script_input (length files) script) (map table_input files) c.in-Err.ending (record { inputs_are = refl; passed = tt; kept = stay_kept before after files (all_stay script files before.remaining after.remaining (none_later script files differ) c.in-Err.ensures.others) })
-    (record { keeps = still; cut = λ file e. still; calm = refl; short = λ tells. inl still })
+    subst (λ (ws : List (List ℕ)). Ends (meaning (script_and_tables (Drive slots) ws)) before after c.in-Err.ending) (sym seen_is)
+    (turn_ends (swapping slots script files) before after [] [] (script_input (length files) script) (map table_input files) c.in-Err.ending (record { inputs_are = refl; passed = tt; kept = stay_kept before after files (all_stay script files before.remaining after.remaining (none_later script files differ) c.in-Err.ensures.others) })
+    (record { keeps = still; calm = refl; unread = λ file e tells. tt; pace = λ tells. tt })
     (subst (λ (n : ℕ). EndsTurn (script_input n script) (before.remaining script) (after.remaining script) (before.read_faults script) (after.read_faults script) c.in-Err.ending) (sym count_is) c.in-Err.ensures.turn))
 
 pub returns-in-Err-take_tables-clause-ends : goal.returns-in-Err-take_tables-clause-ends
@@ -62,10 +64,10 @@ returns-in-Err-take_tables-clause-ends g c =
     let after = seen g.D.Desk.remaining g.D.Desk.faults g.K.Sink.written g.K.Sink.faults c.take_tables.new.desk c.args.out.now in
     let still = kept (g.K.Sink.written c.args.out.now) in
     let ending = c.in-Err-take_tables.ending in
-    subst (λ (ws : List (List ℕ)). Ends (driving slots ws) before after ending) (sym seen_is)
-    (among_ends (Drive slots script files) before after (script_input (length files) script ∷ []) (script_value events ∷ []) files ending refl
+    subst (λ (ws : List (List ℕ)). Ends (meaning (script_and_tables (Drive slots) ws)) before after ending) (sym seen_is)
+    (among_ends (swapping slots script files) before after (script_input (length files) script ∷ []) (script_value events ∷ []) files ending refl
     (passed_taken (script_input (length files) script) (start script) (between script) (script_value events) taken, tt)
-    (λ name. record { keeps = still; cut = λ file e. still; calm = refl; short = λ tells. inl still })
+    (λ name. record { keeps = still; calm = refl; unread = λ file e tells. tt; pace = λ tells. tt })
     (all_fail_later script files start between end (g.D.Desk.faults c.args.desk.now) (g.D.Desk.faults c.take.new.desk) (g.D.Desk.faults c.take_tables.new.desk) ending none c.in-Ok.ensures.others c.in-Ok.ensures.counts
     c.in-Err-take_tables.ensures.ended))
 
@@ -75,7 +77,7 @@ returns-in-Err-take_tables-clause-others g c =
     let files = texts (later_words words) in
     let slots = c.args.slots.count in
     let seen_is = words_parted words c.in-len1-up.len_at_least in
-    subst (λ (ws : List (List ℕ)). (other : List ℕ) → NoneOf other (inputs (driving slots ws)) → Keeps (g.D.Desk.remaining c.args.desk.now other) (g.D.Desk.remaining c.take_tables.new.desk other)) (sym seen_is)
+    subst (λ (ws : List (List ℕ)). (other : List ℕ) → NoneOf other (meaning (script_and_tables (Drive slots) ws)).inputs → Keeps (g.D.Desk.remaining c.args.desk.now other) (g.D.Desk.remaining c.take_tables.new.desk other)) (sym seen_is)
     (λ other none. Keeps-trans (g.D.Desk.remaining c.args.desk.now other) (g.D.Desk.remaining c.take.new.desk other) (g.D.Desk.remaining c.take_tables.new.desk other) (c.in-Ok.ensures.others other none.0)
     (c.take_tables.ensures.others other (none_of_inputs other files none.1)))
 
@@ -99,10 +101,10 @@ returns-in-Err-new-clause-ends g c =
     let after = seen g.D.Desk.remaining g.D.Desk.faults g.K.Sink.written g.K.Sink.faults c.take_tables.new.desk c.args.out.now in
     let added = c.in_default-take_tables.ensures.taken in
     let still = kept (g.K.Sink.written c.args.out.now) in
-    subst (λ (ws : List (List ℕ)). Ends (driving slots ws) before after Memory) (sym seen_is) (
+    subst (λ (ws : List (List ℕ)). Ends (meaning (script_and_tables (Drive slots) ws)) before after Memory) (sym seen_is) (
       refl,
-      (λ tells. inl still),
-      pass_behind before after (inputs (Drive slots script files)) (script_value events ∷ map table_value_of added.0) (
+      (λ tells. (inl still, tt)),
+      pass_behind before after (swapping slots script files).inputs (script_value events ∷ map table_value_of added.0) (
         passed_taken (script_input (length files) script) (start script) (between script) (script_value events) taken,
         all_passed before after files added.0 (all_taken_later script files start between end added.0 none c.in-Ok.ensures.others added.1),
       ),
@@ -114,7 +116,7 @@ returns-in-Err-new-clause-others g c =
     let files = texts (later_words words) in
     let slots = c.args.slots.count in
     let seen_is = words_parted words c.in-len1-up.len_at_least in
-    subst (λ (ws : List (List ℕ)). (other : List ℕ) → NoneOf other (inputs (driving slots ws)) → Keeps (g.D.Desk.remaining c.args.desk.now other) (g.D.Desk.remaining c.take_tables.new.desk other)) (sym seen_is)
+    subst (λ (ws : List (List ℕ)). (other : List ℕ) → NoneOf other (meaning (script_and_tables (Drive slots) ws)).inputs → Keeps (g.D.Desk.remaining c.args.desk.now other) (g.D.Desk.remaining c.take_tables.new.desk other)) (sym seen_is)
     (λ other none. Keeps-trans (g.D.Desk.remaining c.args.desk.now other) (g.D.Desk.remaining c.take.new.desk other) (g.D.Desk.remaining c.take_tables.new.desk other) (c.in-Ok.ensures.others other none.0)
     (c.take_tables.ensures.others other (none_of_inputs other files none.1)))
 
@@ -159,7 +161,7 @@ returns-clause-ends g c =
       write_fault = c.drive_on-ended.ensures.write_fault;
       calm = c.drive_on-ended.ensures.calm;
     } in
-    subst (λ (ws : List (List ℕ)). Ends (driving slots ws) before after c.drive_ended.result) (sym seen_is)
+    subst (λ (ws : List (List ℕ)). Ends (meaning (script_and_tables (Drive slots) ws)) before after c.drive_ended.result) (sym seen_is)
     (drive_ends c.a_run_without_faults_is_the_session.ensures.lines slots script files before after events added.0 last c.drive_on-ended.result c.drive_ended.result run c.drive_ended.ensures)
 
 pub returns-clause-others : goal.returns-clause-others
@@ -168,6 +170,6 @@ returns-clause-others g c =
     let files = texts (later_words words) in
     let slots = c.args.slots.count in
     let seen_is = words_parted words c.in-len1-up.len_at_least in
-    subst (λ (ws : List (List ℕ)). (other : List ℕ) → NoneOf other (inputs (driving slots ws)) → Keeps (g.D.Desk.remaining c.args.desk.now other) (g.D.Desk.remaining c.take_tables.new.desk other)) (sym seen_is)
+    subst (λ (ws : List (List ℕ)). (other : List ℕ) → NoneOf other (meaning (script_and_tables (Drive slots) ws)).inputs → Keeps (g.D.Desk.remaining c.args.desk.now other) (g.D.Desk.remaining c.take_tables.new.desk other)) (sym seen_is)
     (λ other none. Keeps-trans (g.D.Desk.remaining c.args.desk.now other) (g.D.Desk.remaining c.take.new.desk other) (g.D.Desk.remaining c.take_tables.new.desk other) (c.in-Ok.ensures.others other none.0)
     (c.take_tables.ensures.others other (none_of_inputs other files none.1)))
