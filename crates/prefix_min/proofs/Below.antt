@@ -13,8 +13,7 @@ use Rattle.prefix_min.specs.declared.row.PrefixRow.{PrefixRow}
 use Rattle.prefix_min.specs.PrefixList as list
 use Rattle.prefix_min.specs.Choice.{IsLonger}
 use Rattle.prefix_min.specs.Rows.{IsPart}
-use Rattle.prefix_min.proofs.Values.{value, value-add, value-high, value-low, bits-value}
-use Rattle.prefix_min.proofs.Root.{weigh}
+use Rattle.prefix_min.proofs.Root.{value, value-add, value-high, value-low, bits-value, weigh}
 use Rattle.prefix_min.proofs.Lower.{IsRightWith, weight_of}
 use Rattle.prefix_min.proofs.Whole.{front_bits, row_bits, weight_bits}
 

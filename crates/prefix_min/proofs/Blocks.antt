@@ -1,14 +1,26 @@
 -- Parts of the field that lie in one another.
-use Rattle.std.proofs.Common.{◌≡◌, ℕ, zero, suc, ◌+◌, ◌-◌, ◌*◌, ◌/◌, ◌%◌, ◌^◌, ◌<◌, ◌≤◌, arith, ap, sym, ◌∙◌, inl, inr}
+use Rattle.std.proofs.Common.{◌≡◌, ℕ, zero, suc, ◌+◌, ◌-◌, ◌*◌, ◌%◌, ◌^◌, ◌<◌, ◌≤◌, arith, ap, sym, ◌∙◌, ◌/◌, inl, inr}
+use Rattle.std.proofs.lemmas.Nat.{one_shl, div-add-mod', mod-pow-add, mod_below, pow_pos, mul-le}
+use Rattle.field_boxes.proofs.Powers.{double}
 use Rattle.std.specs.Prelude.{◌⊎◌}
-use Rattle.std.proofs.Math.Nat.{add-mod_right, zero-mod}
+use Rattle.std.proofs.Math.Nat.{add-mod_right, zero-mod, suc-mul, mul-mod_left}
 use Rattle.std.proofs.Math.Pow.{mod-mod-pow}
 use Rattle.std.proofs.lemmas.Bool.{cases_lt}
-use Rattle.std.proofs.lemmas.Nat.{div-add-mod', mod-pow-add, mod_below, pow_pos, mul-le}
-use Rattle.std.proofs.Math.Nat.{suc-mul, mul-mod_left}
-use Rattle.prefix_min.specs.declared.parts.Part.{Part}
-use Rattle.prefix_min.specs.Parts.{IsAbout}
-use Rattle.prefix_min.proofs.Powers.{double-one}
+use Rattle.prefix_min.specs.declared.parts.FieldPart.{FieldPart}
+use Rattle.prefix_min.specs.Growth.{IsAbout}
+
+pub double-one : (n : ℕ) → 2 ^ (n + 1) ≡ 2 ^ n + 2 ^ n
+double-one n = ap (λ k. 2 ^ k) (let e : n + 1 ≡ suc n = omega arith in e) ∙ double n
+
+-- a power that isn't the first is twice the one below it
+pub halved : (n : ℕ) → 1 < 2 ^ n → (n ≡ suc (n - 1)) × (2 ^ n ≡ 2 ^ (n - 1) + 2 ^ (n - 1))
+halved zero h = absurd (omega (arith, h))
+halved (suc n) h =
+    let e : suc n - 1 ≡ n = omega arith in
+    (ap suc (sym e), double n ∙ ap (λ k. 2 ^ k + 2 ^ k) (sym e))
+
+pub one_bit : (n : ℕ) → n ≤ 32 → (1 * 2 ^ n) % 2 ^ 64 ≡ 2 ^ n
+one_bit n h = one_shl n 64 (omega arith)
 
 -- of two multiples the lesser lies a whole step before the greater
 step_apart : (m a b : ℕ) → a % m ≡ 0 → b % m ≡ 0 → a < b → a + m ≤ b
@@ -64,7 +76,7 @@ about-ends k v w h e = elim (sides k v w h e) [
 ]
 
 -- and so does a greater one that holds its low value
-pub about-around : (low bits most limit : ℕ) (p : Part) → p.low ≡ low - low % 2 ^ p.bits → bits ≤ p.bits → p.bits ≤ most → low % 2 ^ bits ≡ 0 → p.low + 2 ^ p.bits ≤ limit → IsAbout low bits most limit p
+pub about-around : (low bits most limit : ℕ) (p : FieldPart) → p.low ≡ low - low % 2 ^ p.bits → bits ≤ p.bits → p.bits ≤ most → low % 2 ^ bits ≡ 0 → p.low + 2 ^ p.bits ≤ limit → IsAbout low bits most limit p
 about-around low bits most limit p l le short h ends =
     let aligned = about-aligned p.bits low p.low l in
     record {

@@ -10,17 +10,15 @@ use Rattle.std.proofs.lemmas.List.Sums.{sum_by-append}
 use Rattle.std.proofs.lemmas.Nat.{pow_pos}
 use Rattle.field_boxes.specs.Headline.Prefix.{prefix_holds}
 use Rattle.prefix_min.specs.declared.row.PrefixRow.{PrefixRow}
-use Rattle.prefix_min.specs.Trie.{Node}
+use Rattle.prefix_min.specs.Trie.{Node, GivesAll, StandsFor, costs_of}
 use Rattle.prefix_min.specs.Choice.{AnswerIn, IsWorth, IsWorthIn, beside, lies_in, within}
 use Rattle.prefix_min.specs.Costs.{Costs, IsConstant, IsSplit, without_row}
 use Rattle.prefix_min.specs.PrefixList.{front, weight}
 use Rattle.prefix_min.specs.Rows.{IsInside, IsPart, row_of}
-use Rattle.prefix_min.specs.Trie.{GivesAll, StandsFor, costs_of}
 use Rattle.prefix_min.proofs.Below.{below}
 use Rattle.prefix_min.proofs.Lower.{decide}
-use Rattle.prefix_min.proofs.Rootless.{constant-bound, halves-bound}
+use Rattle.prefix_min.proofs.Whole.{constant-bound, halves-bound, IsFresh}
 use Rattle.prefix_min.proofs.Rows.{AreApart, front-append, front-outside, front_head, held_within, row-holds, not_true}
-use Rattle.prefix_min.proofs.Whole.{IsFresh}
 
 own_answers : (f : ℕ → ℕ) (width bits low label : ℕ) (inherited : ℕ → ℕ) (others : List PrefixRow) → IsPart width bits low → AnswerIn f width (row_of width bits low label) inherited others →
     (v : ℕ) → low ≤ v → v < low + 2 ^ bits → unwrap_or (front width others v) (inherited v) ≡ f v

@@ -1,13 +1,11 @@
 -- The least label that saves all that it weighs.
 use Rattle.std.proofs.Common.{◌≡◌, ◌≢◌, ◌∷◌, ℕ, zero, suc, List, [], ◌+◌, ◌<◌, ◌≤◌, refl, ap, arith, sym, ◌∙◌, length, get_or, below_more, subst, inl, inr}
 use Rattle.std.specs.Prelude.{◌⊎◌, Option, Some, None, cond, min, slice_index, unwrap_or}
-use Rattle.std.proofs.lemmas.Bool.{cases_lt, cases_eq}
-use Rattle.std.proofs.lemmas.Bool.{le-leb, lt-leb}
+use Rattle.std.proofs.lemmas.Bool.{cases_lt, cases_eq, le-leb, lt-leb}
 use Rattle.prefix_min.specs.declared.piece.Piece.{Piece}
 use Rattle.prefix_min.specs.declared.savings.LabelCost.{LabelCost}
 use Rattle.prefix_min.specs.Field.{IsFull, IsFullLabel, IsLeastFull, IsLeastSoFar, SomeFull, lesser, no_piece}
-use Rattle.prefix_min.specs.NextPiece.{IsNext}
-use Rattle.prefix_min.specs.Pieces.{Follow, label_at, reach}
+use Rattle.prefix_min.specs.Pieces.{IsNext, Follow, label_at, reach}
 use Rattle.prefix_min.specs.Costs.{Lists, RisesFrom}
 use Rattle.prefix_min.specs.Savings.{saved}
 use Rattle.prefix_min.proofs.Listed.{cost-at, label_least, listed-at, place_of, unlisted}

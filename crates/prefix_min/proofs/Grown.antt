@@ -6,33 +6,29 @@ use Rattle.std.proofs.Math.Seq.{drop-append_seam}
 use Rattle.std.proofs.lemmas.Bool.{cases_lt}
 use Rattle.std.proofs.lemmas.List.{length-append, get_or_default}
 use Rattle.std.proofs.lemmas.Nat.{pow_pos}
-use Rattle.prefix_min.specs.declared.parts.Part.{Part}
+use Rattle.prefix_min.specs.declared.parts.FieldPart.{FieldPart}
 use Rattle.prefix_min.specs.declared.piece.Piece.{Piece}
 use Rattle.prefix_min.specs.declared.plan.Choice.{Choice}
 use Rattle.prefix_min.specs.declared.savings.Gain.{Gain}
 use Rattle.prefix_min.specs.declared.savings.LabelCost.{LabelCost}
-use Rattle.prefix_min.specs.Built.{IsBuilt}
+use Rattle.prefix_min.specs.Growth.{IsBuilt, IsBeside, IsHalf, IsPut, IsStretch, end_of, IsAbout}
 use Rattle.prefix_min.specs.Costs.{least_cost}
 use Rattle.prefix_min.specs.Field.{no_piece}
-use Rattle.prefix_min.specs.Growth.{IsBeside, IsHalf, IsPut, IsStretch, end_of}
 use Rattle.prefix_min.specs.Merging.{AreKept, IsJoined}
-use Rattle.prefix_min.specs.NextPiece.{AreFit, IsNext, weight_below}
-use Rattle.prefix_min.specs.Parts.{IsAbout}
-use Rattle.prefix_min.specs.Pieces.{reach}
+use Rattle.prefix_min.specs.Pieces.{AreFit, IsNext, weight_below, reach}
 use Rattle.prefix_min.specs.Plan.{IsTopped, more_labels, rows_of}
 use Rattle.prefix_min.specs.Savings.{AreSavings, AreSums, IsGain, alone, lowered, saved}
 use Rattle.prefix_min.specs.Trie.{costs_of}
 use Rattle.prefix_min.proofs.Blocks.{about-aligned, about-ends, from-within, sides, to-within}
-use Rattle.prefix_min.proofs.Building.{first-weighs, next-label, part-inside, piece-place, still-next}
+use Rattle.prefix_min.proofs.PieceWeights.{first-weighs, next-label, part-inside, piece-place, still-next, below-all, below-rises, ends-rise}
 use Rattle.prefix_min.proofs.Joined.{gain-turned, sums-turned}
-use Rattle.prefix_min.proofs.PieceWeights.{below-all, below-rises, ends-rise}
 use Rattle.prefix_min.proofs.Stacked.{constant-built, cut, front-is, halves-built, halves-row, room-built, uncut}
 use Rattle.prefix_min.proofs.Stretched.{IsAlone, IsOver, around, stretch-chosen}
 use Rattle.field_boxes.proofs.Powers.{double}
 use Rattle.prefix_min.proofs.Planned.{both-chosen}
 
 -- the part so far: within the part that is to be done, and it begins in the first piece
-pub record IsGrown (keeps : Bool) (weights : List ℕ) (pieces : List Piece) (bits low first : ℕ) (part : Part) (before after : List LabelCost) (old new following : ℕ) (cs0 cs1 : List Choice) (al0 al1 : List ℕ) : Type 0 where
+pub record IsGrown (keeps : Bool) (weights : List ℕ) (pieces : List Piece) (bits low first : ℕ) (part : FieldPart) (before after : List LabelCost) (old new following : ℕ) (cs0 cs1 : List Choice) (al0 al1 : List ℕ) : Type 0 where
   pub built : IsBuilt keeps weights pieces part.bits part.low before after old new following cs0 cs1 al0 al1
   pub less : part.bits ≤ bits
   pub aligned : part.low % 2 ^ part.bits ≡ 0
@@ -65,7 +61,7 @@ behind-next weights pieces fit place v limit inside le lt is next = record {
 }
 
 -- the first part: the greatest that ends where the first piece does
-module _ {keeps : Bool} {weights : List ℕ} {pieces : List Piece} {low first : ℕ} {part : Part} {before after : List LabelCost} {old new was following : ℕ}
+module _ {keeps : Bool} {weights : List ℕ} {pieces : List Piece} {low first : ℕ} {part : FieldPart} {before after : List LabelCost} {old new was following : ℕ}
     {cs0 cs1 : List Choice} {al0 al1 : List ℕ} (bits : ℕ)
     (fit : AreFit weights pieces) (next : IsNext pieces first low) (within : low + 2 ^ bits ≤ reach 0 pieces) (whole : low % 2 ^ bits ≡ 0)
     (ends : end_of pieces first + 1 < low + 2 ^ bits)
@@ -89,7 +85,7 @@ module _ {keeps : Bool} {weights : List ℕ} {pieces : List Piece} {low first : 
         begins = about.from;
       }
 
-module _ {keeps : Bool} {weights : List ℕ} {pieces : List Piece} {bits low first : ℕ} {part : Part} {before mid : List LabelCost} {c0 c1 next1 : ℕ} {cs0 cs1 : List Choice}
+module _ {keeps : Bool} {weights : List ℕ} {pieces : List Piece} {bits low first : ℕ} {part : FieldPart} {before mid : List LabelCost} {c0 c1 next1 : ℕ} {cs0 cs1 : List Choice}
     {al0 al1 : List ℕ}
     (g : IsGrown keeps weights pieces bits low first part before mid c0 c1 next1 cs0 cs1 al0 al1) where
   -- the last part is the whole
@@ -105,7 +101,7 @@ module _ {keeps : Bool} {weights : List ℕ} {pieces : List Piece} {bits low fir
   grown-light light = omega (arith, light, below-rises weights 0 low part.low pieces g.from, g.built.light, g.built.cost)
 
 -- the savings of the other half, and the part that both make
-record IsOther (keeps : Bool) (weights : List ℕ) (pieces : List Piece) (about : Part) (xs before mid after : List LabelCost) (c0 c2 next2 : ℕ) (cs0 cs2 : List Choice)
+record IsOther (keeps : Bool) (weights : List ℕ) (pieces : List Piece) (about : FieldPart) (xs before mid after : List LabelCost) (c0 c2 next2 : ℕ) (cs0 cs2 : List Choice)
     (al0 al2 : List ℕ) : Type 0 where
   ys : List LabelCost
   pushed : after ≡ mid ++ ys
@@ -125,11 +121,11 @@ pub record AreReady (weights : List ℕ) (after : List LabelCost) (s m : ℕ) : 
   pub high : AreKept weights (drop m after)
   pub room : (d : ℕ) → saved (take (m - s) (drop s after)) d + saved (drop m after) d < 2 ^ 128
 
-module _ {keeps : Bool} {weights : List ℕ} {pieces : List Piece} {bits low first : ℕ} {part : Part} {before mid : List LabelCost} {c0 c1 next1 : ℕ} {cs0 cs1 : List Choice}
+module _ {keeps : Bool} {weights : List ℕ} {pieces : List Piece} {bits low first : ℕ} {part : FieldPart} {before mid : List LabelCost} {c0 c1 next1 : ℕ} {cs0 cs1 : List Choice}
     {al0 al1 : List ℕ}
     (fit : AreFit weights pieces) (next : IsNext pieces first low) (within : low + 2 ^ bits ≤ reach 0 pieces) (whole : low % 2 ^ bits ≡ 0)
     (g : IsGrown keeps weights pieces bits low first part before mid c0 c1 next1 cs0 cs1 al0 al1) where
-  module _ {about : Part} (lt : part.bits < bits) (wide : about.bits ≡ part.bits + 1) (is : about.low ≡ part.low - part.low % 2 ^ (part.bits + 1)) where
+  module _ {about : FieldPart} (lt : part.bits < bits) (wide : about.bits ≡ part.bits + 1) (is : about.low ≡ part.low - part.low % 2 ^ (part.bits + 1)) where
     size : about.bits ≡ suc part.bits
     size = omega (arith, wide)
 
@@ -233,7 +229,7 @@ module _ {keeps : Bool} {weights : List ℕ} {pieces : List Piece} {bits low fir
         }
 
   -- the part stretches as far as only its label stands about it
-  pub grown-wide : {wide : Part} {s label next2 below also : ℕ} {cs2 : List Choice} → s ≡ length before → (get_or pieces first no_piece).label ≡ label →
+  pub grown-wide : {wide : FieldPart} {s label next2 below also : ℕ} {cs2 : List Choice} → s ≡ length before → (get_or pieces first no_piece).label ≡ label →
       part.bits < wide.bits →
       IsStretch weights pieces (drop s mid) label part bits next1 wide → IsNext pieces next2 (wide.low + 2 ^ wide.bits) → below ≡ length cs0 →
       also ≡ length al1 →
@@ -289,7 +285,7 @@ module _ {keeps : Bool} {weights : List ℕ} {pieces : List Piece} {bits low fir
       }
 
 -- a part of one label below another that begins in the same piece
-pub below-built : {keeps : Bool} {weights : List ℕ} {pieces : List Piece} {first top : ℕ} {part : Part} {before after : List LabelCost} {old new was following : ℕ}
+pub below-built : {keeps : Bool} {weights : List ℕ} {pieces : List Piece} {first top : ℕ} {part : FieldPart} {before after : List LabelCost} {old new was following : ℕ}
     {cs0 cs1 : List Choice} {al0 al1 : List ℕ} (fit : AreFit weights pieces) →
     first < length pieces → IsNext pieces first part.low → part.low + 2 ^ part.bits ≡ top → top ≤ end_of pieces first → top ≤ reach 0 pieces →
     IsPut keeps weights (get_or pieces first no_piece).label part before after old new was following cs0 cs1 al0 al1 →
@@ -316,13 +312,13 @@ one-room {weights = weights} {pieces = pieces} {low = low} bits v cost fit next 
     )
 
 -- on which side the other half lies
-pub below-half : (pieces : List Piece) (first : ℕ) (part about : Part) → IsHalf pieces first part about → about.low < part.low →
+pub below-half : (pieces : List Piece) (first : ℕ) (part about : FieldPart) → IsHalf pieces first part about → about.low < part.low →
     (about.low + 2 ^ part.bits ≡ part.low) × (first < length pieces) × IsNext pieces first
     about.low × (part.low ≤ end_of pieces first) × (part.low ≤ reach 0 pieces)
 below-half pieces first part about (inl h) lt = absurd (omega (arith, h.0, lt))
 below-half pieces first part about (inr h) lt = h
 
-pub above-half : (pieces : List Piece) (first : ℕ) (part about : Part) → IsHalf pieces first part about → part.low ≤ about.low →
+pub above-half : (pieces : List Piece) (first : ℕ) (part about : FieldPart) → IsHalf pieces first part about → part.low ≤ about.low →
     (about.low ≡ part.low) × ((part.low + 2 ^ part.bits) % 2 ^ part.bits ≡ 0) × (part.low + 2 ^ part.bits + 2 ^ part.bits ≤ reach 0 pieces)
 above-half pieces first part about (inl h) le = h
 above-half pieces first part about (inr h) le = absurd (omega (arith, h.0, le, pow_pos part.bits))

@@ -393,11 +393,6 @@ taken-first {all = all} {x = x} start middle next to is read =
       );
     }
 
--- what was handed over is taken
-pub taken-over : {all : List LabelCost} {x : LabelCost} (start middle : ℕ) → start ≤ middle → length all ≡ middle → IsTaken all (all ++ x ∷ []) start middle x
-taken-over {all = all} {x = x} start middle le size = taken-last start middle le (omega (arith, size, length-append all (x ∷ [])))
-    (sym (ap (λ k. take k (all ++ x ∷ [])) (sym size) ∙ take-append_seam all (x ∷ []))) (ap (λ k. drop k (all ++ x ∷ [])) (sym size) ∙ drop-append_seam all (x ∷ []))
-
 -- one of two parts was taken away, one entry alone
 module _ {left all : List LabelCost} {x : LabelCost} {start middle : ℕ} (t : IsTaken left all start middle x) where
   module _ {weights : List ℕ} (low : AreKept weights (take (middle - start) (drop start all))) (high : AreKept weights (drop middle all)) where

@@ -2,11 +2,9 @@
 use Rattle.std.proofs.Common.{◌≡◌, ◌∷◌, ℕ, List, [], ◌+◌, ◌^◌, ◌≤◌, Bool, true, false, refl, ap, arith, sym, ◌∙◌, inl, inr, eq-eqb, subst, length, ◌<◌}
 use Rattle.std.specs.Prelude.{◌≢◌, ◌⊎◌, cond, Option, Some, None, unwrap_or, suc, zero, slice_index}
 use Rattle.field_boxes.proofs.Halves.{Row, front, half, IsRootless, front-half, weight-halves}
-use Rattle.prefix_min.specs.Trie.{Node, Constant, Halves}
+use Rattle.prefix_min.specs.Trie.{Node, Constant, Halves, costs_of, StandsFor}
 use Rattle.prefix_min.specs.Costs.{Costs, Has, IsConstant, least_cost, without_row}
-use Rattle.prefix_min.specs.Trie.{costs_of, StandsFor}
-use Rattle.prefix_min.proofs.Values.{value, value-low, value-high}
-use Rattle.prefix_min.proofs.Root.{weigh, before, root, before-rootless, before-none, front-root, weight-root, weight-before, weight-front}
+use Rattle.prefix_min.proofs.Root.{value, value-low, value-high, weigh, before, root, before-rootless, before-none, front-root, weight-root, weight-before, weight-front}
 use Rattle.std.proofs.lemmas.Bool.{cases_eq, ne_eqb, cases_lt}
 use Rattle.field_boxes.proofs.Powers.{double}
 

@@ -1,9 +1,9 @@
--- Rows of the field that are put into order.
-use Rattle.std.proofs.Common.{◌≡◌, ◌∷◌, ℕ, zero, suc, List, [], ◌+◌, ◌-◌, ◌<◌, ◌≤◌, Bool, true, false, refl, ap, arith, sym, ◌∙◌, inl, inr, subst, eq-eqb, length, get_or}
+-- Rows of the field that are put into order, and the number by which they stand.
+use Rattle.std.proofs.Common.{◌≡◌, ◌∷◌, ℕ, zero, suc, List, [], ◌+◌, ◌-◌, ◌<◌, ◌≤◌, Bool, true, false, refl, ap, arith, sym, ◌∙◌, inl, inr, subst, eq-eqb, length, get_or, ◌*◌, min, mul-le-mul_right, suc-mul}
 use Rattle.std.specs.Prelude.{◌⊎◌, ◌&&◌, cond, find, Option, Some, None, option_map, unwrap_or, ◌==◌, count_by, IsPermutation}
 use Rattle.std.specs.List.{All, AllByRecursion, Contains}
 use Rattle.std.specs.List.Sorted.{IsNonDecreasingBy}
-use Rattle.std.proofs.lemmas.Bool.{false≢true, eqb-true}
+use Rattle.std.proofs.lemmas.Bool.{false≢true, eqb-true, cases_lt}
 use Rattle.std.proofs.lemmas.Option.{none-some}
 use Rattle.std.proofs.lemmas.List.Sums.{sum_by-cons}
 use Rattle.std.proofs.lemmas.List.Sorted.{All-permutation, Contains-permutation}
@@ -180,3 +180,27 @@ values_rise rows sorted ties i (suc n) d lt e =
     let here : short (get_or rows i d) ≡ short (get_or rows (i + n) d) = omega (arith, e, up, more, last) in
     let there : short (get_or rows (i + n) d) ≡ short (get_or rows (i + n + 1) d) = omega (arith, e, up, more, last) in
     omega (arith, values_rise rows sorted ties i n d (omega (arith, lt)) here, ties (i + n) d (omega (arith, lt)) there, ap (λ r. r.prefix.value) next)
+
+abbrev pub ranked : ℕ → PrefixRow → ℕ
+ranked step r = (255 - r.prefix.len) * step + r.prefix.value
+
+-- the same where no value reaches a step
+abbrev pub cut : ℕ → PrefixRow → ℕ
+cut step r = (255 - r.prefix.len) * step + min r.prefix.value (step - 1)
+
+pub ranked-cut : (step n : ℕ) (r : PrefixRow) → n ≡ ranked step r → r.prefix.value < step → n ≡ cut step r
+ranked-cut step n r is lt = omega (arith, is, lt)
+
+steps_le : (step s t v w : ℕ) → 0 < step → s * step + min v (step - 1) ≤ t * step + min w (step - 1) → s ≤ t
+steps_le step s t v w some h = elim (cases_lt t s) [
+  | inl lt ↦
+      let more : suc t * step ≤ s * step = mul-le-mul_right step (omega (arith, lt)) in
+      absurd (omega (arith, more, suc-mul t step, h, some))
+  | inr le ↦ le
+]
+
+pub longest-first : (step : ℕ) (rows : List PrefixRow) → 0 < step → IsNonDecreasingBy (cut step) rows → IsNonDecreasingBy (λ r. 255 - r.prefix.len) rows
+longest-first step rows some h i j d le lt = steps_le step _ _ _ _ some (h i j d le lt)
+
+pub ties-rise : (step : ℕ) (rows : List PrefixRow) → IsNonDecreasingBy (ranked step) rows → TiesRise rows
+ties-rise step rows h k d lt same = omega (arith, h k (k + 1) d (omega arith) lt, ap (λ s. s * step) same)

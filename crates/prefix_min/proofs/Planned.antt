@@ -13,10 +13,9 @@ use Rattle.prefix_min.specs.Plan.{AreAdded, AreChosen, Bare, Forest, Grown, IsLa
 use Rattle.prefix_min.specs.Rows.{ArePartRows, IsPart, row_of}
 use Rattle.prefix_min.specs.Savings.{AreSavings, AreSums, IsGain, further, saved}
 use Rattle.prefix_min.specs.Trie.{Constant, GivesAll, Halves, Node, StandsFor, costs_of}
-use Rattle.prefix_min.proofs.PartRows.{AreHalfRows, AreHalves, half-rows}
+use Rattle.prefix_min.proofs.Written.{AreHalfRows, AreHalves, half-rows, constant-inherited, constant-written, halves-inherit, halves-own}
 use Rattle.prefix_min.proofs.Saved.{own-label, writes-none, writes-own}
 use Rattle.prefix_min.proofs.Shapes.{high-half, low-half}
-use Rattle.prefix_min.proofs.Written.{constant-inherited, constant-written, halves-inherit, halves-own}
 use Rattle.prefix_min.proofs.Listed.{below_all}
 
 -- the test says whether so much is saved

@@ -8,25 +8,22 @@ use Rattle.prefix_min.specs.declared.piece.Piece.{Piece}
 use Rattle.prefix_min.specs.declared.savings.LabelCost.{LabelCost}
 use Rattle.prefix_min.specs.declared.plan.Choice.{Choice}
 use Rattle.prefix_min.specs.declared.savings.Gain.{Gain}
-use Rattle.prefix_min.specs.Built.{IsBuilt}
+use Rattle.prefix_min.specs.Growth.{IsBuilt, IsPut, end_of}
 use Rattle.prefix_min.specs.Field.{IsFull, IsFullLabel, IsWhole, SomeFull, no_piece}
 use Rattle.prefix_min.specs.Plan.{Bare, IsLaid, IsTopped, more_labels}
 use Rattle.prefix_min.specs.Costs.{Costs, Has, IsConstant, IsSplit, Lists, RisesFrom, without_row}
-use Rattle.prefix_min.specs.NextPiece.{AreFit, IsNext, weight_below}
-use Rattle.prefix_min.specs.Pieces.{label_at, reach}
+use Rattle.prefix_min.specs.Pieces.{AreFit, IsNext, weight_below, label_at, reach}
 use Rattle.prefix_min.specs.Savings.{AreSavings, AreSums, IsGain, alone, lowered, saved}
 use Rattle.prefix_min.specs.Trie.{Constant, Halves, StandsFor, costs_of}
-use Rattle.prefix_min.proofs.Building.{constant_gives, first-weighs, first_label, part-inside, piece-place}
+use Rattle.prefix_min.proofs.PieceWeights.{constant_gives, first-weighs, first_label, part-inside, piece-place, below-all}
 use Rattle.prefix_min.proofs.Joined.{lowered-above}
-use Rattle.prefix_min.proofs.PieceWeights.{below-all}
 use Rattle.prefix_min.proofs.FullLabel.{end-reached, label-at-end, listed-some}
 use Rattle.prefix_min.proofs.Shapes.{field-part}
 use Rattle.prefix_min.proofs.Written.{field-constant, field-halves}
 use Rattle.prefix_min.proofs.Planned.{AreBoth, both-chosen, halves-chosen, one-chosen}
 use Rattle.prefix_min.proofs.Saved.{joined-row, joined-saves, lists-lowered, lowered-rises, one-saves, own-label, saved-lowered, writes-none}
 use Rattle.prefix_min.proofs.Splitting.{both-has, both-split, both_halves, one-constant, one-has, one_label}
-use Rattle.prefix_min.specs.Growth.{IsPut, end_of}
-use Rattle.prefix_min.specs.declared.parts.Part.{Part}
+use Rattle.prefix_min.specs.declared.parts.FieldPart.{FieldPart}
 use Rattle.field_boxes.proofs.Powers.{double}
 use Rattle.prefix_min.proofs.Stretched.{Source}
 use Rattle.prefix_min.proofs.Lower.{label-listed}
@@ -41,7 +38,7 @@ lowered-none weights c xs r a = record {
 }
 
 -- a part within the next piece
-module _ {keeps : Bool} {weights : List ℕ} {pieces : List Piece} {first : ℕ} {part : Part} {before after : List LabelCost} {old new was following next2 : ℕ}
+module _ {keeps : Bool} {weights : List ℕ} {pieces : List Piece} {first : ℕ} {part : FieldPart} {before after : List LabelCost} {old new was following next2 : ℕ}
     {cs0 cs1 : List Choice} {al0 al1 : List ℕ} (fit : AreFit weights pieces)
     (next : IsNext pieces first part.low) (within : part.low + 2 ^ part.bits ≤ reach 0 pieces) (covered : part.low + 2 ^ part.bits ≤ end_of pieces first + 1)
     (put : IsPut keeps weights (get_or pieces first no_piece).label part before after old new was following cs0 cs1 al0 al1)

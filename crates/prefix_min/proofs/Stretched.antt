@@ -17,12 +17,11 @@ use Rattle.prefix_min.specs.Rows.{ArePartRows, IsPart, row_of}
 use Rattle.prefix_min.specs.Savings.{AreSavings, alone}
 use Rattle.prefix_min.specs.Trie.{Constant, GivesAll, Halves, Node, StandsFor, costs_of}
 use Rattle.prefix_min.proofs.Blocks.{to-within}
-use Rattle.prefix_min.proofs.PartRows.{AreHalfRows, half-rows}
+use Rattle.prefix_min.proofs.Written.{AreHalfRows, half-rows, constant-inherited, halves-inherit, halves-own}
 use Rattle.prefix_min.proofs.Planned.{same_rows, top-added, topless}
 use Rattle.prefix_min.proofs.Saved.{IsUnchanged, alone_at, one-saves, unchanged}
 use Rattle.prefix_min.proofs.Shapes.{high-half, low-half}
 use Rattle.prefix_min.proofs.Splitting.{both-has, both-split, both_halves, has-low, one-constant, one-has, one_label}
-use Rattle.prefix_min.proofs.Written.{constant-inherited, halves-inherit, halves-own}
 
 -- the piece of a label
 abbrev pub Source : List Piece → ℕ → Type 0

@@ -1,23 +1,50 @@
--- How a part of the field grows.
-use Rattle.std.specs.Prelude.{Bool, IsTrue, ◌≡◌, ℕ, ◌+◌, ◌%◌, ◌^◌, ◌<◌, ◌≤◌, ◌⊎◌, List, [], ◌∷◌, ◌++◌, length, slice_index, slice_index_or}
+-- The parts of the field that are done, those that lie about one another, and how a part grows.
+use Rattle.std.specs.Prelude.{◌≡◌, ℕ, ◌+◌, ◌%◌, ◌^◌, ◌≤◌, Bool, ◌<◌, List, ◌++◌, length, slice_index_or, IsTrue, ◌⊎◌, [], ◌∷◌, slice_index}
+use Rattle.prefix_min.specs.declared.parts.FieldPart.{FieldPart}
 use Rattle.prefix_min.specs.declared.piece.Piece.{Piece}
-use Rattle.prefix_min.specs.declared.parts.Part.{Part}
-use Rattle.prefix_min.specs.declared.plan.Choice.{Choice}
 use Rattle.prefix_min.specs.declared.savings.LabelCost.{LabelCost}
-use Rattle.prefix_min.specs.Built.{IsBuilt}
+use Rattle.prefix_min.specs.Costs.{Has, RisesFrom}
+use Rattle.prefix_min.specs.declared.plan.Choice.{Choice}
+use Rattle.prefix_min.specs.Merging.{AreAbove}
+use Rattle.prefix_min.specs.Plan.{AreChosen, own_choice}
+use Rattle.prefix_min.specs.Pieces.{label_at, weight_below, IsNext, reach}
+use Rattle.prefix_min.specs.Savings.{AreSavings, alone, lowered}
+use Rattle.prefix_min.specs.Trie.{Node, StandsFor, costs_of}
 use Rattle.prefix_min.specs.Field.{no_piece}
-use Rattle.prefix_min.specs.NextPiece.{IsNext}
-use Rattle.prefix_min.specs.Parts.{IsAbout}
-use Rattle.prefix_min.specs.Pieces.{reach}
-use Rattle.prefix_min.specs.Plan.{own_choice}
-use Rattle.prefix_min.specs.Savings.{alone, lowered}
+
+-- the wide part holds that of so many bits from low on, has no more than most bits, and ends at the limit or below
+pub record IsAbout (low bits most limit : ℕ) (wide : FieldPart) : Type 0 where
+  pub from : wide.low ≤ low
+  pub to : low + 2 ^ bits ≤ wide.low + 2 ^ wide.bits
+  pub less : bits ≤ wide.bits
+  pub short : wide.bits ≤ most
+  pub aligned : wide.low % 2 ^ wide.bits ≡ 0
+  pub ends : wide.low + 2 ^ wide.bits ≤ limit
+
+-- the part of so many bits from low on is done: what it saves stands behind what was there before, and
+-- what it costs, at most the weights of its values, is added to the cost
+pub record IsBuilt (keeps : Bool) (weights : List ℕ) (pieces : List Piece) (bits low : ℕ) (before after : List LabelCost) (old new following : ℕ)
+    (choices_before choices_after : List Choice) (also_before also_after : List ℕ) : Type 0 where
+  pub node : Node
+  pub savings : List LabelCost
+  pub stands : StandsFor weights (label_at pieces) bits low node
+  pub saves : AreSavings weights (costs_of node) savings
+  pub rise : RisesFrom 0 savings
+  pub above : AreAbove savings
+  pub within : (d : ℕ) → Has (costs_of node).labels d → d < length weights
+  pub from : (d : ℕ) → Has (costs_of node).labels d → (k : ℕ) × (k < length pieces) × ((slice_index_or pieces k (record { hi = 0; label = 0 })).label ≡ d)
+  pub pushed : after ≡ before ++ savings
+  pub cost : new ≡ old + (costs_of node).row
+  pub next : IsNext pieces following (low + 2 ^ bits)
+  pub light : (costs_of node).row + weight_below weights 0 pieces low ≤ weight_below weights 0 pieces (low + 2 ^ bits)
+  pub chosen : AreChosen keeps weights (label_at pieces) bits low node choices_before choices_after also_before also_after
 
 -- where the piece at the place ends
 abbrev pub end_of : List Piece → ℕ → ℕ
 end_of pieces k = (slice_index_or pieces k no_piece).hi
 
 -- by this label alone the part saves anything, and all of it, and up to the end of the wide part all values have it
-pub record IsStretch (weights : List ℕ) (pieces : List Piece) (savings : List LabelCost) (label : ℕ) (part : Part) (most next : ℕ) (wide : Part) : Type 0 where
+pub record IsStretch (weights : List ℕ) (pieces : List Piece) (savings : List LabelCost) (label : ℕ) (part : FieldPart) (most next : ℕ) (wide : FieldPart) : Type 0 where
   pub alone_is : savings ≡ alone weights label
   pub weighs : 0 < slice_index weights label
   pub inside : next < length pieces
@@ -25,19 +52,19 @@ pub record IsStretch (weights : List ℕ) (pieces : List Piece) (savings : List 
   pub about : IsAbout part.low part.bits most (end_of pieces next + 1) wide
 
 -- one half of a part is this one: the other lies above it, or below it in the first piece
-abbrev pub IsHalf : List Piece → ℕ → Part → Part → Type 0
+abbrev pub IsHalf : List Piece → ℕ → FieldPart → FieldPart → Type 0
 IsHalf pieces first part about =
     ((about.low ≡ part.low) × ((part.low + 2 ^ part.bits) % 2 ^ part.bits ≡ 0) × (part.low + 2 ^ part.bits + 2 ^ part.bits ≤ reach 0 pieces))
     ⊎ ((about.low + 2 ^ part.bits ≡ part.low) × (first < length pieces) × IsNext pieces first about.low × (part.low ≤ end_of pieces first) × (part.low ≤ reach 0 pieces))
 
 -- the other half is done
-abbrev pub IsBeside : Bool → List ℕ → List Piece → ℕ → Part → Part → List LabelCost → List LabelCost → ℕ → ℕ → ℕ → ℕ → List Choice → List Choice → List ℕ → List ℕ → Type 0
+abbrev pub IsBeside : Bool → List ℕ → List Piece → ℕ → FieldPart → FieldPart → List LabelCost → List LabelCost → ℕ → ℕ → ℕ → ℕ → List Choice → List Choice → List ℕ → List ℕ → Type 0
 IsBeside keeps weights pieces first part about before after old new next following cs0 cs1 al0 al1 =
     ((about.low ≡ part.low) × IsBuilt keeps weights pieces part.bits (part.low + 2 ^ part.bits) before after old new following cs0 cs1 al0 al1)
     ⊎ ((about.low + 2 ^ part.bits ≡ part.low) × IsBuilt keeps weights pieces part.bits about.low before after old new first cs0 cs1 al0 al1 × (following ≡ next))
 
 -- a part of one label is done, and its choice put down where choices are kept
-pub record IsPut (keeps : Bool) (weights : List ℕ) (label : ℕ) (part : Part) (before after : List LabelCost) (old new next following : ℕ) (cs0 cs1 : List Choice) (al0 al1 : List ℕ) : Type 0 where
+pub record IsPut (keeps : Bool) (weights : List ℕ) (label : ℕ) (part : FieldPart) (before after : List LabelCost) (old new next following : ℕ) (cs0 cs1 : List Choice) (al0 al1 : List ℕ) : Type 0 where
   pub savings : after ≡ before ++ lowered 0 (alone weights label)
   pub cost : new ≡ old + slice_index weights label
   pub next_is : following ≡ next

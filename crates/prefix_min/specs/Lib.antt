@@ -1,5 +1,3 @@
-pub mod Pieces
-pub mod NextPiece
 pub mod PrefixList
 pub mod Order
 pub mod Costs
@@ -8,8 +6,7 @@ pub mod Choice
 pub mod Rows
 pub mod Savings
 pub mod Merging
-pub mod Built
 pub mod Plan
 pub mod Field
-pub mod Parts
+pub mod Pieces
 pub mod Growth

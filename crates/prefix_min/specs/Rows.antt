@@ -1,13 +1,10 @@
 -- The rows of a part of the field.
-use Rattle.std.specs.Prelude.{◌≡◌, ℕ, zero, suc, ◌+◌, ◌-◌, ◌%◌, ◌^◌, ◌<◌, ◌≤◌, true, List, [], ◌∷◌, ◌++◌, unwrap_or, length}
+use Rattle.std.specs.Prelude.{◌≡◌, ℕ, ◌+◌, ◌-◌, ◌%◌, ◌^◌, ◌<◌, ◌≤◌, true, List, [], ◌∷◌, unwrap_or, length}
 use Rattle.std.specs.List.{AllByRecursion, Contains}
 use Rattle.field_boxes.specs.Headline.Prefix.{FitsWidth, prefix_holds}
 use Rattle.prefix_min.specs.declared.row.PrefixRow.{PrefixRow}
-use Rattle.prefix_min.specs.Trie.{Node, Constant, Halves}
 use Rattle.prefix_min.specs.PrefixList.{front, weight}
 use Rattle.prefix_min.specs.Choice.{IsWorthIn}
-use Rattle.prefix_min.specs.Costs.{least_cost}
-use Rattle.prefix_min.specs.Trie.{StandsFor, costs_of}
 
 -- a part of so many bits from low on is the values of a prefix
 pub record IsPart (width bits low : ℕ) : Type 0 where
@@ -15,12 +12,6 @@ pub record IsPart (width bits low : ℕ) : Type 0 where
   pub len : bits ≤ width
   pub within : low + 2 ^ bits ≤ 2 ^ width
   pub aligned : low % 2 ^ bits ≡ 0
-
--- the trie is no deeper than the bits
-abbrev pub FitsBits : ℕ → Node → Type 0
-FitsBits bits (Constant c) = Unit {0}
-FitsBits zero (Halves c lower upper) = ⊥
-FitsBits (suc bits) (Halves c lower upper) = FitsBits bits lower × FitsBits bits upper
 
 -- the row of all values of a part
 abbrev pub row_of : ℕ → ℕ → ℕ → ℕ → PrefixRow
@@ -56,17 +47,3 @@ pub record AreFieldRows (weights : List ℕ) (f : ℕ → ℕ) (width cost : ℕ
   pub part : (d : ℕ) → ArePartRows weights f width width 0 d cost rows
   pub label : ℕ
   pub whole : Contains rows (row_of width width 0 label)
-
--- the new rows are the old ones and some of which P holds
-abbrev pub Appends : List PrefixRow → List PrefixRow → (List PrefixRow → Type 0) → Type 0
-Appends old new P = (rows : List PrefixRow) × (new ≡ old ++ rows) × P rows
-
--- writing a part, where d is inherited, adds rows of the part at its least cost
-abbrev pub WritesPart : ℕ → ℕ → ℕ → ℕ → Node → List PrefixRow → List PrefixRow → Type 0
-WritesPart width bits low d node old new =
-    (weights : List ℕ) (f : ℕ → ℕ) → StandsFor weights f bits low node → Appends old new (ArePartRows weights f width bits low d (least_cost (costs_of node) d))
-
--- the rows of the field, at its least cost with a row of its own
-abbrev pub WritesField : ℕ → Node → List PrefixRow → Type 0
-WritesField width root rows =
-    (weights : List ℕ) (f : ℕ → ℕ) → StandsFor weights f width 0 root → AreFieldRows weights f width (costs_of root).row rows

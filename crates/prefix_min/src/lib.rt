@@ -22,20 +22,20 @@
 //!
 //! | Room | Holds |
 //! |---|---|
-//! | `cheapest`, `costing` | the calls |
-//! | `piece`, `row`, `order` | pieces of a field, rows of a list, and their order |
-//! | `parts`, `stack`, `savings`, `merging`, `pairs` | the field in halves, and what each part costs and saves |
-//! | `plan`, `appending` | what the parts choose to write |
+//! | `costing` | the calls, and the room in which they work |
+//! | `piece`, `row` | pieces of a field, rows of a list, and their order |
+//! | `parts` | parts of the field: the values below one prefix |
+//! | `field`, `field::whole_field` | what each part costs and saves, and the whole field |
+//! | `stack` | the state of a call: what the parts that are done save, cost and choose |
+//! | `savings`, `savings::merging`, `savings::pairs` | what a part saves, from what its halves save |
+//! | `plan`, `appending` | what the parts choose to write, and pushes into its arena |
 //! | `laws` | pieces that grow |
 #![tactic(auto)]
 
 mod appending;
-mod cheapest;
 mod costing;
+mod field;
 pub mod laws;
-mod merging;
-mod order;
-mod pairs;
 mod parts;
 mod piece;
 mod plan;
@@ -43,7 +43,6 @@ mod row;
 mod savings;
 mod stack;
 
-pub use cheapest::{Cheapest, minimise};
-pub use costing::Costing;
+pub use costing::{Cheapest, Costing, minimise};
 pub use piece::Piece;
 pub use row::PrefixRow;

@@ -1,16 +1,16 @@
 //! Parts of the field: the values below one prefix.
 ghost use Rattle.std.specs.Prelude.{◌≡◌, ◌≤◌, ◌<◌, ◌+◌, ◌-◌, ◌%◌, ◌^◌};
-ghost use Rattle.prefix_min.specs.Parts.{IsAbout};
+ghost use Rattle.prefix_min.specs.Growth.{IsAbout};
 
 /// The values that differ from `low` in the lowest `bits` bits only.
 #[derive(Clone, Copy)]
-pub struct Part {
+pub struct FieldPart {
     pub low: u32,
     pub bits: u8,
 }
 
 /// The first value above the part.
-pub fn end(part: Part) -> u64
+pub fn end(part: FieldPart) -> u64
     requires { part.bits ≤ 32 }
     ensures { result ≡ part.low + 2 ^ part.bits }
 {
@@ -38,21 +38,21 @@ pub fn middle(bits: u8, low: u32) -> u32
 }
 
 /// The part of so many bits that holds the value.
-pub fn around(low: u32, bits: u8) -> Part
+pub fn around(low: u32, bits: u8) -> FieldPart
     requires { bits ≤ 32 }
     ensures bits { result.bits ≡ bits }
     ensures low { result.low ≡ low - low % 2 ^ bits }
 {
     let low = u64::from(low);
     let over = low % (1u64 << bits);
-    Part {
+    FieldPart {
         low: (low - over) as u32,
         bits,
     }
 }
 
 /// The part of which this one is a half.
-pub fn about(part: Part) -> Part
+pub fn about(part: FieldPart) -> FieldPart
     requires { part.bits < 32 }
     ensures bits { result.bits ≡ part.bits + 1 }
     ensures low { result.low ≡ part.low - part.low % 2 ^ (part.bits + 1) }
@@ -63,7 +63,7 @@ pub fn about(part: Part) -> Part
 /// The greatest part about this one that has no more than `most` bits and ends at `limit` or below.
 ///
 /// It has no more bits than the place of the highest bit in which its low value and the limit differ.
-pub fn widest(part: Part, most: u8, limit: u64) -> Part
+pub fn widest(part: FieldPart, most: u8, limit: u64) -> FieldPart
     requires wide { most ≤ 32 }
     requires less { part.bits ≤ most }
     requires aligned { part.low % 2 ^ part.bits ≡ 0 }
@@ -80,11 +80,11 @@ pub fn widest(part: Part, most: u8, limit: u64) -> Part
 }
 
 /// The greatest part of no more than `most` bits that ends with the value.
-pub fn ending(value: u32, most: u8) -> Part
+pub fn ending(value: u32, most: u8) -> FieldPart
     requires { most ≤ 32 }
     ensures { IsAbout value 0 most (value + 1) result }
 {
-    let last = Part {
+    let last = FieldPart {
         low: value,
         bits: 0,
     };

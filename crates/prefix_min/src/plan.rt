@@ -3,7 +3,7 @@ ghost use Rattle.std.specs.Prelude.{◌≡◌, ◌++◌, ◌∷◌, [], ◌+◌,
 ghost use Rattle.prefix_min.specs.Plan.{Forest, IsLaid, IsTopped, among, no_choice, own_choice, rows_of, silent};
 
 use crate::appending::append;
-use crate::parts::Part;
+use crate::parts::FieldPart;
 use crate::row::PrefixRow;
 use crate::savings::Gain;
 use bumpalo::Bump;
@@ -29,7 +29,7 @@ pub struct Choice {
 #[inline(always)]
 fn choice_of(
     label: u32,
-    part: Part,
+    part: FieldPart,
     below: usize,
     also: usize,
     end: usize,
@@ -68,7 +68,7 @@ pub fn put(
     keeps: bool,
     also: usize,
     label: u32,
-    part: Part,
+    part: FieldPart,
     below: usize,
 ) -> Result<(), Memory>
     ensures { OnOk result (IsTrue keeps → choices.new.items ≡ choices.old.items ++ own_choice part.low part.bits label below also also ∷ []) }
@@ -98,7 +98,7 @@ pub fn choose(
     choices: &mut Vec<Choice, &Bump>,
     keeps: bool,
     gain: Gain,
-    part: Part,
+    part: FieldPart,
     below: usize,
     also: usize,
     end: usize,

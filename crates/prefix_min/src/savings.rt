@@ -5,6 +5,9 @@ ghost use Rattle.prefix_min.specs.Plan.{more_labels};
 ghost use Rattle.prefix_min.specs.Savings.{AreSums, IsGain, alone, further, lowered, raised, saved, with_one};
 ghost use Rattle.prefix_min.specs.declared.savings.LabelCost.{LabelCost};
 
+pub(crate) mod merging;
+mod pairs;
+
 use crate::appending::append;
 use bumpalo::Bump;
 use razor_base::Memory;

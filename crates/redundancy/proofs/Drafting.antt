@@ -23,9 +23,9 @@ use Rattle.redundancy_laws.specs.Rows.{Row, in_front}
 use Rattle.redundancy_laws.specs.Layers.{AreApartFrom}
 use Rattle.redundancy_laws.specs.Sifted.{context_at, node_at, AreContexts, IsSifted, AreBelow, IsSoFar, LeadOn}
 use Rattle.redundancy_laws.proofs.Kept.{next-so-far, same-so-far, so-far-stays, below-stays}
-use Rattle.redundancy.specs.declared.run_contexts.Stretch.{Stretch}
-use Rattle.redundancy.specs.declared.layer_draft.Change.{Change}
-use Rattle.redundancy.specs.declared.layer_draft.Draft.{Draft}
+use Rattle.redundancy.specs.declared.contexts.Stretch.{Stretch}
+use Rattle.redundancy.specs.declared.sifting.layer.Change.{Change}
+use Rattle.redundancy.specs.declared.sifting.layer.Draft.{Draft}
 use Rattle.redundancy.specs.Stretches.{stretch_at, FillSpan, stretches_at, AreListed}
 use Rattle.redundancy.specs.Drafts.{placed_by, placed_in, placed_for, leads_of, IsChange, IsTakenIn, RiseUpTo, IsDraft}
 use Rattle.redundancy.proofs.Numbers.{number_stays}

@@ -1,5 +1,11 @@
--- The runs of a table, one after another.
-use Rattle.std.proofs.Common.{◌≡◌, ◌∷◌, ◌++◌, ℕ, suc, List, [], ◌+◌, ◌<◌, ◌≤◌, length, refl, ap, arith, sym, ◌∙◌, subst, get_or, map, take, append_assoc}
+-- The runs of a table, one after another: entries with the interval of the level's first field in front.
+use Rattle.std.proofs.Common.{◌≡◌, ◌∷◌, ◌≤◌, ℕ, List, [], ap, get_or, ◌++◌, suc, ◌+◌, ◌<◌, length, refl, arith, sym, ◌∙◌, subst, map, take, append_assoc}
+use Rattle.ternary_words.specs.declared.entry.Entry.{Entry}
+use Rattle.field_boxes.specs.Headline.Classifier.{Interval}
+use Rattle.field_boxes.specs.Fields.{greatest_of}
+use Rattle.node_store.specs.Levels.{HasField, next as next_level, top_of}
+use Rattle.redundancy_laws.specs.Built.{row_at, span_at}
+use Rattle.redundancy_laws.specs.Rows.{in_front, Row}
 use Rattle.std.proofs.lemmas.List.Elements.{All-push}
 use Rattle.std.specs.Prelude.{All, Option, Some, None, slice_get}
 use Rattle.std.proofs.Math.Seq.{take-suc}
@@ -7,25 +13,29 @@ use Rattle.std.proofs.lemmas.List.{append-nil, map-append}
 use Rattle.std.proofs.lemmas.List.Concat.{flat_map-append}
 use Rattle.std.specs.List.{flat_map}
 use Rattle.std.proofs.lemmas.Option.{slice_get_within}
-use Rattle.node_store.specs.Levels.{next as next_level, top_of}
 use Rattle.field_boxes.specs.Spans.{interval_of}
 use Rattle.node_store.specs.Diagram.{Node}
 use Rattle.node_store.specs.Store.{Grows}
 use Rattle.node_store.proofs.Growth as growth
-use Rattle.redundancy_laws.specs.Rows.{Row, in_front}
 use Rattle.redundancy_laws.specs.Layers as laws
 use Rattle.redundancy_laws.specs.Layers.{rows_of_runs}
-use Rattle.redundancy.specs.declared.block.Run.{Run}
+use Rattle.redundancy.specs.declared.blocks.Run.{Run}
 use Rattle.redundancy.specs.declared.blocks.Blocks.{Blocks}
-use Rattle.redundancy.specs.declared.lists.Item.TheVariants.{Behind}
-use Rattle.redundancy.specs.declared.lists.Lists.{Lists}
-use Rattle.redundancy.specs.declared.lists.Piece.{Piece}
-use Rattle.redundancy.specs.Blocks.{FitsRun, IsBlocks, rows_of, run_by}
-use Rattle.redundancy.specs.Built.{AreBuilt, BlocksGrow, FitRuns, IsBuilt, StandAt, StandsAt}
-use Rattle.redundancy.specs.Gathered.{AreGathered}
-use Rattle.redundancy.specs.Lists.{AreLists, IsBefore, IsListed, ListsGrow, interval_of_piece, item_rows, list_rows}
-use Rattle.redundancy.proofs.Sequences.{flat_stays, stand}
+use Rattle.redundancy.specs.declared.blocks.lists.Item.TheVariants.{Behind}
+use Rattle.redundancy.specs.declared.blocks.lists.Lists.{Lists}
+use Rattle.redundancy.specs.declared.blocks.lists.ListedRun.{ListedRun}
+use Rattle.redundancy.specs.Blocks.{FitsRun, IsBlocks, rows_of, run_by, AreBuilt, BlocksGrow, FitRuns, IsBuilt, StandAt, StandsAt}
+use Rattle.redundancy.specs.Lists.{AreGathered, AreLists, IsBefore, IsListed, ListsGrow, interval_of_run, item_rows, list_rows}
+use Rattle.redundancy.proofs.BlockRows.{flat_stays, stand}
 use Rattle.redundancy.proofs.ListRows.{before_more, fits_more, none_listed, rows_agree}
+
+pub front : (level : List ℕ) (e : Entry) (span : Interval) → HasField level → span_at (get_or level 0 0) e ≡ span → row_at level e ≡ in_front span (row_at (next_level level) e)
+front [] e span has is = absurd has
+front (f ∷ level) e span has is = ap (λ s. in_front s (row_at level e)) is
+
+pub inside : (level : List ℕ) (hi : ℕ) → HasField level → hi ≤ greatest_of (get_or level 0 0) → hi ≤ top_of level
+inside [] hi has h = absurd has
+inside (f ∷ level) hi has h = h
 
 pub listed_grows : (blocks : Blocks) (old new : Lists) (rows : List Row) (list : Option ℕ) → IsListed blocks old new rows list → ListsGrow blocks blocks old new
 listed_grows blocks old new rows list h = record { lists = h.lists; count = h.count; stay = h.stay }
@@ -95,10 +105,10 @@ gathered_none s b lists level blocks h =
     let none = none_listed b lists h in
     record { blocks = blocks_same s b blocks; lists_grow = listed_grows b lists lists [] None none; within = tt; list_is = none.rows_are; runs_are = refl; leads = λ k d less. absurd (omega (arith, less)) }
 
-pub gathered_more : (s0 s1 s2 : List Node) (b0 b1 b2 : Blocks) (l0 l1 l2 l3 : Lists) (level next : List ℕ) (done rows : List Row) (list : Option ℕ) (place : ℕ) (runs more : List Run) (run : Run) (piece : Piece) → next ≡ next_level level →
+pub gathered_more : (s0 s1 s2 : List Node) (b0 b1 b2 : Blocks) (l0 l1 l2 l3 : Lists) (level next : List ℕ) (done rows : List Row) (list : Option ℕ) (place : ℕ) (runs more : List Run) (run : Run) (piece : ListedRun) → next ≡ next_level level →
     AreGathered s0 s1 b0 b1 l0 l1 level done list runs → IsBuilt s1 s2 b1 b2 next rows run.block → ListsGrow b1 b2 l1 l2 →
     IsListed b2 l2 l3 (list_rows (rows_of b2.blocks.items) l2.links.keys list ++ item_rows (rows_of b2.blocks.items) (Behind piece)) (Some place) →
-    interval_of_piece piece ≡ interval_of run.span → piece.block ≡ run.block → run.span.hi ≤ top_of level → more ≡ runs ++ run ∷ [] →
+    interval_of_run piece ≡ interval_of run.span → piece.block ≡ run.block → run.span.hi ≤ top_of level → more ≡ runs ++ run ∷ [] →
     AreGathered s0 s2 b0 b2 l0 l3 level (done ++ map (in_front (interval_of run.span)) rows) (Some place) more
 gathered_more s0 s1 s2 b0 b1 b2 l0 l1 l2 l3 level next done rows list place runs more run piece one g built lists listed span block inside to =
     let grown = built_grows s1 s2 b1 b2 next run.block rows built in

@@ -1,37 +1,89 @@
--- The runs of a layer in turn, and its end.
-use Rattle.std.proofs.Common.{◌≡◌, ◌∷◌, ◌++◌, ℕ, suc, List, [], ◌<◌, ◌≤◌, ◌+◌, length, take, ap, arith, sym, ◌∙◌, subst}
-use Rattle.std.specs.Prelude.{All, Some, map, option_map, slice_get}
-use Rattle.std.proofs.Math.Seq.{take-length}
-use Rattle.std.proofs.lemmas.List.{length-map}
-use Rattle.std.proofs.lemmas.Option.{slice_get-map}
-use Rattle.std.proofs.lemmas.List.Elements.{All-head, All-tail, All-nil}
-use Rattle.node_store.specs.Levels.{HasField, next as next_level, top_of}
-use Rattle.node_store.proofs.Canonical.{is_level, is_next}
-use Rattle.field_boxes.specs.Spans.{interval_of}
-use Rattle.node_store.specs.declared.edge.NodeId.{NodeId}
+-- The runs of a layer in turn, each by the lists as slices, and its end.
+use Rattle.std.proofs.Common.{◌≡◌, ◌++◌, ℕ, suc, List, [], ◌<◌, ◌+◌, length, take, get_or, ap, arith, sym, ◌∙◌, subst, ◌≤◌, ◌∷◌}
+use Rattle.std.proofs.Math.Seq.{take-suc, take-length}
+use Rattle.std.specs.Prelude.{All, map, Some, option_map, slice_get}
+use Rattle.smallvec.specs.SmallVec.{SmallVec}
+use Rattle.std.proofs.lemmas.List.{get_or-map, length-map}
+use Rattle.field_boxes.specs.Headline.Classifier.{Interval}
 use Rattle.node_store.specs.Diagram.{Node, answer, level_of, edges_of}
-use Rattle.node_store.specs.Store.{Grows, IsStore}
-use Rattle.node_store.proofs.Growth.{twice}
 use Rattle.field_sets.specs.declared.placed.Placed.{Placed}
-use Rattle.field_sets.specs.Placed.{led}
 use Rattle.redundancy_laws.specs.declared.context.Context.{Context}
+use Rattle.redundancy.specs.declared.contexts.Stretch.{Stretch}
+use Rattle.redundancy.specs.declared.sifting.layer.Change.{Change}
+use Rattle.redundancy.specs.Stretches.{AreListed, stretch_at, stretches_at}
+use Rattle.redundancy.specs.Drafts.{HaveRoom, placed_in, placed_for, IsTakenIn, IsDraft, leads_of, RiseUpTo, AreChanges}
+use Rattle.redundancy.proofs.Drafting.{change_more, listed_below, run_end, later_end, rise_inside}
+use Rattle.field_boxes.specs.declared.span.Span.{Span}
+use Rattle.node_store.specs.Levels.{HasField, next as next_level, top_of}
+use Rattle.field_boxes.specs.Spans.{interval_of}
+use Rattle.node_store.specs.Store.{Grows, IsStore}
 use Rattle.redundancy_laws.specs.declared.sifted.Sifted.{Sifted}
 use Rattle.redundancy_laws.specs.Rows.{Row, in_front}
+use Rattle.redundancy_laws.specs.Layers.{AreApartFrom, AreApart, rows_of_runs, end_of}
+use Rattle.redundancy_laws.specs.Sifted.{AreContexts, IsSifted, no_node, context_at, node_at, IsSoFar, LeadsAs}
+use Rattle.redundancy_laws.proofs.Below.{pairs-below}
+use Rattle.redundancy.specs.declared.sifting.layer.Draft.{Draft}
+use Rattle.std.proofs.lemmas.Option.{slice_get-map}
+use Rattle.std.proofs.lemmas.List.Elements.{All-head, All-tail, All-nil}
+use Rattle.node_store.proofs.Canonical.{is_level, is_next}
+use Rattle.node_store.specs.declared.edge.NodeId.{NodeId}
+use Rattle.node_store.proofs.Growth.{twice}
+use Rattle.field_sets.specs.Placed.{led}
 use Rattle.redundancy_laws.specs.Layers as laws
-use Rattle.redundancy_laws.specs.Layers.{AreApart, AreApartFrom, rows_of_runs, end_of}
-use Rattle.redundancy_laws.specs.Sifted.{no_node, context_at, node_at, AreContexts, IsSifted, IsSoFar, LeadsAs}
 use Rattle.redundancy_laws.proofs.Apart.{apart-from, rows-more}
 use Rattle.redundancy_laws.proofs.Covers.{end-more}
 use Rattle.redundancy_laws.proofs.Kept.{none-so-far, so-far-stays, layer-sifted, made, made-stays, pairs-stay}
-use Rattle.redundancy.specs.declared.block.Run.{Run}
-use Rattle.redundancy.specs.declared.block.Cover.{Cover}
-use Rattle.redundancy.specs.declared.layer_draft.Change.{Change}
-use Rattle.redundancy.specs.declared.layer_draft.Draft.{Draft}
+use Rattle.redundancy.specs.declared.blocks.Run.{Run}
+use Rattle.redundancy.specs.declared.blocks.Cover.{Cover}
 use Rattle.redundancy.specs.Blocks.{run_by, FitsRun, RiseApart}
-use Rattle.redundancy.specs.Drafts.{placed_for, leads_of, RiseUpTo, AreChanges, IsDraft}
-use Rattle.redundancy.proofs.Numbers.{number_stays, edges_stay}
-use Rattle.redundancy.proofs.Drafting.{later_end, rise_inside}
-use Rattle.redundancy.proofs.Places.{pushed_to}
+use Rattle.redundancy.proofs.Numbers.{number_stays, edges_stay, pushed_to}
+
+pub have_room : (nodes : List Node) (span : Interval) (pairs lower : List Context) (lists : List (SmallVec Stretch)) (count : ℕ) → count ≡ length lower → AreListed nodes span pairs (length pairs) lower lists → HaveRoom count lists
+have_room nodes span pairs lower lists count is listed k d less =
+    subst (λ n. All (λ (s : Stretch). s.place < n) (get_or lists k d).items) (sym is)
+    (subst (All (λ (s : Stretch). s.place < length lower)) (get_or-map (λ (own : SmallVec Stretch). own.items) lists k d [] less) (listed.each k (let n = listed.number in omega (arith, less, n))).within)
+
+-- what one change more says of a context
+pub gathered_next : (changes : List Change) (k place : ℕ) (e : Change) (d : SmallVec Placed) (placed longer piece : List Placed) → k < length changes → place < length (get_or changes k e).placed.items →
+    placed ≡ placed_for (take k changes) place → longer ≡ placed ++ piece → piece ≡ (get_or (get_or changes k e).placed.items place d).items → longer ≡ placed_for (take (k + 1) changes) place
+gathered_next changes k place e d placed longer piece less room before longer_is piece_is =
+    let one : suc k ≡ k + 1 = omega arith in
+    longer_is
+    ∙ ap (λ ps. placed ++ ps) (piece_is ∙ sym (get_or-map (λ (own : SmallVec Placed). own.items) (get_or changes k e).placed.items place d [] room))
+    ∙ ap (λ ps. ps ++ placed_in (get_or changes k e) place) before
+    ∙ sym (change_more (take k changes) (get_or changes k e) place)
+    ∙ ap (λ cs. placed_for cs place) (sym (take-suc changes k e less) ∙ ap (λ m. take m changes) one)
+
+pub pairs_listed : (nodes : List Node) (level wide : List ℕ) (span : Span) (pairs lower now : List Context) (lists : List (SmallVec Stretch)) → IsStore nodes → HasField level → wide ≡ next_level level → AreContexts nodes level pairs →
+    span.hi ≤ top_of level → AreListed nodes (interval_of span) pairs (length pairs) lower lists → now ≡ lower → AreContexts nodes wide now
+pairs_listed nodes level wide span pairs lower now lists store five same are inside listed is =
+    subst (λ w. AreContexts nodes w now) (sym same) (subst (AreContexts nodes (next_level level)) (sym is)
+    (pairs-below nodes level (interval_of span) pairs lower (λ c v. stretch_at (stretches_at lists c) v) store five are (listed_below nodes level (interval_of span) pairs lower lists inside listed)))
+
+pub run_clause : (base old new : List Node) (level wide : List ℕ) (rows more : List Row) (pairs lower lower_now : List Context) (next : ℕ) (span : Span) (lists lists_now : List (SmallVec Stretch)) (inner : Sifted) (d e : Draft) →
+    wide ≡ next_level level → lower_now ≡ lower → lists_now ≡ lists → HasField level → Grows old new → AreContexts old level pairs → span.hi ≤ top_of level → AreListed old (interval_of span) pairs (length pairs) lower lists →
+    IsSifted new wide more lower_now inner → next ≤ span.lo → AreApartFrom (interval_of span) rows → IsDraft base old level rows pairs next d → IsTakenIn d lists_now inner e →
+    IsDraft base new level (rows ++ map (in_front (interval_of span)) more) pairs (suc span.hi) e
+run_clause base old new level wide rows more pairs lower lower_now next span lists lists_now inner d e same ln sn five grown are inside listed sifted above apart draft taken =
+    run_end base old new level rows more pairs lower next span lists inner d e
+    (record {
+      five = five;
+      grown = grown;
+      are = are;
+      inside = inside;
+      listed = listed;
+      sifted = subst (λ w. IsSifted new w more lower inner) same (subst (λ ps. IsSifted new wide more ps inner) ln sifted);
+      above = above;
+      apart = apart;
+      draft = draft;
+      taken = subst (λ ss. IsTakenIn d ss inner e) sn taken;
+    })
+
+pub answers_room : (nodes new : List Node) (level : List ℕ) (rows : List Row) (span : Span) (pairs lower lower_now : List Context) (lists lists_now : List (SmallVec Stretch)) (inner : Sifted) → lower_now ≡ lower → lists_now ≡ lists →
+    AreListed nodes (interval_of span) pairs (length pairs) lower lists → IsSifted new level rows lower_now inner → HaveRoom (length inner.after.items) lists_now
+answers_room nodes new level rows span pairs lower lower_now lists lists_now inner ln sn listed sifted =
+    subst (HaveRoom (length inner.after.items)) (sym sn)
+    (have_room nodes (interval_of span) pairs lower lists (length inner.after.items) (sifted.count ∙ ap (λ (ps : List Context). length ps) ln) listed)
 
 -- runs are apart whatever their rows
 apart_by : (rows others : ℕ → List Row) (least : ℕ) (runs : List Run) → AreApart least (map (run_by rows) runs) → AreApart least (map (run_by others) runs)

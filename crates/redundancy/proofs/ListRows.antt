@@ -8,12 +8,12 @@ use Rattle.std.proofs.lemmas.List.{length-append, length-set, append-nil}
 use Rattle.std.proofs.lemmas.Option.{slice_get_within, same_Some}
 use Rattle.redundancy_laws.specs.Rows.{Row, in_front}
 use Rattle.redundancy.specs.declared.blocks.Blocks.{Blocks}
-use Rattle.redundancy.specs.declared.lists.Item.{Item}
-use Rattle.redundancy.specs.declared.lists.Item.TheVariants.{Last, Behind}
-use Rattle.redundancy.specs.declared.lists.Link.{Link}
-use Rattle.redundancy.specs.declared.lists.Lists.{Lists}
+use Rattle.redundancy.specs.declared.blocks.lists.Item.{Item}
+use Rattle.redundancy.specs.declared.blocks.lists.Item.TheVariants.{Last, Behind}
+use Rattle.redundancy.specs.declared.blocks.lists.Link.{Link}
+use Rattle.redundancy.specs.declared.blocks.lists.Lists.{Lists}
 use Rattle.redundancy.specs.Blocks.{rows_of}
-use Rattle.redundancy.specs.Lists.{AreLinks, AreKnown, AreLists, FitsItem, IsBefore, IsListed, ListsGrow, enough, interval_of_piece, item_rows, link_rows_by, list_rows, list_within}
+use Rattle.redundancy.specs.Lists.{AreLinks, AreKnownLists, AreLists, FitsItem, IsBefore, IsListed, ListsGrow, enough, interval_of_run, item_rows, link_rows_by, list_rows, list_within}
 
 before_enough : (most : ℕ) (list : Option ℕ) → IsBefore most list → enough list ≤ most
 before_enough most None h = omega arith
@@ -37,7 +37,7 @@ AgreeTo most rows others = (k : ℕ) → k < most → others k ≡ rows k
 
 items_agree : (most : ℕ) (rows others : ℕ → List Row) (item : Item) → AgreeTo most rows others → FitsItem most item → item_rows others item ≡ item_rows rows item
 items_agree most rows others (Last decision) agree f = refl
-items_agree most rows others (Behind piece) agree f = ap (map (in_front (interval_of_piece piece))) (agree piece.block f)
+items_agree most rows others (Behind piece) agree f = ap (map (in_front (interval_of_run piece))) (agree piece.block f)
 
 -- rows don't depend on how often lists may lead on, nor on later links, nor on later blocks
 module _ (most : ℕ) (rows others : ℕ → List Row) (links more : List Link) (leads : AreLinks most links) (agree : AgreeTo most rows others) where
@@ -111,8 +111,8 @@ links_more most links link leads before item place l e = elim (place_cases links
 none_some : (number : ℕ) (X : Type 0) → Some (Some number) ≡ Some None → X
 none_some number X h = absurd (cc)
 
-known_more : (rows : ℕ → List Row) (most : ℕ) (links : List Link) (link : Link) (known : List (Option ℕ)) → AreLinks most links → length known ≡ length links → AreKnown rows most links known →
-    AreKnown rows most (links ++ link ∷ []) (known ++ None ∷ [])
+known_more : (rows : ℕ → List Row) (most : ℕ) (links : List Link) (link : Link) (known : List (Option ℕ)) → AreLinks most links → length known ≡ length links → AreKnownLists rows most links known →
+    AreKnownLists rows most (links ++ link ∷ []) (known ++ None ∷ [])
 known_more rows most links link known leads count h place number e = elim (place_cases known None place (Some number) e) [
   | inl old ↦
       let k = h place number old.1 in
@@ -134,7 +134,7 @@ module _ (blocks : Blocks) (old new : Lists) (link : Link) (place : ℕ) (lists 
     lists = record {
       links = subst (AreLinks most) (sym e) lists.links;
       count = ap length k ∙ lists.count ∙ ap length (sym e);
-      known = subst (λ ks. AreKnown rows most ks new.known.items) (sym e) (subst (AreKnown rows most old.links.keys) (sym k) lists.known);
+      known = subst (λ ks. AreKnownLists rows most ks new.known.items) (sym e) (subst (AreKnownLists rows most old.links.keys) (sym k) lists.known);
     };
     count = omega (arith, ap length e);
     stay = λ other b. ap (λ ks. list_rows rows ks other) e;
@@ -150,7 +150,7 @@ module _ (blocks : Blocks) (old new : Lists) (link : Link) (place : ℕ) (lists 
         lists = record {
           links = subst (AreLinks most) (sym e) more;
           count = ap length k ∙ length-append old.known.items (None ∷ []) ∙ ap (λ n. n + 1) lists.count ∙ sym (ap length e ∙ length-append old.links.keys (link ∷ []));
-          known = subst (λ ks. AreKnown rows most ks new.known.items) (sym e) (subst (AreKnown rows most (old.links.keys ++ link ∷ [])) (sym k) (known_more rows most old.links.keys link old.known.items lists.links lists.count lists.known));
+          known = subst (λ ks. AreKnownLists rows most ks new.known.items) (sym e) (subst (AreKnownLists rows most (old.links.keys ++ link ∷ [])) (sym k) (known_more rows most old.links.keys link old.known.items lists.links lists.count lists.known));
         };
         count = omega (arith, ap length e, length-append old.links.keys (link ∷ []));
         stay = λ other b. ap (λ ks. list_rows rows ks other) e ∙ stays other b;
@@ -180,7 +180,7 @@ kept blocks old new place number h within rows e k = record {
   stay = λ other b. ap (λ ks. list_rows (rows_of blocks.blocks.items) ks other) e;
 }
   where
-    all : AreKnown (rows_of blocks.blocks.items) (length blocks.blocks.items) old.links.keys (set old.known.items place (Some number))
+    all : AreKnownLists (rows_of blocks.blocks.items) (length blocks.blocks.items) old.links.keys (set old.known.items place (Some number))
     all other found s = elim (set_cases old.known.items place (Some number) other (Some found) s) [
       | inl before ↦ h.known other found before
       | inr new ↦
@@ -193,8 +193,8 @@ kept blocks old new place number h within rows e k = record {
     lists = record {
       links = subst (AreLinks (length blocks.blocks.items)) (sym e) h.links;
       count = ap length k ∙ length-set old.known.items place (Some number) ∙ h.count ∙ sym (ap length e);
-      known = subst (λ ks. AreKnown (rows_of blocks.blocks.items) (length blocks.blocks.items) ks new.known.items) (sym e)
-          (subst (AreKnown (rows_of blocks.blocks.items) (length blocks.blocks.items) old.links.keys) (sym k) all);
+      known = subst (λ ks. AreKnownLists (rows_of blocks.blocks.items) (length blocks.blocks.items) ks new.known.items) (sym e)
+          (subst (AreKnownLists (rows_of blocks.blocks.items) (length blocks.blocks.items) old.links.keys) (sym k) all);
     }
 
 -- other blocks change no rows

@@ -18,9 +18,9 @@ use Rattle.field_sets.specs.Fill.{Fill}
 use Rattle.field_sets.specs.Parting.{IsSplitWithin}
 use Rattle.redundancy_laws.specs.declared.context.Context.{Context}
 use Rattle.redundancy_laws.specs.Sifted.{no_context, context_at, context_below}
-use Rattle.redundancy.specs.declared.run_contexts.Stretch.{Stretch}
-use Rattle.redundancy.specs.Stretches.{context_of, AreStretches, stretch_at, FillSpan, stretches_at, IsListed, AreListed, Gains}
-use Rattle.redundancy.proofs.Places.{last_item, pushed_to}
+use Rattle.redundancy.specs.declared.contexts.Stretch.{Stretch}
+use Rattle.redundancy.specs.Stretches.{context_of, AreStretches, stretch_at, FillSpan, stretches_at, AreStretchesOf, AreListed, Gains}
+use Rattle.redundancy.proofs.Numbers.{last_item, pushed_to}
 
 -- pairs keep their places
 abbrev Stay : List Context → List Context → Type 0
@@ -133,7 +133,7 @@ module _ (nodes : List Node) (span : Interval) (pairs : List Context) (n : ℕ) 
       (slice_get_within more k (context_at lower k) at, get_or_from_slice_get more k (context_at lower k) no_context at)
 
   abbrev Listed : List Context → ℕ → List Stretch → Type 0
-  Listed all c ss = IsListed nodes span (context_at pairs c) all ss
+  Listed all c ss = AreStretchesOf nodes span (context_at pairs c) all ss
 
   old_listed : Stay lower more → (c : ℕ) (ss : List Stretch) → Listed lower c ss → Listed more c ss
   old_listed stay c ss h = record {

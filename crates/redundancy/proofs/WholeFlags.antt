@@ -1,21 +1,41 @@
 -- Flags of the entries of a whole table.
-use Rattle.std.proofs.Common.{◌≡◌, ◌∷◌, ℕ, List, [], Bool, length, map, refl, ap, arith, subst, ◌∙◌, inl}
+use Rattle.std.proofs.Common.{◌≡◌, ◌+◌, ◌<◌, ℕ, List, [], Bool, length, ap, arith, subst, sym, ◌∙◌, get_or, inl, inr, ◌∷◌, map, refl}
+use Rattle.std.proofs.lemmas.Bool.{cases_lt}
+use Rattle.std.proofs.lemmas.List.{get_or_default, length-map}
+use Rattle.ternary_words.specs.declared.entry.Entry.{Entry}
+use Rattle.redundancy_laws.specs.Built.{ArePrefixes, row_at}
+use Rattle.redundancy_laws.specs.Flags.{AreRightFlags, with_flags}
+use Rattle.field_boxes.specs.Orders.{IsOrder}
+use Rattle.redundancy_laws.specs.Pass.{Keeps}
+use Rattle.redundancy_laws.proofs.Chosen.{chosen}
 use Rattle.std.specs.Prelude.{◌==◌, not}
-use Rattle.std.proofs.lemmas.List.{length-map}
 use Rattle.field_boxes.specs.Headline.Fields.{AreValues}
 use Rattle.node_store.specs.Diagram.{Node, answer}
-use Rattle.ternary_words.specs.declared.entry.Entry.{Entry}
 use Rattle.redundancy_laws.specs.declared.context.Context.{Context}
 use Rattle.redundancy_laws.specs.declared.sifted.Sifted.{Sifted}
-use Rattle.redundancy_laws.specs.Built.{row_at}
 use Rattle.redundancy_laws.specs.Contexts.{IsRight, whole}
-use Rattle.redundancy_laws.specs.Flags.{AreRightFlags}
 use Rattle.redundancy_laws.specs.Marks.{marked}
 use Rattle.redundancy_laws.specs.Rows.{Row, matches}
 use Rattle.redundancy_laws.specs.Sifted.{IsSifted, answers_of, contexts_of, is_in, context_at}
 use Rattle.redundancy_laws.proofs.Alike.{KeepSame, MatchAlike, right-alike}
 use Rattle.redundancy_laws.proofs.Merged.{same-contexts}
 use Rattle.redundancy.specs.Kept.{AreWholeFlags}
+
+-- what is flagged is what a pass keeps
+pub kept_is : (order : List ℕ) (entries seen again kept : List Entry) (flags flags_seen : List Bool) → IsOrder order → ArePrefixes entries → seen ≡ entries → again ≡ entries → flags_seen ≡ flags → AreRightFlags order seen flags →
+    kept ≡ with_flags again flags_seen → Keeps [] entries kept
+kept_is order entries seen again kept flags flags_seen ordered prefixes e a f right is =
+    subst (Keeps [] entries) (sym (is ∙ ap (λ es. with_flags es flags_seen) a ∙ ap (with_flags entries) f)) (chosen order entries flags ordered prefixes (subst (λ es. AreRightFlags order es flags) e right))
+
+-- what holds up to an entry and of it
+pub up_to_next : (P : Entry → Type 0) (entries : List Entry) (i : ℕ) (e : Entry) → i < length entries → e ≡ get_or entries i e → ((k : ℕ) (d : Entry) → k < i → P (get_or entries k d)) → P e →
+    (k : ℕ) (d : Entry) → k < i + 1 → P (get_or entries k d)
+up_to_next P entries i e less is before here k d l = elim (cases_lt k i) [
+  | inl earlier ↦ before k d earlier
+  | inr past ↦
+      let same : k ≡ i = omega (arith, l, past) in
+      subst (λ n. P (get_or entries n d)) (sym same) (subst P (is ∙ get_or_default entries i e d less) here)
+]
 
 -- what was kept of the rows for the one context that answers nothing
 pub flags_of_pair : (nodes : List Node) (order level : List ℕ) (rows : List Row) (pair : Context) (s : Sifted) → level ≡ order →

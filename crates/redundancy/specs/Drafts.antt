@@ -11,9 +11,9 @@ use Rattle.redundancy_laws.specs.declared.context.Context.{Context}
 use Rattle.redundancy_laws.specs.declared.sifted.Sifted.{Sifted}
 use Rattle.redundancy_laws.specs.Rows.{Row}
 use Rattle.redundancy_laws.specs.Sifted.{context_at, node_at, IsSoFar}
-use Rattle.redundancy.specs.declared.run_contexts.Stretch.{Stretch}
-use Rattle.redundancy.specs.declared.layer_draft.Change.{Change}
-use Rattle.redundancy.specs.declared.layer_draft.Draft.{Draft}
+use Rattle.redundancy.specs.declared.contexts.Stretch.{Stretch}
+use Rattle.redundancy.specs.declared.sifting.layer.Change.{Change}
+use Rattle.redundancy.specs.declared.sifting.layer.Draft.{Draft}
 use Rattle.redundancy.specs.Stretches.{stretches_at}
 
 -- the stretch with what is answered at the place of its pair

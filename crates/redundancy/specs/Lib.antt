@@ -1,11 +1,8 @@
-pub mod Blocks
-pub mod Built
-pub mod Lists
-pub mod Gathered
 pub mod Remembered
 pub mod Stretches
 pub mod Drafts
-pub mod NodeRows
-pub mod Known
 pub mod Kept
 pub mod Removal
+pub mod Blocks
+pub mod Lists
+pub mod NodeBlocks

@@ -8,8 +8,8 @@ use Rattle.redundancy_laws.specs.declared.context.Context.{Context}
 use Rattle.redundancy_laws.specs.declared.sifted.Sifted.{Sifted}
 use Rattle.redundancy_laws.specs.Sifted.{AreContexts, IsSifted}
 use Rattle.redundancy.specs.declared.blocks.Blocks.{Blocks}
-use Rattle.redundancy.specs.declared.memo.Asked.{Asked}
-use Rattle.redundancy.specs.declared.memo.Memo.{Memo}
+use Rattle.redundancy.specs.declared.sifting.BlockContexts.{BlockContexts}
+use Rattle.redundancy.specs.declared.sifting.Memo.{Memo}
 use Rattle.redundancy.specs.Blocks.{rows_of, cover_at}
 
 -- the pairs are of the same nodes
@@ -24,9 +24,9 @@ pub record IsAnswered (nodes : List Node) (blocks : Blocks) (number : ℕ) (pair
   pub sifted : IsSifted nodes (cover_at blocks.covers.items number).level.now (rows_of blocks.blocks.items number) pairs s
 
 -- the blocks are the same and the contexts too
-abbrev pub same_asked : Asked → Asked → Bool
+abbrev pub same_asked : BlockContexts → BlockContexts → Bool
 same_asked p q = nat_eq p.number q.number && pointwise same_context p.contexts.items q.contexts.items
 
 -- what is kept was worked out
 abbrev pub IsMemo : List Node → Blocks → Memo → Type 0
-IsMemo nodes blocks memo = (asked : Asked) (s : Sifted) → get same_asked memo.done asked ≡ Some s → IsAnswered nodes blocks asked.number asked.contexts.items s
+IsMemo nodes blocks memo = (asked : BlockContexts) (s : Sifted) → get same_asked memo.done asked ≡ Some s → IsAnswered nodes blocks asked.number asked.contexts.items s

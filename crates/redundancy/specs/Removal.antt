@@ -6,7 +6,7 @@ use Rattle.table_compose.specs.declared.composition.ComposeError.{ComposeError}
 use Rattle.table_compose.specs.declared.composition.ComposeError.TheVariants.{Memory, TooMany}
 use Rattle.redundancy.specs.declared.removal.Removal.{Removal}
 use Rattle.redundancy.specs.Blocks.{IsBlocks}
-use Rattle.redundancy.specs.Known.{AreKnown}
+use Rattle.redundancy.specs.NodeBlocks.{AreKnown}
 use Rattle.redundancy.specs.Remembered.{IsMemo}
 
 -- its blocks are blocks, those that are known of nodes are theirs, and what it kept of blocks was worked out

@@ -6,7 +6,7 @@ use Rattle.node_store.specs.declared.split.Part.{Part}
 use Rattle.node_store.specs.Diagram.{Node}
 use Rattle.redundancy_laws.specs.declared.context.Context.{Context}
 use Rattle.redundancy_laws.specs.Sifted.{context_at, context_below}
-use Rattle.redundancy.specs.declared.run_contexts.Stretch.{Stretch}
+use Rattle.redundancy.specs.declared.contexts.Stretch.{Stretch}
 
 abbrev pub context_of : Part → Context
 context_of p = record { after = p.left; met = p.right }
@@ -38,7 +38,7 @@ abbrev pub stretches_at : List (SmallVec Stretch) → ℕ → List Stretch
 stretches_at lists c = slice_index_or (map (λ (own : SmallVec Stretch). own.items) lists) c []
 
 -- the stretches fill the span, and the pairs at their places are those to which the pair leads there
-pub record IsListed (nodes : List Node) (span : Interval) (pair : Context) (lower : List Context) (own : List Stretch) : Type 0 where
+pub record AreStretchesOf (nodes : List Node) (span : Interval) (pair : Context) (lower : List Context) (own : List Stretch) : Type 0 where
   pub fill : FillSpan span.lo span.hi own
   pub within : All (λ (s : Stretch). s.place < length lower) own
   pub leads : (v : ℕ) → interval_holds v span ≡ true → (stretch_at own v < length lower) × (context_at lower (stretch_at own v) ≡ context_below nodes v pair)
@@ -46,5 +46,5 @@ pub record IsListed (nodes : List Node) (span : Interval) (pair : Context) (lowe
 -- so are the stretches of the first so many contexts, and the list has no other pairs
 pub record AreListed (nodes : List Node) (span : Interval) (pairs : List Context) (count : ℕ) (lower : List Context) (lists : List (SmallVec Stretch)) : Type 0 where
   pub number : length lists ≡ count
-  pub each : (c : ℕ) → c < count → IsListed nodes span (context_at pairs c) lower (stretches_at lists c)
+  pub each : (c : ℕ) → c < count → AreStretchesOf nodes span (context_at pairs c) lower (stretches_at lists c)
   pub reached : (d : ℕ) → d < length lower → (c : ℕ) × (v : ℕ) × (c < count) × (interval_holds v span ≡ true) × (context_at lower d ≡ context_below nodes v (context_at pairs c))

@@ -46,40 +46,26 @@
 //!
 //! | Room | Holds |
 //! |---|---|
-//! | `removing`, `diagrams`, `removal`, `prefixes` | the calls |
-//! | `whole`, `keeping` | which entries stay, of a whole table and of one that a diagram composes |
-//! | `block`, `blocks`, `level`, `runs`, `layering`, `lists`, `known` | blocks, and how entries become them |
-//! | `contexts`, `distinct`, `run_contexts`, `sequence_contexts` | contexts, and those of the parts of a block |
-//! | `last_entry`, `layer_draft`, `layer_answers`, `memo` | what is kept of a block, worked out once |
+//! | `entry_table` | a table of entries without its redundant ones |
+//! | `diagrams`, `removal` | the same of the tables that diagrams compose, and what is kept from one to the next |
+//! | `blocks` | blocks by number |
+//! | `blocks::node_blocks`, `blocks::table_blocks`, `blocks::run_blocks` | the blocks of a diagram's nodes, of a table's entries, and of lists of runs |
+//! | `blocks::entry_runs`, `blocks::lists` | runs of entries, and lists of them, each once |
+//! | `contexts`, `contexts::distinct` | contexts, and those of the parts of a block, each once |
+//! | `sifting`, `sifting::layer`, `sifting::last_entry` | what is kept of a block, of a layer, and of one entry |
 //! | `sets` | sets and answers as diagrams of one store |
 //! | `laws` | what was worked out lasts while the store grows |
 #![tactic(auto)]
 
-mod block;
 mod blocks;
 mod contexts;
 mod diagrams;
-mod distinct;
-mod keeping;
-mod known;
-mod last_entry;
+mod entry_table;
 pub mod laws;
-mod layer_answers;
-mod layer_draft;
-mod layering;
-mod level;
-mod lists;
-mod memo;
-mod prefixes;
 mod removal;
-mod removing;
-mod run_contexts;
-mod runs;
-mod sequence_contexts;
 mod sets;
-mod whole;
+mod sifting;
 
 pub use diagrams::{TightTable, compose_tight};
-pub use prefixes::are_prefixes;
+pub use entry_table::{are_prefixes, remove, remove_in};
 pub use removal::Removal;
-pub use removing::{remove, remove_in};

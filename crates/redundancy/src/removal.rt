@@ -1,12 +1,11 @@
 //! What removal works out, kept from one table to the next.
 
 use crate::blocks::Blocks;
-use crate::diagrams::TightTable;
-use crate::keeping::add_kept;
-use crate::known::Known;
-use crate::memo::Memo;
+use crate::blocks::node_blocks::Known;
+use crate::diagrams::{TightTable, add_kept};
+use crate::entry_table::flags_by;
 use crate::sets::Sets;
-use crate::whole::flags_by;
+use crate::sifting::Memo;
 use field_boxes::Prefix;
 use node_store::{NodeId, Store};
 use razor_base::Memory;
@@ -46,11 +45,9 @@ impl<'a> Removal<'a> {
     ghost use Rattle.redundancy_laws.specs.Flags.{with_flags};
     ghost use Rattle.field_boxes.specs.Orders.{IsOrder, picked};
     ghost use Rattle.redundancy_laws.specs.Pass.{Keeps};
-    ghost use Rattle.redundancy.specs.Blocks.{rows_of};
-    ghost use Rattle.redundancy.specs.Built.{StandsAt};
+    ghost use Rattle.redundancy.specs.Blocks.{rows_of, StandsAt};
     ghost use Rattle.redundancy.specs.Kept.{AreKeptOf};
-    ghost use Rattle.redundancy.specs.Known.{HasPlans};
-    ghost use Rattle.redundancy.specs.NodeRows.{node_rows};
+    ghost use Rattle.redundancy.specs.NodeBlocks.{HasPlans, node_rows};
     ghost use Rattle.redundancy.specs.Removal.{IsRemovalOf, UnlessMemory};
 
     /// Nothing was worked out, which suits every store.

@@ -4,11 +4,10 @@ use Rattle.field_boxes.specs.declared.rule.Rule as code
 use Rattle.field_boxes.specs.Headline.Fields.{stated}
 use Rattle.fdd_build.specs.Rules.{decided}
 use Rattle.rule_audit.specs.declared.label.Next.{Next}
-use Rattle.rule_audit.specs.Joined.{AllBelow}
-use Rattle.rule_audit.specs.Labels.{is_open, label_at, labelled, next_of, number_of, own_number}
+use Rattle.rule_audit.specs.Labels.{AllBelow, is_open, label_at, labelled, next_of, number_of, own_number}
 use Rattle.rule_audit.specs.Meeting.{next_behind, next_shown}
-use Rattle.rule_audit.proofs.Numbers.{label_back, no_label}
-use Rattle.rule_audit.proofs.Told.{meets}
+use Rattle.rule_audit.proofs.Joining.{label_back, no_label}
+use Rattle.rule_audit.proofs.Named.{meets}
 
 module _ (first : ℕ) (some : 0 < first) (left_open : List Bool) (header : List ℕ) where
   abbrev shows : ℕ → ℕ → Option Next

@@ -9,15 +9,13 @@ use Rattle.node_store.specs.declared.edge.NodeId.{NodeId}
 use Rattle.node_store.specs.Diagram.{Node, answer, level_of}
 use Rattle.fdd_build.specs.Rules.{decided}
 use Rattle.fdd_build.proofs.Decided.{decided_head}
-use Rattle.rule_audit.specs.declared.around.Around.{Around}
+use Rattle.rule_audit.specs.declared.search.around.Around.{Around}
 use Rattle.rule_audit.specs.declared.label.Next.{Next}
 use Rattle.rule_audit.specs.declared.state.RuleState.{RuleState}
-use Rattle.rule_audit.specs.Around.{StandAtLevel, first_answer, shown_around}
-use Rattle.rule_audit.specs.Joined.{AllDecide}
-use Rattle.rule_audit.specs.Labels.{next_of}
+use Rattle.rule_audit.specs.Search.{StandAtLevel, first_answer, shown_around, AreTold, IsTold, StandBetween}
+use Rattle.rule_audit.specs.Labels.{AllDecide, next_of}
 use Rattle.rule_audit.specs.Meeting.{IsStateSoFar, next_behind}
 use Rattle.rule_audit.specs.Parts.{Shows, over}
-use Rattle.rule_audit.specs.Scouted.{AreTold, IsTold, StandBetween}
 use Rattle.rule_audit.proofs.FirstAnswers.{first_push}
 use Rattle.rule_audit.proofs.Joining.{decide_parts, number_parts}
 use Rattle.rule_audit.proofs.SoFar.{shown_alike}

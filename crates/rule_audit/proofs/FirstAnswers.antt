@@ -1,11 +1,24 @@
--- The first answer of some nodes that isn't 0.
-use Rattle.std.proofs.Common.{◌≡◌, ◌∷◌, ◌++◌, ◌∙◌, ℕ, List, [], ap, refl, sym, All}
+-- The first answer of some nodes that isn't 0: one laid over another.
+use Rattle.std.proofs.Common.{◌≡◌, ℕ, arith, ◌∷◌, ◌++◌, ◌∙◌, List, [], ap, refl, sym, All}
+use Rattle.std.proofs.lemmas.Bool.Decides.{nat_tests}
+use Rattle.rule_audit.specs.Parts.{over}
 use Rattle.std.proofs.lemmas.List.Elements.{All-cons, All-nil}
 use Rattle.node_store.specs.declared.edge.NodeId.{NodeId}
 use Rattle.node_store.specs.Diagram.{Node, answer}
-use Rattle.rule_audit.specs.Around.{first_answer}
-use Rattle.rule_audit.specs.Parts.{over}
-use Rattle.rule_audit.proofs.Overlaid.{over_assoc, over_nothing, over_zero}
+use Rattle.rule_audit.specs.Search.{first_answer}
+
+pub over_assoc : (a b c : ℕ) → over (over a b) c ≡ over a (over b c)
+over_assoc a b c = grind (arith, nat_tests)
+
+pub over_nothing : (a : ℕ) → over a 0 ≡ a
+over_nothing a = grind (arith, nat_tests)
+
+-- where 0 shows, both are 0
+pub over_zero : (a b : ℕ) → over a b ≡ 0 → (a ≡ 0) × (b ≡ 0)
+over_zero a b h = (grind (arith, nat_tests), grind (arith, nat_tests))
+
+pub over_some : (a b : ℕ) → (a ≡ 0 → ⊥) → over a b ≡ a
+over_some a b h = grind (arith, nat_tests)
 
 module _ (nodes : List Node) where
   first_append : (xs ys : List NodeId) (values : List ℕ) → first_answer nodes (xs ++ ys) values ≡ over (first_answer nodes xs values) (first_answer nodes ys values)

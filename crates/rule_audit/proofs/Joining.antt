@@ -1,18 +1,37 @@
--- The numbers of a list, by those of its two parts.
-use Rattle.std.proofs.Common.{◌≡◌, ◌∷◌, ◌++◌, ℕ, ◌≤◌, ◌<◌, ◌+◌, suc, List, [], Bool, true, false, cond, ap, refl, sym, ◌∙◌, subst, length, arith, nat_eq, option_map, Option, Some, unwrap_or, slice_get, ne_eqb, eqb-true}
+-- The labels of a list, by those of its two parts.
+use Rattle.std.proofs.Common.{◌≡◌, ℕ, ◌≤◌, ◌<◌, ◌+◌, ◌-◌, ◌*◌, ◌/◌, ◌%◌, arith, refl, false, nat_lt, Some, None, le-ltb, lt-ltb, ◌∷◌, ◌++◌, suc, List, [], Bool, true, cond, ap, sym, ◌∙◌, subst, length, nat_eq, option_map, Option, unwrap_or, slice_get, ne_eqb, eqb-true, take, drop, take-append-drop}
+use Rattle.rule_audit.specs.declared.label.Label.{Label}
+use Rattle.rule_audit.specs.declared.label.Next.{Next}
+use Rattle.rule_audit.specs.declared.label.Next.TheVariants.{Nothing, Alike, Otherwise}
+use Rattle.rule_audit.specs.Labels.{label_at, next_at, number_of, is_open, labelled, next_of, own_number, AllBelow, AllDecide, StandAt, decision_of, joined, with_below, with_next}
+use Rattle.std.specs.List.{AllByRecursion}
 use Rattle.field_boxes.specs.declared.rule.Rule as code
 use Rattle.field_boxes.specs.Headline.Fields.{stated}
 use Rattle.fdd_build.specs.Rules.{decided}
 use Rattle.fdd_build.proofs.Decided.{decided_head}
-use Rattle.rule_audit.specs.declared.label.Label.{Label}
-use Rattle.rule_audit.specs.declared.label.Next.{Next}
-use Rattle.rule_audit.specs.declared.label.Next.TheVariants.{Nothing, Alike, Otherwise}
-use Rattle.rule_audit.specs.Labels.{is_open, label_at, labelled, next_of, number_of, own_number}
-use Rattle.rule_audit.specs.Joined.{AllBelow, AllDecide, StandAt, decision_of, joined, with_below, with_next}
 use Rattle.rule_audit.specs.Parts.{over}
-use Rattle.rule_audit.proofs.Numbers.{label_back, no_label}
-use Rattle.rule_audit.proofs.Overlaid.{over_nothing, over_some}
-use Rattle.rule_audit.proofs.Told.{meets}
+use Rattle.rule_audit.proofs.FirstAnswers.{over_nothing, over_some}
+use Rattle.rule_audit.proofs.Named.{meets}
+
+read_back : (first place code : ℕ) (next : Next) → code ≤ 2 → next_at code ≡ next → label_at first (first + 3 * place + code) ≡ Some (record { place = place; next = next })
+read_back first place code next small is =
+    let past : nat_lt (first + 3 * place + code) first ≡ false = le-ltb (first + 3 * place + code) first (omega arith) in
+    let place_is : (first + 3 * place + code - first) / 3 ≡ place = omega (arith, small) in
+    let code_is : (first + 3 * place + code - first) % 3 ≡ code = omega (arith, small) in
+    rw (past, place_is, code_is, is) refl
+
+by_next : (first place : ℕ) (next : Next) → label_at first (number_of first (record { place = place; next = next })) ≡ Some (record { place = place; next = next })
+by_next first place Nothing = read_back first place 0 Nothing (omega arith) refl
+by_next first place Alike = read_back first place 1 Alike (omega arith) refl
+by_next first place Otherwise = read_back first place 2 Otherwise (omega arith) refl
+
+-- the label with a label's number
+pub label_back : (first : ℕ) (label : Label) → label_at first (number_of first label) ≡ Some label
+label_back first label = by_next first label.place label.next
+
+-- below the first one no number is that of a label
+pub no_label : (first n : ℕ) → n < first → label_at first n ≡ None
+no_label first n h = rw (lt-ltb n first h) refl
 
 -- over 0 or under it a number is as it was
 pub none_above : (first : ℕ) (all : List code.Rule) (lower : ℕ) → joined first all 0 lower ≡ lower
@@ -23,13 +42,13 @@ pub none_below : (first : ℕ) (all : List code.Rule) (upper : ℕ) → joined f
 unfolding joined
 none_below first all upper = over_nothing upper
 
-pub decide_parts : (xs ys : List code.Rule) → AllDecide (xs ++ ys) → AllDecide xs × AllDecide ys
-decide_parts [] ys h = (tt, h)
-decide_parts (rule ∷ xs) ys h = let r = decide_parts xs ys h.1 in ((h.0, r.0), r.1)
+-- what holds of each rule holds of those of both parts
+pub both_parts : (P : code.Rule → Type 0) (xs ys : List code.Rule) → AllByRecursion P (xs ++ ys) → AllByRecursion P xs × AllByRecursion P ys
+both_parts P [] ys h = (tt, h)
+both_parts P (rule ∷ xs) ys h = let r = both_parts P xs ys h.1 in ((h.0, r.0), r.1)
 
-pub below_parts : (first : ℕ) (xs ys : List code.Rule) → AllBelow first (xs ++ ys) → AllBelow first xs × AllBelow first ys
-below_parts first [] ys h = (tt, h)
-below_parts first (rule ∷ xs) ys h = let r = below_parts first xs ys h.1 in ((h.0, r.0), r.1)
+pub decide_parts : (xs ys : List code.Rule) → AllDecide (xs ++ ys) → AllDecide xs × AllDecide ys
+decide_parts xs ys h = both_parts (λ (rule : code.Rule). 0 < rule.decision) xs ys h
 
 pub stand_parts : (all : List code.Rule) (from place : ℕ) (xs ys : List code.Rule) → place ≡ from + length xs → StandAt all from (xs ++ ys) → StandAt all from xs × StandAt all place ys
 stand_parts all from place [] ys is h = let same : from ≡ place = omega (arith, is) in (tt, subst (λ n. StandAt all n ys) same h)
@@ -155,7 +174,7 @@ module _ (first : ℕ) (all : List code.Rule) where
         ap (λ n. labelled first left_open n ys header) same ∙ sym (none_above first all (labelled first left_open place ys header))
     parts from place (rule ∷ xs) ys is at some low =
         parts_by from rule xs ys (labelled first left_open place ys header) (meets stated header rule) refl at.0 some.0 low.0 (decide_parts xs ys some.1).0
-        (tells_number place ys (omega (arith, low.0)) (stand_parts all (suc from) place xs ys (omega (arith, is)) at.1).1 (below_parts first xs ys low.1).1)
+        (tells_number place ys (omega (arith, low.0)) (stand_parts all (suc from) place xs ys (omega (arith, is)) at.1).1 (both_parts (λ (rule : code.Rule). rule.decision < first) xs ys low.1).1)
         (parts (suc from) place xs ys (omega (arith, is)) at.1 some.1 low.1)
 
 module _ (first : ℕ) (left_open : List Bool) (header : List ℕ) where
@@ -168,3 +187,29 @@ module _ (first : ℕ) (left_open : List Bool) (header : List ℕ) where
       ap (λ o. cond m (own_number first o from rule (decided stated rules header)) (labelled first left_open (suc from) rules header)) (h from (omega arith) (omega arith))
       ∙ ap (λ n. cond m rule.decision n) (closed (suc from) rules (λ k low high. h k (omega (arith, low)) (omega (arith, high))))
       ∙ sym (decided_head stated header rule rules m refl)
+
+module _ (rules front back : List code.Rule) (m : ℕ) (is_front : front ≡ take m rules) (is_back : back ≡ drop m rules) where
+  pub whole : front ++ back ≡ rules
+  whole = ap (λ xs. xs ++ back) is_front ∙ ap (λ ys. take m rules ++ ys) is_back ∙ take-append-drop m rules
+
+  pub decide_halves : AllDecide rules → AllDecide front × AllDecide back
+  decide_halves h = decide_parts front back (subst AllDecide (sym whole) h)
+
+  module _ (first : ℕ) (all : List code.Rule) (from : ℕ) (stand : StandAt all from rules) (decide : AllDecide rules) (below : AllBelow first rules) where
+    stand_halves : StandAt all from front × StandAt all (from + length front) back
+    stand_halves = stand_parts all from (from + length front) front back refl (subst (StandAt all from) (sym whole) stand)
+
+    below_halves : AllBelow first front × AllBelow first back
+    below_halves = both_parts (λ (rule : code.Rule). rule.decision < first) front back (subst (AllBelow first) (sym whole) below)
+
+    pub first_half : StandAt all from front × (AllDecide front × AllBelow first front)
+    first_half = (stand_halves.0, ((decide_halves decide).0, below_halves.0))
+
+    pub second_half : StandAt all (from + length front) back × (AllDecide back × AllBelow first back)
+    second_half = (stand_halves.1, ((decide_halves decide).1, below_halves.1))
+
+    pub halves_joined : (left_open : List Bool) (values : List ℕ) →
+        labelled first left_open from rules values ≡ joined first all (labelled first left_open from front values) (labelled first left_open (from + length front) back values)
+    halves_joined left_open values =
+        ap (λ rs. labelled first left_open from rs values) (sym whole)
+        ∙ parts first all left_open values from (from + length front) front back refl (subst (StandAt all from) (sym whole) stand) (subst AllDecide (sym whole) decide) (subst (AllBelow first) (sym whole) below)

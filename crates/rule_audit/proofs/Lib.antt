@@ -1,22 +1,11 @@
-mod Order
 mod SoFar
-mod Firsts
-mod Numbers
-mod Told
-mod Named
-mod Joining
-mod InHalves
 mod Behind
 mod Chosen
-mod Parts
-mod Stated
-mod EdgesLeft
-mod Meetings
-mod Overlaid
-mod FirstAnswers
-mod Throughout
-mod Rows
-mod Least
-mod Shown
 mod Between
-mod PartsShown
+pub mod FirstAnswers
+pub mod PartsShown
+pub mod Named
+pub mod Joining
+pub mod Least
+pub mod Order
+pub mod Meetings

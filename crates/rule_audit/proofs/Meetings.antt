@@ -1,17 +1,59 @@
--- What was met, as the walk goes on.
-use Rattle.std.proofs.Common.{◌≡◌, ◌<◌, ◌≤◌, ◌∷◌, ◌++◌, ◌∙◌, ℕ, zero, suc, List, [], drop, take, length, set, ap, append_assoc, arith, refl, sym, subst, inl, inr, ◌⊎◌, Bool, true, slice_index_or, append-nil}
+-- What was met, as the walk goes on from edge to edge.
+use Rattle.std.proofs.Common.{◌≡◌, ◌≤◌, ◌<◌, ◌∷◌, ℕ, zero, suc, List, [], drop, length, get_or, arith, ◌++◌, ◌∙◌, take, set, ap, append_assoc, refl, sym, subst, inl, inr, ◌⊎◌, Bool, true, slice_index_or, append-nil}
+use Rattle.node_store.specs.declared.edge.Edge.{Edge}
+use Rattle.node_store.specs.Edges.{AreFull, child_of}
+use Rattle.node_store.proofs.Edges.{Rise, bounded, past, rise_of, within}
 use Rattle.field_boxes.specs.declared.header.Header.{Header}
 use Rattle.field_boxes.specs.Headline.Fields.{stated, AreValues, IsHeader}
 use Rattle.field_boxes.specs.Fields.{greatest_of, ComesBefore}
-use Rattle.node_store.specs.declared.edge.Edge.{Edge}
-use Rattle.node_store.specs.Edges.{child_of}
 use Rattle.node_store.specs.Diagram.{Node, answer, edges_of, level_of}
 use Rattle.rule_audit.specs.declared.state.RuleState.{RuleState}
 use Rattle.rule_audit.specs.Labels.{label_at}
 use Rattle.rule_audit.specs.Meeting.{AreMet, Before, IsMarked, IsStateSoFar, LeadsTo, UpTo, next_shown, shown_by, state_after}
-use Rattle.rule_audit.proofs.Order.{Within, before_more, before_raised, before_zero, by_value, cut, rest_values}
+use Rattle.rule_audit.proofs.Order.{Within, before_more, before_raised, before_zero, by_value, cut, rest_values, IsFirstValue, first_value, no_values, values_joined, values_lower}
 use Rattle.rule_audit.proofs.SoFar.{IsKnown, one_more, widened}
-use Rattle.rule_audit.proofs.Stated.{IsFirstValue, first_value, no_values, values_joined, values_lower}
+
+-- the edges rise from a value on to the greatest
+abbrev pub RiseFrom : ℕ → ℕ → List Edge → Type 0
+RiseFrom greatest lo [] = lo ≡ suc greatest
+RiseFrom greatest lo (e ∷ edges) = (lo ≤ e.hi) × (e.hi ≤ greatest) × RiseFrom greatest (suc e.hi) edges
+
+rise_all : (greatest lo : ℕ) (edges : List Edge) → Rise greatest lo edges → RiseFrom greatest lo edges
+rise_all greatest lo [] h = absurd h
+rise_all greatest lo (e ∷ []) h = (h.0, omega (arith, h.1), omega (arith, h.1))
+rise_all greatest lo (e ∷ d ∷ edges) h = let b = bounded greatest lo e (d ∷ edges) h in (b.0, b.1, rise_all greatest (suc e.hi) (d ∷ edges) h.1)
+
+pub all_left : (greatest : ℕ) (edges : List Edge) → AreFull greatest edges → RiseFrom greatest 0 edges
+all_left greatest edges h = rise_all greatest 0 edges (rise_of greatest edges h)
+
+-- the first edge that is left
+pub record IsNextEdge (greatest lo : ℕ) (edges : List Edge) (i : ℕ) (e : Edge) : Type 0 where
+  pub low : lo ≤ e.hi
+  pub high : e.hi ≤ greatest
+  pub rise : RiseFrom greatest (suc e.hi) (drop (suc i) edges)
+  pub leads : (v : ℕ) → v ≤ e.hi → child_of (drop i edges) v ≡ e.to.0
+  pub later : (v : ℕ) → e.hi < v → child_of (drop i edges) v ≡ child_of (drop (suc i) edges) v
+
+first_edge : (greatest lo : ℕ) (e : Edge) (edges : List Edge) → RiseFrom greatest lo (e ∷ edges) → IsNextEdge greatest lo (e ∷ edges) 0 e
+first_edge greatest lo e edges h = record {
+  low = h.0;
+  high = h.1;
+  rise = h.2;
+  leads = λ v top. within e edges v top;
+  later = λ v above. past e edges v above;
+}
+
+pub next_edge : (greatest lo : ℕ) (edges : List Edge) (i : ℕ) (d : Edge) → i < length edges → RiseFrom greatest lo (drop i edges) → IsNextEdge greatest lo edges i (get_or edges i d)
+next_edge greatest lo [] i d less h = absurd (omega (arith, less))
+next_edge greatest lo (e ∷ edges) zero d less h = first_edge greatest lo e edges h
+next_edge greatest lo (e ∷ edges) (suc i) d less h =
+    let r = next_edge greatest lo edges i d (omega (arith, less)) h in record {
+      low = r.low;
+      high = r.high;
+      rise = r.rise;
+      leads = r.leads;
+      later = r.later;
+    }
 
 -- what is marked after one more is marked
 marked_by : (seen : List Bool) (id other : ℕ) → IsMarked (set seen id true) other → (other ≡ id) ⊎ IsMarked seen other

@@ -1,27 +1,96 @@
--- The states of rules with names, by what labels tell.
-use Rattle.std.proofs.Common.{◌≡◌, ◌∷◌, ℕ, ◌<◌, zero, suc, List, [], Bool, true, false, ap, refl, sym, ◌∙◌, subst, length, arith, inl, inr, ◌⊎◌, cond, nat_eq, Option, Some, None, All, slice_index_or, eq-eqb, ne_eqb}
-use Rattle.std.specs.List.{remove, AllByRecursion}
-use Rattle.std.proofs.lemmas.List.Elements.{recursion_from_All}
-use Rattle.std.proofs.lemmas.List.{length-map}
+-- The states of rules with names, by what comes behind each rule.
+use Rattle.std.proofs.Common.{◌≡◌, ◌∷◌, ℕ, List, [], Bool, true, false, ◌+◌, ◌<◌, arith, ap, ◌∙◌, lt-ltb, suc, zero, cond, not, length, position, nat_lt, Some, None, slice_index_or, refl, sym, Option, remove, subst, inl, inr, ◌⊎◌, nat_eq, All, eq-eqb, ne_eqb}
+use Rattle.std.proofs.lemmas.List.Quantifiers.{position-Some}
+use Rattle.std.specs.List.{position_or_len, remove, AllByRecursion}
 use Rattle.field_boxes.specs.declared.rule.Rule as code
 use Rattle.field_boxes.specs.Headline.Classifier.{matches, source}
 use Rattle.field_boxes.specs.Headline.Fields.{stated, IsHeader}
-use Rattle.field_boxes.specs.NamedRules.{IsNumberedBy, named_rule, named_rules}
-use Rattle.field_boxes.specs.Names.{AreDistinct, name_at}
 use Rattle.field_boxes.specs.Rules.{rule_of}
 use Rattle.fdd_build.specs.Rules.{decided}
 use Rattle.fdd_build.proofs.Decided.{decided_head, named, within}
 use Rattle.rule_audit.specs.declared.label.Next.{Next}
+use Rattle.rule_audit.specs.Labels.{next_of, AllBelow, AllDecide}
+use Rattle.rule_audit.specs.Meeting.{next_behind, IsNeeded, IsStateSoFar}
+use Rattle.std.proofs.lemmas.List.Elements.{recursion_from_All}
+use Rattle.std.proofs.lemmas.List.{length-map}
+use Rattle.field_boxes.specs.NamedRules.{IsNumberedBy, named_rule, named_rules}
+use Rattle.field_boxes.specs.Names.{AreDistinct, name_at}
 use Rattle.rule_audit.specs.declared.label.Next.TheVariants.{Nothing, Alike, Otherwise}
 use Rattle.rule_audit.specs.declared.state.RuleState.{RuleState}
 use Rattle.rule_audit.specs.declared.state.RuleState.TheVariants.{Live, Droppable, Never}
-use Rattle.rule_audit.specs.Joined.{AllBelow, AllDecide}
-use Rattle.rule_audit.specs.Labels.{next_of}
-use Rattle.rule_audit.specs.Meeting.{IsNeeded, IsStateSoFar, next_behind}
 use Rattle.rule_audit.specs.State.{AreStates, IsChanged, IsFirst, IsState}
 use Rattle.field_boxes.proofs.SameSets.{matches_by_sets}
-use Rattle.rule_audit.proofs.Firsts.{PassesFirst, passes-position, position-passes}
-use Rattle.rule_audit.proofs.Told.{Tells, meets, tells}
+
+-- the element at k passes, and none before it
+abbrev pub PassesFirst : {X : Type 0} → (X → Bool) → List X → ℕ → Type 0
+PassesFirst p [] k = ⊥
+PassesFirst p (x ∷ xs) zero = p x ≡ true
+PassesFirst p (x ∷ xs) (suc k) = (p x ≡ false) × PassesFirst p xs k
+
+passes-at : {X : Type 0} (p : X → Bool) (xs : List X) (k : ℕ) (d : X) → k < length xs → p (slice_index_or xs k d) ≡ true →
+    ((j : ℕ) → j < k → p (slice_index_or xs j d) ≡ false) → PassesFirst p xs k
+passes-at p [] k d small here before = omega (arith, small)
+passes-at p (x ∷ xs) zero d small here before = here
+passes-at p (x ∷ xs) (suc k) d small here before =
+    (before 0 (omega arith), passes-at p xs k d (omega (arith, small)) here (λ j less. before (suc j) (omega (arith, less))))
+
+pub position-passes : {X : Type 0} (p : X → Bool) (xs : List X) (k : ℕ) → position p xs ≡ Some k → PassesFirst p xs k
+position-passes p [] k e = cc
+position-passes p (x ∷ xs) k e = let h = position-Some p (x ∷ xs) k x e in passes-at p (x ∷ xs) k x h.0 h.1 h.2
+
+passes-len : {X : Type 0} (p : X → Bool) (xs : List X) (k : ℕ) → PassesFirst p xs k → (k < length xs) × (position_or_len p xs ≡ k)
+passes-len p [] k h = absurd h
+passes-len p (x ∷ xs) zero h = (omega arith, ap (λ t. cond (not t) (1 + position_or_len p xs) 0) h)
+passes-len p (x ∷ xs) (suc k) h =
+    let r = passes-len p xs k h.1 in
+    (omega (arith, r.0), ap (λ t. cond (not t) (1 + position_or_len p xs) 0) h.0 ∙ (omega (arith, r.1)))
+
+pub passes-position : {X : Type 0} (p : X → Bool) (xs : List X) (k : ℕ) → PassesFirst p xs k → position p xs ≡ Some k
+passes-position p xs k h =
+    let r = passes-len p xs k h in
+    ap (λ n. cond (nat_lt n (length xs)) (Some n) None) r.1 ∙ ap (λ t. cond t (Some k) None) (lt-ltb k (length xs) r.0)
+
+abbrev pub meets : List ℕ → List ℕ → code.Rule → Bool
+meets fields header rule = matches fields header (rule_of rule)
+
+-- the rule at k isn't the first, and without it nothing changes; or it is, and the rules decide so without it beside all of them
+abbrev pub Tells : List ℕ → List ℕ → List code.Rule → ℕ → Option Next → Type 0
+Tells fields header rules k None = (PassesFirst (meets fields header) rules k → ⊥) × (decided fields (remove rules k) header ≡ decided fields rules header)
+Tells fields header rules k (Some next) = PassesFirst (meets fields header) rules k × (next ≡ next_of (decided fields rules header) (decided fields (remove rules k) header))
+
+module _ (header : List ℕ) where
+  not_false : (t : Bool) → t ≡ true → t ≡ false → ⊥
+  not_false t p q = cc
+
+  zeroth : (rule : code.Rule) (rules : List code.Rule) (m : Bool) → meets stated header rule ≡ m →
+      Tells stated header (rule ∷ rules) 0 (cond m (Some (next_of rule.decision (decided stated rules header))) None)
+  zeroth rule rules true e = (e, ap (λ d. next_of d (decided stated rules header)) (sym (decided_head stated header rule rules true e)))
+  zeroth rule rules false e = ((λ p. not_false (meets stated header rule) p e), sym (decided_head stated header rule rules false e))
+
+  later_at : (rule : code.Rule) (rules : List code.Rule) (k : ℕ) (o : Option Next) → meets stated header rule ≡ false → Tells stated header rules k o → Tells stated header (rule ∷ rules) (suc k) o
+  later_at rule rules k None e t = (
+    (λ p. t.0 p.1),
+    decided_head stated header rule (remove rules k) false e ∙ t.1 ∙ sym (decided_head stated header rule rules false e),
+  )
+  later_at rule rules k (Some next) e t = (
+    (e, t.0),
+    t.1
+        ∙ ap (λ d. next_of d (decided stated (remove rules k) header)) (sym (decided_head stated header rule rules false e))
+        ∙ ap (λ d. next_of (decided stated (rule ∷ rules) header) d) (sym (decided_head stated header rule (remove rules k) false e)),
+  )
+
+  later : (rule : code.Rule) (rules : List code.Rule) (k : ℕ) (m : Bool) → meets stated header rule ≡ m → Tells stated header rules k (next_behind rules k header) →
+      Tells stated header (rule ∷ rules) (suc k) (cond m None (next_behind rules k header))
+  later rule rules k true e t = (
+    (λ p. not_false (meets stated header rule) e p.0),
+    decided_head stated header rule (remove rules k) true e ∙ sym (decided_head stated header rule rules true e),
+  )
+  later rule rules k false e t = later_at rule rules k (next_behind rules k header) e t
+
+  pub tells : (k : ℕ) (rules : List code.Rule) → Tells stated header rules k (next_behind rules k header)
+  tells zero (rule ∷ rules) = zeroth rule rules (meets stated header rule) refl
+  tells (suc k) (rule ∷ rules) = later rule rules k (meets stated header rule) refl (tells k rules)
+  tells k rules = ((λ p. p), refl)
 
 -- each rule decides something
 pub all_decide : (names : List (List ℕ)) (rules : List code.Rule) → AllByRecursion (IsNumberedBy names) rules → AllDecide rules

@@ -1,10 +1,6 @@
 pub mod State
-pub mod Labels
-pub mod Joined
 pub mod Parts
 pub mod Meeting
 pub mod Marks
-pub mod Around
-pub mod Steps
-pub mod Found
-pub mod Scouted
+pub mod Labels
+pub mod Search

@@ -5,15 +5,15 @@ use Rattle.field_boxes.specs.Headline.Fields.{stated, IsHeader}
 use Rattle.node_store.specs.declared.edge.NodeId.{NodeId}
 use Rattle.node_store.specs.Diagram.{Node, level_of, answer}
 use Rattle.fdd_build.specs.Rules.{decided}
-use Rattle.rule_audit.specs.declared.part.Part.{Part}
-use Rattle.rule_audit.specs.declared.part.Part.TheVariants.{Alone, Halves'}
+use Rattle.rule_audit.specs.declared.list_parts.ListPart.{ListPart}
+use Rattle.rule_audit.specs.declared.list_parts.ListPart.TheVariants.{Alone, Halves'}
 
 -- the upper answer, and the lower one where that is 0
 abbrev pub over : ℕ → ℕ → ℕ
 over upper lower = if nat_eq upper 0 then lower else upper
 
 -- the diagram of a part
-abbrev pub shown_of : Part → NodeId
+abbrev pub shown_of : ListPart → NodeId
 shown_of (Alone shown) = shown
 shown_of (Halves' shown p first q second) = shown
 
@@ -23,7 +23,7 @@ pub record Shows (nodes : List Node) (rules : List code.Rule) (shown : NodeId) :
   pub answers : (values : List ℕ) → IsHeader values → answer nodes shown.0 values ≡ decided stated rules values
 
 -- the part's diagrams show the rules, and their halves; a part without halves has one rule at most
-abbrev pub IsPart : List Node → List code.Rule → Part → Type 0
+abbrev pub IsPart : List Node → List code.Rule → ListPart → Type 0
 IsPart nodes rules (Alone shown) = (length rules ≤ 1) × Shows nodes rules shown
 IsPart nodes rules (Halves' shown p first q second) =
     Shows nodes rules shown × IsPart nodes (take (length rules / 2) rules) first × IsPart nodes (drop (length rules / 2) rules) second

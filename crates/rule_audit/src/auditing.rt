@@ -6,18 +6,16 @@ ghost use Rattle.node_store.specs.Diagram.{level_of};
 ghost use Rattle.field_boxes.specs.NamedRules.{named_rules};
 ghost use Rattle.rule_audit.specs.declared.state.RuleState.{RuleState};
 ghost use Rattle.rule_audit.specs.declared.state.RuleState.TheVariants.{Never};
-ghost use Rattle.rule_audit.specs.Joined.{AllBelow, AllDecide};
-ghost use Rattle.rule_audit.specs.Labels.{is_open};
+ghost use Rattle.rule_audit.specs.Labels.{AllBelow, AllDecide, is_open};
 ghost use Rattle.rule_audit.specs.Meeting.{next_behind, shown_by, IsStateSoFar};
 ghost use Rattle.rule_audit.specs.Parts.{IsPart};
 ghost use Rattle.rule_audit.specs.State.{AreStates};
 
-use crate::halving::diagram;
-use crate::labels::Labels;
-use crate::meeting::Meeting;
-use crate::nothing::Nothing;
-use crate::part::Part;
-use crate::scout::scouted;
+use crate::label_diagram::{Labels, diagram};
+use crate::label_walk::LabelWalk;
+use crate::list_parts::ListPart;
+use crate::overlay::Overlay;
+use crate::search::searched;
 use crate::state::RuleState;
 use field_boxes::Rule;
 use filter_reader::RuleList;
@@ -51,8 +49,8 @@ fn told(alloc: Global, rules: &[Rule], first: u32) -> Result<Vec<RuleState>, Mem
         IsStateSoFar IsHeader (next_behind rules.now k) (slice_index_or states.items k d)) }
 {
     let mut store = Store::new(alloc);
-    let part = Part::of(alloc, &mut store, rules)?;
-    let known = scouted(alloc, &store, rules, &part)?;
+    let part = ListPart::of(alloc, &mut store, rules)?;
+    let known = searched(alloc, &store, rules, &part)?;
     let left_open = unknown(alloc, &known)?;
     let found = by_labels(alloc, &mut store, rules, &left_open, first, &part)?;
     let states = filled(alloc, &known, &found)?;
@@ -95,7 +93,7 @@ fn by_labels(
     rules: &[Rule],
     left_open: &[bool],
     first: u32,
-    part: &Part,
+    part: &ListPart,
 ) -> Result<Vec<RuleState>, Memory>
     requires long { length left_open.now ≡ length rules.now }
     requires room { first + 3 * length rules.now ≤ 4294967296 }
@@ -107,12 +105,12 @@ fn by_labels(
     ensures each { IfOk result (λ states. (k : ℕ) (d : RuleState) → k < length rules.now → is_open left_open.now k ≡ true →
         IsStateSoFar IsHeader (next_behind rules.now k) (slice_index_or states.items k d)) }
 {
-    let nothing = Nothing::of(alloc, store)?;
+    let overlay = Overlay::of(alloc, store)?;
     let labels = Labels {
         rules,
         left_open,
         first,
-        nothing,
+        overlay,
     };
     if !labels.has_open(0, rules.len()) {
         let states = vec![in alloc; RuleState::Never; rules.len()]?;
@@ -138,7 +136,7 @@ fn met(
 {
     let mut seen = vec![in alloc; false; store.count()]?;
     let mut states = vec![in alloc; RuleState::Never; count]?;
-    let meeting = Meeting { store, root, first };
+    let meeting = LabelWalk { store, root, first };
     meeting.all(&mut seen, &mut states);
     Ok(states)
 }

@@ -65,8 +65,7 @@ pub(crate) struct Label {
 
 impl Label {
     ghost use Rattle.std.specs.Prelude.{◌≡◌, ◌≤◌, ◌+◌, ◌*◌};
-    ghost use Rattle.rule_audit.specs.Labels.{label_at, number_of};
-    ghost use Rattle.rule_audit.specs.Joined.{with_next};
+    ghost use Rattle.rule_audit.specs.Labels.{label_at, number_of, with_next};
 
     /// The label with the number: none below the first one.
     pub fn at(first: u32, number: u32) -> Option<Label>

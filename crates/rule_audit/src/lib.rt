@@ -15,11 +15,15 @@
 //! }
 //! ```
 //!
-//! What is promised: [`audit`] gives as many states as rules, and each is that of its rule in the list as it stands. Of
-//! a live rule the header is the least one whose decision, by name or none, changes when the rule is left out alone.
-//! Leaving a droppable rule out alone changes nothing, and the header is the least one that has it as its first
-//! matching rule. A rule is never first exactly where no header has it as its first. `specs/State.antt` says it; it
-//! stands on rules and headers.
+//! What is promised:
+//!
+//! - [`audit`] gives as many states as rules, and each is that of its rule in the list as it stands.
+//! - Of a live rule the header is the least one whose decision, by name or none, changes when the rule is left out alone.
+//! - Leaving a droppable rule out alone changes nothing, and the header is the least one that has it as its first
+//!   matching rule.
+//! - A rule is never first exactly where no header has it as its first.
+//!
+//! `specs/State.antt` says it; it stands on rules and headers.
 //!
 //! The diagrams of the list and of its halves are built first. A short search over them finds the states of most rules,
 //! and gives up on some. For these open rules one more diagram is made, by the same halves, whose leaves say which open
@@ -30,28 +34,22 @@
 //! | Room | Holds |
 //! |---|---|
 //! | `auditing`, `state` | the call, and the state of a rule |
-//! | `part`, `halving`, `over`, `nothing` | the diagrams of the parts of a list, and overlays of them |
-//! | `scout`, `seeking`, `telling`, `around`, `stepping`, `leaves`, `marks` | the short search |
-//! | `label`, `labels`, `meeting`, `headers` | labels of the open rules, and the walk that meets them |
+//! | `list_parts`, `overlay` | the diagrams of the parts of a list, and one diagram laid over another |
+//! | `search` | the short search through the rules of a list |
+//! | `search::least`, `search::around`, `search::branch`, `search::marks` | that for one rule: the diagrams around it, where a field's values lead, and nodes that answer alike everywhere |
+//! | `label`, `label_diagram` | labels of the open rules, and the diagram whose leaves hold them |
+//! | `label_walk`, `headers` | the walk that meets each label at its least header |
 #![tactic(auto)]
 
-mod around;
 mod auditing;
-mod halving;
 mod headers;
 mod label;
-mod labels;
-mod leaves;
-mod marks;
-mod meeting;
-mod nothing;
-mod over;
-mod part;
-mod scout;
-mod seeking;
+mod label_diagram;
+mod label_walk;
+mod list_parts;
+mod overlay;
+mod search;
 mod state;
-mod stepping;
-mod telling;
 
 pub use auditing::audit;
 pub use state::RuleState;

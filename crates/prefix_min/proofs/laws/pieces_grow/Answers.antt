@@ -1,4 +1,4 @@
-use Rattle.prefix_min.proofs.Growing.{follow_push, reach_push, weight_push}
+use Rattle.prefix_min.proofs.PieceWeights.{follow_push, reach_push, weight_push}
 use Rattle.prefix_min.proofs.laws.pieces_grow.Goals as goal
 
 pub returns : goal.returns

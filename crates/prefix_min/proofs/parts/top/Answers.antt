@@ -1,6 +1,6 @@
 use Rattle.std.proofs.Common.{arith}
 use Rattle.std.proofs.lemmas.Nat.{pow_pos}
-use Rattle.prefix_min.proofs.Powers.{one_bit}
+use Rattle.prefix_min.proofs.Blocks.{one_bit}
 use Rattle.prefix_min.proofs.parts.top.Goals as goal
 
 pub returns : goal.returns

@@ -1,8 +1,7 @@
 use Rattle.std.proofs.Common.{◌≡◌, ◌+◌, ◌∙◌, refl, arith, ap}
 use Rattle.prefix_min.specs.Savings.{saved}
 use Rattle.prefix_min.specs.declared.savings.LabelCost.{LabelCost}
-use Rattle.prefix_min.proofs.Listed.{rises_later}
-use Rattle.prefix_min.proofs.Adding.{add-step, all-sums, listed-head}
+use Rattle.prefix_min.proofs.Listed.{rises_later, add-step, all-sums, listed-head}
 use Rattle.prefix_min.proofs.savings.add.Goals as goal
 
 pub least_left-requires-clause-low_rises : goal.least_left-requires-clause-low_rises

@@ -1,5 +1,5 @@
 use Rattle.std.proofs.Common.{◌+◌, length}
-use Rattle.prefix_min.proofs.Adding.{AreAdded}
+use Rattle.prefix_min.proofs.Listed.{AreAdded}
 use Rattle.prefix_min.proofs.savings.add.Given as goal
 
 abbrev pub invariant-loop-label : goal.invariant-loop-label

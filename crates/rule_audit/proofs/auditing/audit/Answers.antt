@@ -3,7 +3,7 @@ use Rattle.std.proofs.lemmas.List.Elements.{recursion_from_All}
 use Rattle.field_boxes.specs.declared.rule.Rule.{Rule}
 use Rattle.field_boxes.specs.Headline.Fields.{IsHeader}
 use Rattle.field_boxes.specs.NamedRules.{IsNumberedBy}
-use Rattle.rule_audit.specs.Joined.{AllBelow, AllDecide}
+use Rattle.rule_audit.specs.Labels.{AllBelow, AllDecide}
 use Rattle.rule_audit.specs.Meeting.{IsStateSoFar, next_behind}
 use Rattle.rule_audit.proofs.Named.{all_below, all_decide, are_states}
 use Rattle.rule_audit.proofs.auditing.audit.Goals as goal

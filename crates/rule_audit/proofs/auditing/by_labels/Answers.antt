@@ -3,7 +3,7 @@ use Rattle.field_boxes.specs.Headline.Fields.{IsHeader}
 use Rattle.rule_audit.specs.Labels.{label_at}
 use Rattle.rule_audit.specs.Meeting.{next_behind, next_shown, shown_by}
 use Rattle.rule_audit.proofs.Behind.{shows_behind}
-use Rattle.rule_audit.proofs.Parts.{part_stays}
+use Rattle.rule_audit.proofs.PartsShown.{part_stays}
 use Rattle.rule_audit.proofs.SoFar.{shown_alike}
 use Rattle.rule_audit.proofs.auditing.by_labels.Goals as goal
 
@@ -16,4 +16,4 @@ returns-clause-each c = λ k d less opens.
     (get_or c.in_ok-states-2.states.items k d) (c.in_ok-states-2.ensures.each k d less)
 
 pub diagram-requires-clause-part : goal.diagram-requires-clause-part
-diagram-requires-clause-part c = part_stays c.args.store.now c.of.new.store c.args.rules.now c.args.part.now c.in_ok-nothing.ensures.grows c.requires.part
+diagram-requires-clause-part c = part_stays c.args.store.now c.of.new.store c.args.rules.now c.args.part.now c.in_ok-overlay.ensures.grows c.requires.part

@@ -3,8 +3,7 @@ use Rattle.prefix_min.specs.Pieces.{label_at}
 use Rattle.prefix_min.specs.PrefixList.{weight}
 use Rattle.prefix_min.specs.Rows.{AreFieldRows}
 use Rattle.prefix_min.specs.Trie.{costs_of}
-use Rattle.prefix_min.proofs.FieldChoice.{chosen}
-use Rattle.prefix_min.proofs.FieldRows.{right, labels, weighs, in-order}
+use Rattle.prefix_min.proofs.FieldRows.{chosen, right, labels, weighs, in-order}
 use Rattle.prefix_min.proofs.Walking.{all-rows}
 use Rattle.prefix_min.proofs.Whole.{IsFresh, least}
 use Rattle.prefix_min.proofs.costing.Costing.cheapest.Goals as goal

@@ -1,4 +1,4 @@
-use Rattle.prefix_min.proofs.FieldCost.{least-weight}
+use Rattle.prefix_min.proofs.FieldRows.{least-weight}
 use Rattle.prefix_min.proofs.costing.Costing.minimum.Goals as goal
 
 pub returns : goal.returns

@@ -3,11 +3,10 @@ use Rattle.field_boxes.specs.Spans.{interval_of}
 use Rattle.redundancy_laws.specs.Built.{row_at}
 use Rattle.redundancy_laws.specs.Rows.{Row, in_front}
 use Rattle.redundancy_laws.specs.Layers.{rows_of_runs}
-use Rattle.redundancy.specs.declared.block.Run.{Run}
-use Rattle.redundancy.specs.Blocks.{rows_of, run_by}
+use Rattle.redundancy.specs.declared.blocks.Run.{Run}
+use Rattle.redundancy.specs.Blocks.{rows_of, run_by, IsBuilt}
 use Rattle.node_store.specs.Levels.{next}
-use Rattle.redundancy.specs.Built.{IsBuilt}
-use Rattle.redundancy.specs.Gathered.{AreGathered}
+use Rattle.redundancy.specs.Lists.{AreGathered}
 use Rattle.redundancy.proofs.Gathering.{gathered_more, gathered_none, list_kept}
 use Rattle.redundancy.proofs.ListRows.{before_more}
 use Rattle.redundancy.proofs.blocks.Blocks.+of.Goals as goal

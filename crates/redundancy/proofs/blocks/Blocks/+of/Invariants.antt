@@ -1,7 +1,7 @@
 use Rattle.std.proofs.Common.{◌≡◌, ◌+◌, ◌*◌, ◌++◌, List, length, map}
 use Rattle.redundancy_laws.specs.Built.{row_at}
 use Rattle.redundancy_laws.specs.Rows.{Row}
-use Rattle.redundancy.specs.Gathered.{AreGathered}
+use Rattle.redundancy.specs.Lists.{AreGathered}
 use Rattle.redundancy.proofs.blocks.Blocks.+of.Given as goal
 
 abbrev pub decreases-of : goal.decreases-of

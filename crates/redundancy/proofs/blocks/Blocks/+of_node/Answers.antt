@@ -11,12 +11,10 @@ use Rattle.table_compose.specs.declared.row.Row.{Row}
 use Rattle.table_compose.specs.Composed.{HaveLists}
 use Rattle.table_compose.specs.Rows.{rows_at}
 use Rattle.table_compose.proofs.Gaining.{list_there, lists_at}
-use Rattle.redundancy.specs.Built.{IsBuilt}
-use Rattle.redundancy.specs.NodeRows.{node_rows}
-use Rattle.redundancy.proofs.Costs.{one_less}
-use Rattle.redundancy.specs.Known.{HasPlans}
-use Rattle.redundancy.proofs.NodeBlocks.{block_of, known_built, still_known}
-use Rattle.redundancy.proofs.NodeRuns.{below_of, first_below, first_width, node_made, some_turned, turned_more, turned_none}
+use Rattle.redundancy.specs.Blocks.{IsBuilt}
+use Rattle.redundancy.specs.NodeBlocks.{node_rows, HasPlans}
+use Rattle.redundancy.proofs.Flagged.{one_less}
+use Rattle.redundancy.proofs.NodeBlocks.{block_of, known_built, still_known, below_of, first_below, first_width, node_made, some_turned, turned_more, turned_none}
 use Rattle.redundancy.proofs.blocks.Blocks.+of_node.Goals as goal
 
 pub of_node-returns-in-Some-clause-built : goal.of_node-returns-in-Some-clause-built

@@ -2,8 +2,8 @@ use Rattle.std.proofs.Common.{◌+◌, ◌*◌, length, take}
 use Rattle.node_store.specs.Levels.{next}
 use Rattle.table_compose.specs.Rows.{rows_at, rows_of}
 use Rattle.redundancy_laws.specs.Built.{field_of}
-use Rattle.redundancy.specs.NodeRows.{in_turn, node_rows}
-use Rattle.redundancy.proofs.NodeRuns.{AreTurned}
+use Rattle.redundancy.specs.NodeBlocks.{in_turn, node_rows}
+use Rattle.redundancy.proofs.NodeBlocks.{AreTurned}
 use Rattle.redundancy.proofs.blocks.Blocks.+of_node.Given as goal
 
 abbrev pub decreases-of_node : goal.decreases-of_node

@@ -1,6 +1,6 @@
 use Rattle.std.proofs.Common.{◌/◌, length}
 use Rattle.std.proofs.lemmas.Result.{IfOk-weaker}
-use Rattle.redundancy.proofs.Sequences.{halves_built}
+use Rattle.redundancy.proofs.BlockRows.{halves_built}
 use Rattle.redundancy.proofs.blocks.Blocks.+sequence.Goals as goal
 
 pub returns : goal.returns

@@ -12,16 +12,14 @@ use Rattle.redundancy_laws.specs.Rows.{last_row}
 use Rattle.redundancy_laws.specs.Layers.{rows_of_runs, end_of}
 use Rattle.redundancy_laws.specs.Sifted.{AreContexts, IsSifted, node_at}
 use Rattle.redundancy_laws.proofs.Kept.{pairs-stay}
-use Rattle.redundancy.specs.declared.block.Block.TheVariants.{Last, Layer, Two}
-use Rattle.redundancy.specs.declared.block.Cover.{Cover}
+use Rattle.redundancy.specs.declared.blocks.Block.TheVariants.{Last, Layer, Two}
+use Rattle.redundancy.specs.declared.blocks.Cover.{Cover}
 use Rattle.redundancy.specs.Blocks.{FitsRun, RiseApart, rows_of, cover_at, run_by}
 use Rattle.redundancy.specs.Remembered.{IsAnswered, same_asked}
-use Rattle.redundancy.proofs.BlockRows.{last_rows, layer_rows, two_rows}
-use Rattle.redundancy.proofs.BlocksStay.{blocks_stay, leads}
-use Rattle.redundancy.proofs.Recalled.{memo_stays}
+use Rattle.redundancy.proofs.BlockRows.{last_rows, layer_rows, two_rows, blocks_stay, leads}
+use Rattle.redundancy.proofs.Removals.{memo_stays}
 use Rattle.redundancy.proofs.Ends.{moved, two_end, before_pairs}
-use Rattle.redundancy.proofs.LayerDrafts.{draft_start, draft_next, draft_full, above_front, apart_front, end_inside, numbers_now, changes_now, layer_end}
-use Rattle.redundancy.proofs.Running.{pairs_listed, run_clause, answers_room}
+use Rattle.redundancy.proofs.LayerDrafts.{draft_start, draft_next, draft_full, above_front, apart_front, end_inside, numbers_now, changes_now, layer_end, pairs_listed, run_clause, answers_room}
 use Rattle.redundancy.proofs.blocks.Blocks.+sift.Goals as goal
 
 pub sift-last-requires : goal.sift-last-requires

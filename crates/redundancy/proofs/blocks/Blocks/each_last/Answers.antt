@@ -2,7 +2,7 @@ use Rattle.std.proofs.Common.{[], ◌∷◌, List, ap, sym, subst, ◌∙◌, �
 use Rattle.std.proofs.lemmas.List.{length-append, take_all}
 use Rattle.redundancy_laws.specs.Built.{row_at}
 use Rattle.redundancy_laws.specs.Rows.{Row, last_row}
-use Rattle.redundancy.specs.Built.{AreBuilt}
+use Rattle.redundancy.specs.Blocks.{AreBuilt}
 use Rattle.redundancy.proofs.Gathering.{lasts_step, map_next, none_built}
 use Rattle.redundancy.proofs.blocks.Blocks.each_last.Goals as goal
 

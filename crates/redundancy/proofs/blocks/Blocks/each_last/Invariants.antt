@@ -1,6 +1,6 @@
 use Rattle.std.proofs.Common.{◌≡◌, [], length, map, take}
 use Rattle.redundancy_laws.specs.Built.{row_at}
-use Rattle.redundancy.specs.Built.{AreBuilt}
+use Rattle.redundancy.specs.Blocks.{AreBuilt}
 use Rattle.redundancy.proofs.blocks.Blocks.each_last.Given as goal
 
 abbrev pub invariant-loop-entry : goal.invariant-loop-entry

@@ -2,9 +2,8 @@ use Rattle.std.proofs.Common.{[], subst, map}
 use Rattle.std.specs.List.{flat_map}
 use Rattle.std.proofs.lemmas.Result.{IfOk-weaker}
 use Rattle.redundancy_laws.specs.Built.{row_at}
-use Rattle.redundancy.specs.Built.{IsBuilt}
-use Rattle.redundancy.specs.Blocks.{rows_of}
-use Rattle.redundancy.proofs.BlocksStay.{blocks_stay}
+use Rattle.redundancy.specs.Blocks.{IsBuilt, rows_of}
+use Rattle.redundancy.proofs.BlockRows.{blocks_stay}
 use Rattle.redundancy.proofs.Gathering.{grown_built, numbers_built}
 use Rattle.redundancy.proofs.blocks.Blocks.lasts.Goals as goal
 

@@ -1,6 +1,6 @@
 use Rattle.node_store.proofs.Canonical.{is_level}
 use Rattle.redundancy.proofs.Numbers.{always_stays}
-use Rattle.redundancy.proofs.Sequences.{laid_start, laid_step}
+use Rattle.redundancy.proofs.BlockRows.{laid_start, laid_step}
 use Rattle.redundancy.proofs.blocks.Blocks.layers.Goals as goal
 
 pub loop-rest-init : goal.loop-rest-init

@@ -1,6 +1,6 @@
 use Rattle.std.proofs.Common.{length}
 use Rattle.field_sets.specs.Constant.{AnswersAlways}
-use Rattle.redundancy.proofs.Sequences.{AreLaid}
+use Rattle.redundancy.proofs.BlockRows.{AreLaid}
 use Rattle.redundancy.proofs.blocks.Blocks.layers.Given as goal
 
 abbrev pub invariant-loop-rest : goal.invariant-loop-rest

@@ -1,6 +1,6 @@
 use Rattle.std.proofs.Common.{subst}
 use Rattle.std.proofs.lemmas.Result.{IfOk-weaker}
-use Rattle.redundancy.specs.declared.block.Cover.{Cover}
+use Rattle.redundancy.specs.declared.blocks.Cover.{Cover}
 use Rattle.redundancy_laws.specs.Sifted.{IsUnion}
 use Rattle.redundancy.specs.Blocks.{cover_at}
 use Rattle.redundancy.proofs.Builds.{two_built}

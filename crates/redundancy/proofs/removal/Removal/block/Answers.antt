@@ -1,6 +1,6 @@
 use Rattle.std.proofs.lemmas.Result.{IfOk-weaker}
 use Rattle.table_compose.specs.Rows.{rows_at}
-use Rattle.redundancy.specs.NodeRows.{node_rows}
+use Rattle.redundancy.specs.NodeBlocks.{node_rows}
 use Rattle.redundancy.proofs.Removals.{removal_built}
 use Rattle.node_store.proofs.Orders.{order_level}
 use Rattle.redundancy.proofs.removal.Removal.block.Goals as goal

@@ -5,9 +5,9 @@ use Rattle.table_compose.specs.Composed.{IsAnswer}
 use Rattle.ternary_words.specs.Prefixes.{IsPrefixInEach}
 use Rattle.ternary_words.specs.Views.{word_of}
 use Rattle.redundancy.specs.Kept.{AreKeptOf}
-use Rattle.redundancy.proofs.NodePlans.{has_plans}
+use Rattle.redundancy.proofs.NodeBlocks.{has_plans}
 use Rattle.redundancy.proofs.Removals.{memory_refused, removal_learnt, unless_memory}
-use Rattle.redundancy.proofs.Tight.{all_of_part, part_few, table_answers, table_decides, table_prefixes}
+use Rattle.redundancy.proofs.NodeRows.{all_of_part, part_few, table_answers, table_decides, table_prefixes}
 use Rattle.redundancy.proofs.removal.Removal.compose_tight.Goals as goal
 
 pub returns-clause-composed : goal.returns-clause-composed

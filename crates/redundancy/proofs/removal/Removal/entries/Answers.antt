@@ -1,5 +1,5 @@
 use Rattle.table_compose.specs.Rows.{rows_at}
-use Rattle.redundancy.proofs.Tight.{kept_of}
+use Rattle.redundancy.proofs.NodeRows.{kept_of}
 use Rattle.node_store.proofs.Orders.{order_level}
 use Rattle.redundancy.proofs.removal.Removal.entries.Goals as goal
 

@@ -2,7 +2,7 @@ use Rattle.std.proofs.lemmas.Result.{IfOk-weaker}
 use Rattle.table_compose.specs.Rows.{rows_at}
 use Rattle.redundancy.specs.Blocks.{rows_of}
 use Rattle.redundancy.proofs.Removals.{removal_sifted}
-use Rattle.redundancy.proofs.Tight.{kept_by_rows}
+use Rattle.redundancy.proofs.NodeRows.{kept_by_rows}
 use Rattle.redundancy.proofs.removal.Removal.flags.Goals as goal
 
 pub returns-clause-kept : goal.returns-clause-kept

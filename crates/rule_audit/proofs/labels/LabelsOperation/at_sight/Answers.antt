@@ -1,9 +1,0 @@
-use Rattle.rule_audit.specs.Joined.{joined}
-use Rattle.rule_audit.proofs.Joining.{none_above, none_below}
-use Rattle.rule_audit.proofs.labels.LabelsOperation.at_sight.Goals as goal
-
-pub returns : goal.returns
-returns c =
-    let first = c.args.self.now.first in
-    let rules = c.args.self.now.rules.now in
-    c.beside.ensures (joined first rules) (none_above first rules) (none_below first rules)
