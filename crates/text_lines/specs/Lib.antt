@@ -1,4 +1,4 @@
 pub mod Headline
 pub mod Numbers
 pub mod Columns
-pub mod Refused
+pub mod Reading

@@ -1,7 +1,6 @@
 //! Reading a text line by line, up to its first bad line.
 ghost use Rattle.std.specs.Prelude.{◌≡◌, List, ℕ, MatchResult, Ok, OnOk, Result};
-ghost use Rattle.text_lines.specs.Headline.Reading.{read_text};
-ghost use Rattle.text_lines.specs.Refused.{BecomesTextError, IsLineRefused, IsTextRefused};
+ghost use Rattle.text_lines.specs.Reading.{BecomesTextError, IsLineRefused, IsTextRefused, read_text};
 
 use crate::error::{LineError, TextError};
 use crate::line::{is_skipped, next_line};

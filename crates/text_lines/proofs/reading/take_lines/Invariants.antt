@@ -1,6 +1,7 @@
 use Rattle.std.proofs.Common.{◌≡◌, ◌+◌, ◌≤◌, length}
 use Rattle.text_lines.specs.Headline.Lines.{text_lines}
-use Rattle.text_lines.specs.Headline.Reading.{read_from, read_text}
+use Rattle.text_lines.specs.Headline.Reading.{read_from}
+use Rattle.text_lines.specs.Reading.{read_text}
 use Rattle.text_lines.proofs.reading.take_lines.Given as goal
 
 abbrev pub invariant-lines : goal.invariant-lines

@@ -1,10 +1,24 @@
--- What refuses a text.
-use Rattle.std.specs.Prelude.{◌≡◌, ℕ, Result, Err}
-use Rattle.text_lines.specs.Headline.Reading.{BadLine}
+-- Texts that are read line by line, and what refuses one.
+use Rattle.std.specs.Prelude.{◌≡◌, ℕ, List, [], ◌∷◌, ◌++◌, Result, Ok, Err}
+use Rattle.text_lines.specs.Headline.Fallible.{◌>>=◌}
+use Rattle.text_lines.specs.Headline.Lines.{text_lines}
+use Rattle.text_lines.specs.Headline.Reading.{BadLine, read_from}
 use Rattle.text_lines.specs.declared.error.LineError.{LineError}
 use Rattle.text_lines.specs.declared.error.LineError.TheVariants as line_errors
 use Rattle.text_lines.specs.declared.error.TextError.{TextError}
 use Rattle.text_lines.specs.declared.error.TextError.TheVariants as errors
+
+-- what the lines of a text come to behind what was read, or its first bad line
+abbrev pub read_text : {A R : Type 0} → (A → List ℕ → Result A R) → A → List ℕ → Result A (BadLine R)
+read_text step read text = read_from step read 1 (text_lines text)
+
+-- items, and that of one more line
+abbrev pub with_item : {A R : Type 0} → (List ℕ → Result A R) → List A → List ℕ → Result (List A) R
+with_item item_of items line = item_of line >>= (λ item. Ok (items ++ item ∷ []))
+
+-- the items of the lines that aren't skipped, or the first bad line
+abbrev pub items_of : {A R : Type 0} → (List ℕ → Result A R) → List ℕ → Result (List A) (BadLine R)
+items_of item_of text = read_text (with_item item_of) [] text
 
 -- a line is refused for its reason, unless memory was
 abbrev pub IsLineRefused : {A R : Type 0} → LineError R → Result A R → Type 0
