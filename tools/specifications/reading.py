@@ -73,6 +73,7 @@ SECTIONS = [
             ("text_lines", "Headline.Cuts"),
             ("text_lines", "Headline.Numbers"),
             ("text_lines", "Headline.Lines"),
+            ("text_lines", "Headline.Reading"),
             ("razor_base", "limits"),
             ("field_boxes", "Headline.Names"),
             ("filter_reader", "reason"),

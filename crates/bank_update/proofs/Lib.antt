@@ -11,7 +11,6 @@ pub mod LookUps
 pub mod OldOrNew
 pub mod Keeping
 pub mod Ending
-pub mod ReadSoFar
 pub mod Driving
 pub mod Taking
 pub mod Calm

@@ -1,3 +1,4 @@
+pub mod Reasons
 pub mod Banks
 pub mod Writes
 pub mod Machine

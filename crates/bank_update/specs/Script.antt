@@ -1,11 +1,12 @@
 -- A script: its commands, and the text that spells them.
-use Rattle.std.specs.Prelude.{ℕ, ◌+◌, ◌≤◌, List, [], ◌∷◌, ◌++◌, nat_le, codes, Option, Some, None, Result, Ok, Err, ok_or, if◌then◌else◌}
+use Rattle.std.specs.Prelude.{ℕ, ◌≤◌, List, [], ◌∷◌, nat_le, codes, Option, Some, None, Result, Err, ok_or, if◌then◌else◌}
 use Rattle.std.specs.Str.{bytes_eq}
 use Rattle.field_boxes.specs.Fields.{greatest_of}
 use Rattle.text_lines.specs.Columns.{columns, first_column}
-use Rattle.text_lines.specs.Headline.Lines.{text_lines, is_skipped}
 use Rattle.text_lines.specs.Headline.Numbers.{number_within}
+use Rattle.text_lines.specs.Headline.Reading.{BadLine}
 use Rattle.text_lines.specs.Headline.Steps.{◌>>=◌}
+use Rattle.text_lines.specs.Reading.{items_of}
 use Rattle.bank_update.specs.declared.reason.ScriptReason.{ScriptReason}
 use Rattle.bank_update.specs.declared.reason.ScriptReason.TheVariants as reasons
 
@@ -78,37 +79,10 @@ abbrev pub event_of_columns : ℕ → List (List ℕ) → Result Event ScriptRea
 event_of_columns tables [] = Err reasons.Command
 event_of_columns tables (word ∷ columns) = event_named tables word columns
 
--- a bad line, counted from 1, and its first reason
-pub record BadLine : Type 0 where
-  pub line : ℕ
-  pub reason : ScriptReason
-
--- an event in front of what the lines after it come to
-abbrev pub with_event : Event → Result (List Event) BadLine → Result (List Event) BadLine
-with_event event (Ok events) = Ok (event ∷ events)
-with_event event (Err bad) = Err bad
-
--- the event of a line in front of what the lines after it come to
-abbrev pub in_front : ℕ → Result Event ScriptReason → Result (List Event) BadLine → Result (List Event) BadLine
-in_front number (Err reason) rest = Err (record { line = number; reason = reason })
-in_front number (Ok event) rest = with_event event rest
-
--- the script of lines, of which the first has this number
-abbrev pub script_from : ℕ → ℕ → List (List ℕ) → Result (List Event) BadLine
-script_from tables number [] = Ok []
-script_from tables number (line ∷ lines) =
-    if is_skipped line then script_from tables (number + 1) lines
-    else in_front number (event_of_columns tables (columns line)) (script_from tables (number + 1) lines)
+-- the event of a line
+abbrev pub event_of_line : ℕ → List ℕ → Result Event ScriptReason
+event_of_line tables line = event_of_columns tables (columns line)
 
 -- the script that a text spells, or its first bad line
-abbrev pub script_of : ℕ → List ℕ → Result (List Event) BadLine
-script_of tables text = script_from tables 1 (text_lines text)
-
--- the script that was read so far, and one more line
-abbrev pub behind : List Event → Result Event ScriptReason → Result (List Event) ScriptReason
-behind events (Ok event) = Ok (events ++ event ∷ [])
-behind events (Err reason) = Err reason
-
--- the script with what a line comes to behind it
-abbrev pub with_line : ℕ → List Event → List ℕ → Result (List Event) ScriptReason
-with_line tables events line = if is_skipped line then Ok events else behind events (event_of_columns tables (columns line))
+abbrev pub script_of : ℕ → List ℕ → Result (List Event) (BadLine ScriptReason)
+script_of tables text = items_of (event_of_line tables) text

@@ -1,14 +1,16 @@
 -- A session has at most one command that adds a rule for each 40 bytes of its text.
-use Rattle.std.proofs.Common.{◌≡◌, ◌∷◌, ℕ, ◌+◌, ◌-◌, ◌*◌, ◌≤◌, List, Bool, true, false, cond, [], ap, refl, sym, subst, ◌∙◌, append-nil, arith, length, take, map, Ok, Err}
-use Rattle.std.specs.Prelude.{Result, count_by, nat_eq, ◌==◌}
+use Rattle.std.proofs.Common.{◌≡◌, ◌∷◌, ℕ, ◌+◌, ◌-◌, ◌*◌, ◌≤◌, List, Bool, true, false, cond, [], ◌++◌, refl, subst, arith, length, take, map, Ok, Err}
+use Rattle.std.specs.Prelude.{Result, count_by, nat_eq, ◌==◌, if◌then◌else◌}
 use Rattle.std.specs.List.{ends_with, onto_first}
 use Rattle.std.proofs.lemmas.List.{length-take}
-use Rattle.std.proofs.lemmas.List.Sums.{sum_by-cons}
+use Rattle.std.proofs.lemmas.List.Sums.{sum_by-append, sum_by-cons}
+use Rattle.text_lines.specs.Headline.Fallible.{◌>>=◌}
+use Rattle.text_lines.specs.Headline.Reading.{BadLine, at_line, read_from}
+use Rattle.text_lines.specs.Reading.{with_item}
 use Rattle.text_lines.specs.Headline.Lines.{text_lines, is_skipped, lines_of, without_return}
 use Rattle.edit_session.specs.declared.reason.SessionReason.{SessionReason}
-use Rattle.edit_session.specs.SessionText.{BadLine, SessionEvent, event_of_line, in_front, is_add, session_from, session_of}
+use Rattle.edit_session.specs.SessionText.{SessionEvent, event_of_line, is_add, session_of}
 use Rattle.edit_session.proofs.AddBytes.{adds, line_bytes}
-use Rattle.edit_session.proofs.ReadSoFar.{with_front}
 
 -- the bytes of lines
 abbrev bytes_of : List (List ℕ) → ℕ
@@ -38,36 +40,32 @@ returns_fit (line ∷ lines) = let this = shorter_if line (ends_with nat_eq line
 text_fits : (text : List ℕ) → bytes_of (text_lines text) ≤ length text
 text_fits text = omega (arith, returns_fit (lines_of text), lines_fit text)
 
-one_more : (event : SessionEvent) (events : List SessionEvent) → count_by is_add (event ∷ events) ≡ adds event + count_by is_add events
-one_more event events = sum_by-cons adds event events
+-- lines of so many bytes have few behind some events
+abbrev Few : List SessionEvent → ℕ → Result (List SessionEvent) (BadLine SessionReason) → Type 0
+Few before n read = (events : List SessionEvent) → read ≡ Ok events → 40 * count_by is_add events ≤ 40 * count_by is_add before + n
 
--- what the lines come to has few
-abbrev Few : ℕ → Result (List SessionEvent) BadLine → Type 0
-Few n r = (events : List SessionEvent) → r ≡ Ok events → 40 * count_by is_add events ≤ n
-
-front_few : (number : ℕ) (line : List ℕ) (n : ℕ) (r : Result SessionEvent SessionReason) (rest : Result (List SessionEvent) BadLine) → event_of_line line ≡ r → Few n rest → Few (length line + n) (in_front number r rest)
-front_few number line n (Err reason) rest e few = λ events h. absurd (cc)
-front_few number line n (Ok event) (Err bad) e few = λ events h. absurd (cc)
-front_few number line n (Ok event) (Ok more) e few =
-    λ events h. let same : event ∷ more ≡ events = cc in
+one_few : (before : List SessionEvent) (line : List ℕ) (skipped : Bool) (r : Result SessionEvent SessionReason) (next : List SessionEvent) → event_of_line line ≡ r →
+    cond skipped (Ok before) (r >>= (λ event. Ok (before ++ event ∷ []))) ≡ Ok next → 40 * count_by is_add next ≤ 40 * count_by is_add before + length line
+one_few before line true r next e h = let same : before ≡ next = cc in subst (λ (xs : List SessionEvent). 40 * count_by is_add xs ≤ 40 * count_by is_add before + length line) same (omega arith)
+one_few before line false (Err reason) next e h = absurd (cc)
+one_few before line false (Ok event) next e h =
+    let same : before ++ event ∷ [] ≡ next = cc in
     let this = line_bytes line event e in
-    let others = few more refl in
-    let count = one_more event more in
-    subst (λ (xs : List SessionEvent). 40 * count_by is_add xs ≤ length line + n) same (omega (arith, this, others, count))
+    let count = sum_by-append adds before (event ∷ []) in
+    let one = sum_by-cons adds event [] in
+    subst (λ (xs : List SessionEvent). 40 * count_by is_add xs ≤ 40 * count_by is_add before + length line) same (omega (arith, this, count, one))
 
-few_step : (number : ℕ) (line : List ℕ) (lines : List (List ℕ)) (t : Bool) → is_skipped line ≡ t → Few (bytes_of lines) (session_from (number + 1) lines) → Few (bytes_of (line ∷ lines)) (session_from number (line ∷ lines))
-few_step number line lines true e few = λ events h. let at = few events (rw e at h) in omega (arith, at)
-few_step number line lines false e few = λ events h. front_few number line (bytes_of lines) (event_of_line line) (session_from (number + 1) lines) refl few events (rw e at h)
+then_few : (before : List SessionEvent) (line : List ℕ) (n number : ℕ) (read : Result (List SessionEvent) SessionReason) (rest : List SessionEvent → Result (List SessionEvent) (BadLine SessionReason)) →
+    ((next : List SessionEvent) → read ≡ Ok next → 40 * count_by is_add next ≤ 40 * count_by is_add before + length line) → ((next : List SessionEvent) → Few next n (rest next)) →
+    Few before (length line + n) (at_line number read >>= rest)
+then_few before line n number (Err reason) rest one few = λ events h. absurd (cc)
+then_few before line n number (Ok next) rest one few = λ events h. let this = one next refl in let others = few next events h in omega (arith, this, others)
 
-lines_few : (number : ℕ) (lines : List (List ℕ)) → Few (bytes_of lines) (session_from number lines)
-lines_few number [] = λ events h. let same : [] ≡ events = cc in subst (λ (xs : List SessionEvent). 40 * count_by is_add xs ≤ 0) same (omega arith)
-lines_few number (line ∷ lines) = few_step number line lines (is_skipped line) refl (lines_few (number + 1) lines)
+lines_few : (before : List SessionEvent) (number : ℕ) (lines : List (List ℕ)) → Few before (bytes_of lines) (read_from (with_item event_of_line) before number lines)
+lines_few before number [] = λ events h. let same : before ≡ events = cc in subst (λ (xs : List SessionEvent). 40 * count_by is_add xs ≤ 40 * count_by is_add before + 0) same (omega arith)
+lines_few before number (line ∷ lines) =
+    then_few before line (bytes_of lines) number (if is_skipped line then Ok before else with_item event_of_line before line) (λ next. read_from (with_item event_of_line) next (number + 1) lines)
+    (λ next. one_few before line (is_skipped line) (event_of_line line) next refl) (λ next. lines_few next (number + 1) lines)
 
 pub few_adds : (text : List ℕ) (events : List SessionEvent) → session_of text ≡ Ok events → 40 * count_by is_add events ≤ length text
-few_adds text events h = let few = lines_few 1 (text_lines text) events h in let fits = text_fits text in omega (arith, few, fits)
-
--- the same where a text was read to its end
-pub all_few : (text rest : List ℕ) (number : ℕ) (events : List SessionEvent) → with_front events (session_from number (text_lines rest)) ≡ session_of text → rest ≡ [] → 40 * count_by is_add events ≤ length text
-all_few text rest number events reads none =
-    let read = rw none at reads in
-    few_adds text events (sym read ∙ ap (λ (xs : List SessionEvent). Ok xs) (append-nil events))
+few_adds text events h = let few = lines_few [] 1 (text_lines text) events h in let fits = text_fits text in omega (arith, few, fits)

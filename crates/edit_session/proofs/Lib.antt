@@ -6,7 +6,6 @@ pub mod Begun
 pub mod Tables
 pub mod Deciding
 pub mod Settling
-pub mod ReadSoFar
 pub mod Behind
 pub mod Rooms
 pub mod RuleBytes

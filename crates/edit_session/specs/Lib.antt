@@ -1,3 +1,4 @@
+pub mod Reasons
 pub mod Refusals
 pub mod Lists
 pub mod Machine

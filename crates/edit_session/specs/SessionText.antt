@@ -1,12 +1,13 @@
 -- The text of an editing session: its commands, and the lines that spell them.
-use Rattle.std.specs.Prelude.{ℕ, ◌+◌, Bool, true, false, List, [], ◌∷◌, codes, Option, Some, None, Result, Ok, Err, ok_or, if◌then◌else◌}
+use Rattle.std.specs.Prelude.{ℕ, Bool, true, false, List, [], ◌∷◌, codes, Option, Some, None, Result, Ok, Err, ok_or, if◌then◌else◌}
 use Rattle.std.specs.Result.{result_ok}
 use Rattle.std.specs.Str.{bytes_eq}
 use Rattle.field_boxes.specs.Headline.Classifier.{Rule}
 use Rattle.text_lines.specs.Columns.{behind_column, columns, first_column}
-use Rattle.text_lines.specs.Headline.Lines.{is_skipped, text_lines}
 use Rattle.text_lines.specs.Headline.Numbers.{short_number}
+use Rattle.text_lines.specs.Headline.Reading.{BadLine}
 use Rattle.text_lines.specs.Headline.Steps.{◌>>=◌}
+use Rattle.text_lines.specs.Reading.{items_of}
 use Rattle.filter_reader.specs.Headline.RuleLine.{rule_line}
 use Rattle.bank_update.specs.Script.{values_of}
 use Rattle.edit_session.specs.declared.reason.SessionReason.{SessionReason}
@@ -95,28 +96,6 @@ event_behind (Some column) text = event_named column.0 text
 abbrev pub event_of_line : List ℕ → Result SessionEvent SessionReason
 event_of_line line = event_behind (first_column (columns line)) (behind_column line)
 
--- a bad line, counted from 1, and its first reason
-pub record BadLine : Type 0 where
-  pub line : ℕ
-  pub reason : SessionReason
-
--- an event in front of what the lines after it come to
-abbrev pub with_event : SessionEvent → Result (List SessionEvent) BadLine → Result (List SessionEvent) BadLine
-with_event event (Ok events) = Ok (event ∷ events)
-with_event event (Err bad) = Err bad
-
--- the event of a line in front of what the lines after it come to
-abbrev pub in_front : ℕ → Result SessionEvent SessionReason → Result (List SessionEvent) BadLine → Result (List SessionEvent) BadLine
-in_front number (Err reason) rest = Err (record { line = number; reason = reason })
-in_front number (Ok event) rest = with_event event rest
-
--- the session of lines, of which the first has this number
-abbrev pub session_from : ℕ → List (List ℕ) → Result (List SessionEvent) BadLine
-session_from number [] = Ok []
-session_from number (line ∷ lines) =
-    if is_skipped line then session_from (number + 1) lines
-    else in_front number (event_of_line line) (session_from (number + 1) lines)
-
 -- the session that a text spells, or its first bad line
-abbrev pub session_of : List ℕ → Result (List SessionEvent) BadLine
-session_of text = session_from 1 (text_lines text)
+abbrev pub session_of : List ℕ → Result (List SessionEvent) (BadLine SessionReason)
+session_of text = items_of event_of_line text

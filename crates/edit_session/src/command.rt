@@ -4,9 +4,10 @@ ghost use Rattle.field_boxes.specs.Rules.{sets_of};
 ghost use Rattle.filter_reader.specs.FilterRules.{IsFilterRule};
 ghost use Rattle.filter_reader.specs.LineRules.{IsLineRule, spelled_rule};
 ghost use Rattle.text_lines.specs.Columns.{behind_column, columns};
+ghost use Rattle.text_lines.specs.Reading.{IsLineRefused};
 ghost use Rattle.bank_update.specs.Commands.{column_seen};
 ghost use Rattle.edit_session.specs.SessionText.{add_of, event_named, event_of_line, look_of, other_named, place_column, rule_of, take_out_of, when_done};
-ghost use Rattle.edit_session.specs.SessionViews.{IsCommand, IsLineRefused, event_of, event_seen};
+ghost use Rattle.edit_session.specs.SessionViews.{IsCommand, event_of, event_seen};
 ghost use Rattle.edit_session.specs.declared.reason.SessionReason.TheVariants.{Arguments};
 
 use crate::reason::SessionReason;
@@ -15,14 +16,7 @@ use bank_update::header_of;
 use field_boxes::Rule;
 use filter_reader::{LineRule, rule_of_line};
 use std::alloc::Global;
-use text_lines::{next_column, short_number};
-
-/// Why a line was refused.
-#[derive(Clone, Copy)]
-pub(crate) enum LineError {
-    Bad(SessionReason),
-    Memory,
-}
+use text_lines::{LineError, next_column, short_number};
 
 /// The command, where no column is left.
 fn when_done(command: SessionCommand, line: &[u8]) -> Option<SessionCommand>
@@ -124,7 +118,7 @@ fn undecided(line: &LineRule<'_>) -> Rule
 
 /// A place, and on the rest of the line a good rule line with a decision word.
 #[tactic(auto, unfolding(crate::specs::SessionText::rule_of))]
-fn add_of(alloc: Global, text: &[u8]) -> Result<SessionCommand, LineError>
+fn add_of(alloc: Global, text: &[u8]) -> Result<SessionCommand, LineError<SessionReason>>
     ensures read { MatchResult result
         (λ c. add_of (place_column (columns text.now)) (rule_of (behind_column text.now)) ≡ Ok (event_of c))
         (λ e. IsLineRefused e (add_of (place_column (columns text.now)) (rule_of (behind_column text.now)))) }
@@ -150,7 +144,11 @@ fn add_of(alloc: Global, text: &[u8]) -> Result<SessionCommand, LineError>
 }
 
 /// The command with the word, by the text behind it.
-fn command_named(alloc: Global, word: &[u8], text: &[u8]) -> Result<SessionCommand, LineError>
+fn command_named(
+    alloc: Global,
+    word: &[u8],
+    text: &[u8],
+) -> Result<SessionCommand, LineError<SessionReason>>
     ensures read { MatchResult result
         (λ c. event_named word.now text.now ≡ Ok (event_of c))
         (λ e. IsLineRefused e (event_named word.now text.now)) }
@@ -166,7 +164,10 @@ fn command_named(alloc: Global, word: &[u8], text: &[u8]) -> Result<SessionComma
 }
 
 /// The command of a line that isn't skipped.
-pub(crate) fn command_of_line(alloc: Global, line: &[u8]) -> Result<SessionCommand, LineError>
+pub(crate) fn command_of_line(
+    alloc: Global,
+    line: &[u8],
+) -> Result<SessionCommand, LineError<SessionReason>>
     ensures read { MatchResult result
         (λ c. event_of_line line.now ≡ Ok (event_of c))
         (λ e. IsLineRefused e (event_of_line line.now)) }

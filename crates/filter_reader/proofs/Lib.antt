@@ -12,5 +12,4 @@ pub mod SoFar
 pub mod Spelling
 pub mod TailTexts
 pub mod UnionLists
-pub mod Whole
 pub mod Words

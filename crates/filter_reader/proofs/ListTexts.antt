@@ -1,5 +1,5 @@
 -- Lists are read as they are written.
-use Rattle.std.proofs.Common.{◌≡◌, ◌∷◌, ◌++◌, ℕ, zero, suc, ◌+◌, ◌-◌, ◌<◌, ◌≤◌, List, Bool, true, false, cond, [], ap, refl, sym, ◌∙◌, arith, append_assoc, length, drop, Some, None, Option, ◌&&◌, ◌||◌, Ok, Result, map, ◌==◌, nat_eq, unwrap_or, if◌then◌else◌, bytes_eq, All, slice_index_or}
+use Rattle.std.proofs.Common.{◌≡◌, ◌∷◌, ◌++◌, ℕ, zero, suc, ◌+◌, ◌-◌, ◌<◌, ◌≤◌, List, Bool, true, false, cond, [], ap, refl, sym, subst, ◌∙◌, arith, add-zero, append-nil, append_assoc, length, drop, Some, None, Option, ◌&&◌, ◌||◌, Ok, Result, map, ◌==◌, nat_eq, unwrap_or, if◌then◌else◌, bytes_eq, All, slice_index_or}
 use Rattle.std.specs.Cmp.Lexicographic.{pointwise}
 use Rattle.std.specs.Char.{is_ascii}
 use Rattle.std.proofs.lemmas.Bool.{and_parts, ne_eqb, eqb-false, not-true}
@@ -7,6 +7,7 @@ use Rattle.std.proofs.lemmas.Slice.Eq.{bytes_eq-Decides}
 use Rattle.std.specs.Coded.{le_prop}
 use Rattle.std.specs.List.{AllByRecursion, list_all}
 use Rattle.std.proofs.Math.Logic.{∥∥₁_elim}
+use Rattle.std.proofs.lemmas.List.{length-append}
 use Rattle.std.proofs.lemmas.List.Elements.{recursion_from_All}
 use Rattle.field_boxes.specs.declared.rule.Rule as code
 use Rattle.field_boxes.specs.Headline.Classifier.{Interval, Rule}
@@ -20,11 +21,14 @@ use Rattle.field_boxes.specs.Unions.{RiseApart}
 use Rattle.filter_reader.specs.FilterRules.{IsFilterRule}
 use Rattle.filter_reader.proofs.AddressTexts.{prefix_texts}
 use Rattle.filter_reader.specs.declared.reason.Reason.{Reason}
-use Rattle.filter_reader.specs.Headline.FilterList.{BadLine, FilterList, in_front, list_from, list_of, own_name}
+use Rattle.filter_reader.specs.Headline.FilterList.{FilterList, list_of, own_name, with_line}
+use Rattle.text_lines.specs.Headline.Fallible.{◌>>=◌}
 use Rattle.text_lines.specs.Headline.Lines.{text_lines, without_return}
+use Rattle.text_lines.specs.Headline.Reading.{BadLine, at_line, read_from}
 use Rattle.text_lines.proofs.Joins.{all_wider, is_other, lines_of-line}
 use Rattle.filter_reader.specs.ListText.{columns_text, decision_text, list_text, rule_text}
 use Rattle.filter_reader.specs.OwnNames.{HaveNames, IsNameOf}
+use Rattle.filter_reader.specs.Reading.{with_rule}
 use Rattle.filter_reader.specs.Headline.RuleLine.{SpelledRule, rule_line}
 use Rattle.filter_reader.proofs.Bytes.{is_line_byte}
 use Rattle.filter_reader.proofs.LineTexts.{ArePortSets, CanSpell, five, line_bytes, rule_of_tokens-text}
@@ -85,15 +89,15 @@ line_read before s d sp dp p name h room =
     let ascii = all_wider is_line_byte is_ascii (λ b e. (line_parts b e).0) (columns_text (five s d sp dp p) ++ decision_text name) bytes in
     rw (other, ascii) (rule_of_tokens-text s d sp dp p (decision_text name) (word_of name) h (tail_of name))
 
--- a written rule in front of what the lines after it come to
-pub list_from-rule : (number before : ℕ) (s d : Interval) (sp dp : List Interval) (p : Interval) (name rest : List ℕ) → CanSpell s d sp dp p → before < 65536 →
-    list_from number before (text_lines (rule_text (record { sets = five s d sp dp p; decision = name }) ++ rest))
-    ≡ in_front number (before + 1) (Ok (record { sets = five s d sp dp p; word = word_of name; flagged = false })) (list_from (number + 1) (before + 1) (text_lines rest))
-list_from-rule number before s d sp dp p name rest h room =
+-- a written rule goes behind those of a list
+pub read_from-rule : (list : FilterList) (number : ℕ) (s d : Interval) (sp dp : List Interval) (p : Interval) (name rest : List ℕ) → CanSpell s d sp dp p → length list.rules < 65536 →
+    read_from with_line list number (text_lines (rule_text (record { sets = five s d sp dp p; decision = name }) ++ rest))
+    ≡ read_from with_line (with_rule list (record { sets = five s d sp dp p; word = word_of name; flagged = false })) (number + 1) (text_lines rest)
+read_from-rule list number s d sp dp p name rest h room =
     let line = columns_text (five s d sp dp p) ++ decision_text name in
-    ap (λ (text : List ℕ). list_from number before (text_lines text)) (append_assoc line (10 ∷ []) rest)
-    ∙ ap (list_from number before) (text_lines-line line rest (line_bytes s d sp dp p (decision_text name) (word_of name) h (tail_of name)))
-    ∙ ap (λ (spelled : Result SpelledRule Reason). in_front number (before + 1) spelled (list_from (number + 1) (before + 1) (text_lines rest))) (line_read before s d sp dp p name h room)
+    ap (λ (text : List ℕ). read_from with_line list number (text_lines text)) (append_assoc line (10 ∷ []) rest)
+    ∙ ap (read_from with_line list number) (text_lines-line line rest (line_bytes s d sp dp p (decision_text name) (word_of name) h (tail_of name)))
+    ∙ ap (λ (read : Result SpelledRule Reason). at_line number (read >>= (λ spelled. Ok (with_rule list spelled))) >>= (λ next. read_from with_line next (number + 1) (text_lines rest))) (line_read (length list.rules) s d sp dp p name h room)
 
 RiseApart-prop : (low top : ℕ) (set : List Interval) → IsProp (RiseApart low top set)
 RiseApart-prop low top [] = hlevel
@@ -112,20 +116,26 @@ can_spell r h = record {
   protocol = h.protocol;
 }
 
--- the rules of a list from some rule on
-rules_read : (number before : ℕ) (names : List (List ℕ)) (rules : List code.Rule) → AllByRecursion IsFilterRule rules → HaveNames (before + 1) (named_rules names rules) → before + length rules ≤ 65536 →
-    list_from number before (text_lines (list_text (named_rules names rules))) ≡ Ok (record { rules = named_rules names rules; flagged = 0 })
-rules_read number before names [] spelled named few = refl
-rules_read number before names (r ∷ rules) spelled have few =
+-- rules behind those of a list
+rules_read : (before : List (Rule (List ℕ))) (flagged number : ℕ) (names : List (List ℕ)) (rules : List code.Rule) → AllByRecursion IsFilterRule rules → HaveNames (length before + 1) (named_rules names rules) → length before + length rules ≤ 65536 →
+    read_from with_line (record { rules = before; flagged = flagged }) number (text_lines (list_text (named_rules names rules))) ≡ Ok (record { rules = before ++ named_rules names rules; flagged = flagged })
+rules_read before flagged number names [] spelled have few =
+    ap (λ (rs : List (Rule (List ℕ))). let list : FilterList = record { rules = rs; flagged = flagged } in let whole : Result FilterList (BadLine Reason) = Ok list in whole) (sym (append-nil before))
+rules_read before flagged number names (r ∷ rules) spelled have few =
     let name = text_of (name_at names r.decision) in
     let set = λ (k : ℕ). slice_index_or r.ports k [] in
-    list_from-rule number before (interval_of r.source) (interval_of r.destination) (set 0) (set 1) (interval_of r.protocol) name (list_text (named_rules names rules)) (can_spell r spelled.0) (omega arith)
-    ∙ ap (in_front number (before + 1) (Ok (record { sets = sets_of r; word = word_of name; flagged = false }))) (rules_read (number + 1) (before + 1) names rules spelled.1 have.1 (omega arith))
-    ∙ ap (λ (n : List ℕ). let first : Rule (List ℕ) = record { sets = sets_of r; decision = n } in
-    let list : FilterList = record { rules = first ∷ named_rules names rules; flagged = 0 } in
-    let whole : Result FilterList BadLine = Ok list in whole) (name_read (before + 1) name have.0)
+    let rest = text_lines (list_text (named_rules names rules)) in
+    let first : Rule (List ℕ) = record { sets = sets_of r; decision = name } in
+    let many : length (before ++ first ∷ []) ≡ length before + 1 = length-append before (first ∷ []) in
+    let list : FilterList = record { rules = before; flagged = flagged } in
+    read_from-rule list number (interval_of r.source) (interval_of r.destination) (set 0) (set 1) (interval_of r.protocol) name (list_text (named_rules names rules)) (can_spell r spelled.0) (omega arith)
+    ∙ ap (λ (n : List ℕ). let x : Rule (List ℕ) = record { sets = sets_of r; decision = n } in
+    let next : FilterList = record { rules = before ++ x ∷ []; flagged = flagged + 0 } in read_from with_line next (number + 1) rest) (name_read (length before + 1) name have.0)
+    ∙ ap (λ (f : ℕ). let next : FilterList = record { rules = before ++ first ∷ []; flagged = f } in read_from with_line next (number + 1) rest) (add-zero flagged)
+    ∙ rules_read (before ++ first ∷ []) flagged (number + 1) names rules spelled.1 (subst (λ k. HaveNames (k + 1) (named_rules names rules)) (sym many) have.1) (omega (arith, many))
+    ∙ ap (λ (rs : List (Rule (List ℕ))). let read : FilterList = record { rules = rs; flagged = flagged } in let whole : Result FilterList (BadLine Reason) = Ok read in whole) (append_assoc before (first ∷ []) (named_rules names rules))
 
 -- the text of rules with names spells them
 pub list_of-text : (names : List (List ℕ)) (rules : List code.Rule) → All IsFilterRule rules → HaveNames 1 (named_rules names rules) → length rules ≤ 65536 →
     list_of (list_text (named_rules names rules)) ≡ Ok (record { rules = named_rules names rules; flagged = 0 })
-list_of-text names rules spelled named few = rules_read 1 0 names rules (recursion_from_All IsFilterRule rules spelled) named (omega arith)
+list_of-text names rules spelled named few = rules_read [] 0 1 names rules (recursion_from_All IsFilterRule rules spelled) named (omega arith)

@@ -11,4 +11,5 @@ pub mod FirstSeen
 pub mod Lists
 pub mod LineRules
 pub mod Reading
+pub mod Reasons
 pub mod Growing

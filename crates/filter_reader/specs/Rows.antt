@@ -5,7 +5,8 @@ use Rattle.field_boxes.specs.Headline.Classifier.{Interval}
 use Rattle.filter_reader.specs.declared.reason.Reason.{Reason}
 use Rattle.filter_reader.specs.declared.reason.Reason.TheVariants.{NoAt, Address, Length, PortForm, PortOrder, PortRange, ProtocolForm, ProtocolMask, FlagsForm, DecisionForm, Reserved, Extra, NotAscii, TooManyRanges}
 use Rattle.filter_reader.specs.Headline.RuleLine.{SpelledRule, rule_line}
-use Rattle.filter_reader.specs.Headline.FilterList.{FilterList, BadLine}
+use Rattle.filter_reader.specs.Headline.FilterList.{FilterList}
+use Rattle.text_lines.specs.Headline.Reading.{BadLine}
 
 abbrev pub one : ℕ → ℕ → List Interval
 one lo hi = record { lo = lo; hi = hi } ∷ []
@@ -59,7 +60,7 @@ bad_lines =
     ∷ []
 
 -- a line of this number is bad for this reason
-abbrev pub refused : ℕ → Reason → Result FilterList BadLine
+abbrev pub refused : ℕ → Reason → Result FilterList (BadLine Reason)
 refused line reason = Err (record { line = line; reason = reason })
 
 -- what the first rule line spells, and that it is refused for this reason

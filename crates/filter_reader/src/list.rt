@@ -6,7 +6,7 @@ ghost use Rattle.filter_reader.specs.FilterRules.{IsFilterRule};
 
 use crate::reason::Reason;
 use field_boxes::{Decisions, Rule};
-use thiserror::Error;
+use text_lines::TextError;
 
 /// The rules of a filter list, the names of their decisions, and how many rules are flagged.
 ///
@@ -23,12 +23,4 @@ pub struct RuleList {
 }
 
 /// Why the text of a list was refused.
-#[derive(Clone, Copy, Debug, PartialEq, Eq, Error)]
-pub enum ListError {
-    /// The first bad line, counted from 1, and its first reason.
-    #[error("line {line}: {reason}")]
-    BadLine { line: u64, reason: Reason },
-    /// Memory was refused.
-    #[error("memory was refused")]
-    Memory,
-}
+pub type ListError = TextError<Reason>;

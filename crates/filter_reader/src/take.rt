@@ -1,34 +1,18 @@
 //! Taking the next line of a list.
-ghost use Rattle.std.specs.Prelude.{◌≡◌, ◌≤◌, ◌<◌, ◌+◌, ℕ, length, vec_len, All, IfOk, IfSome, IsTrue, MatchResult, Ok, OnOk, OnErr, Some, option_copied, unwrap_or};
+ghost use Rattle.std.specs.Prelude.{◌≡◌, ◌≤◌, ◌<◌, ◌+◌, ℕ, length, vec_len, IfOk, IfSome, IsTrue, OnOk, OnErr, Some, option_copied, unwrap_or};
 ghost use Rattle.razor_base.specs.declared.limits.TheConstants.{MOST_RULES, MOST_ENTRIES};
 ghost use Rattle.field_boxes.specs.Names.{is_decision_word, name_at, with_name};
 ghost use Rattle.filter_reader.specs.Headline.FilterList.{own_name};
 ghost use Rattle.filter_reader.specs.Growing.{IsListSoFar};
 ghost use Rattle.filter_reader.specs.LineRules.{IsLineRule, spelled_rule};
-ghost use Rattle.filter_reader.specs.Reading.{IsLineRefused, read_so_far, with_line, with_rule};
-ghost use Rattle.filter_reader.specs.declared.take.LineError.TheVariants.{Memory as out_of_memory};
+ghost use Rattle.filter_reader.specs.Reading.{read_so_far, with_rule};
 
 use crate::line::{LineRule, rule_of_line};
 use crate::reason::Reason;
 use field_boxes::{Decisions, Rule};
 use razor_base::Memory;
 use std::alloc::Global;
-use text_lines::is_skipped;
-
-/// Why a line was not taken, before its number is known.
-#[derive(Clone, Copy)]
-pub(crate) enum LineError {
-    Bad(Reason),
-    Memory,
-}
-
-impl From<Memory> for LineError {
-    ghost from_gives = { λ _ e. e ≡ out_of_memory };
-
-    fn from(_refused: Memory) -> Self {
-        LineError::Memory
-    }
-}
+use text_lines::{LineError, TakeLine};
 
 /// The number of the decision word, or where there is none of the name `#k` of rule k.
 fn number_of_decision(
@@ -82,27 +66,44 @@ fn add_rule(
     Ok(())
 }
 
-/// Takes the next line: its rule goes behind the others, and a skipped line adds none.
-pub(crate) fn take_line(
-    alloc: Global,
-    line: &[u8],
-    rules: &mut Vec<Rule>,
-    names: &mut Decisions,
-    flagged: &mut u64,
-) -> Result<(), LineError>
-    requires so_far { IsListSoFar names.old rules.old.items flagged.old }
-    ensures read { MatchResult result
-        (λ _. with_line (read_so_far names.old rules.old.items flagged.old) line.now ≡ Ok (read_so_far names.new rules.new.items flagged.new))
-        (λ e. IsLineRefused e (with_line (read_so_far names.old rules.old.items flagged.old) line.now)) }
-    ensures so_far { OnOk result (IsListSoFar names.new rules.new.items flagged.new) }
-{
-    if is_skipped(line) {
-        return Ok(());
+/// The rules that were read so far, the names of their decisions, and how many are flagged.
+#[derive(Drop)]
+pub(crate) struct ListLines {
+    pub(crate) alloc: Global,
+    pub(crate) rules: Vec<Rule>,
+    pub(crate) names: Decisions,
+    pub(crate) flagged: u64,
+}
+
+impl TakeLine for ListLines {
+    type Reason = Reason;
+
+    ghost use Rattle.filter_reader.specs.Headline.FilterList.{FilterList, with_line};
+    ghost use Rattle.filter_reader.specs.Growing.{IsListSoFar};
+    ghost use Rattle.filter_reader.specs.Reading.{read_so_far};
+
+    ghost Given = { Unit {0} };
+
+    ghost given = { λ _. tt };
+
+    ghost Read = { FilterList };
+
+    ghost read = { λ l. read_so_far l.names l.rules.items l.flagged };
+
+    ghost step = { λ _. with_line };
+
+    ghost is_sound = { λ l. IsListSoFar l.names l.rules.items l.flagged };
+
+    /// Its rule goes behind the others.
+    fn take_line(&mut self, line: &[u8]) -> Result<(), LineError<Reason>> {
+        let rule = match rule_of_line(line, self.rules.len()) {
+            Ok(rule) => rule,
+            Err(reason) => return Err(LineError::Bad(reason)),
+        };
+        let rules = &mut self.rules;
+        match add_rule(self.alloc, rule, rules, &mut self.names, &mut self.flagged) {
+            Ok(()) => Ok(()),
+            Err(_refused) => Err(LineError::Memory),
+        }
     }
-    let rule = match rule_of_line(line, rules.len()) {
-        Ok(rule) => rule,
-        Err(reason) => return Err(LineError::Bad(reason)),
-    };
-    add_rule(alloc, rule, rules, names, flagged)?;
-    Ok(())
 }

@@ -1,26 +1,27 @@
 -- The writes that were read so far, in front of what the lines that are left come to.
 use Rattle.std.proofs.Common.{◌≡◌, ◌∷◌, ◌++◌, ℕ, suc, ◌+◌, ◌-◌, ◌<◌, List, [], Ok, Err, take, refl, ap, sym, ◌∙◌, arith, append_assoc, append-nil, eq-eqb, Result}
 use Rattle.std.proofs.lemmas.Grind.{common_steps}
+use Rattle.text_lines.specs.Headline.Reading.{BadLine}
 use Rattle.table_text.specs.Lines.{Line}
 use Rattle.memory_text.specs.declared.error.SlotReason.{SlotReason}
 use Rattle.memory_text.specs.declared.kind.TextKind.{TextKind}
 use Rattle.memory_text.specs.Heading.{Heading}
 use Rattle.memory_text.specs.Lines.{write_in}
 use Rattle.memory_text.specs.Memory.{Write}
-use Rattle.memory_text.specs.Reading.{BadLine, counted, in_front, with_front, writes_in}
+use Rattle.memory_text.specs.Reading.{counted, in_front, with_front, writes_in}
 
-abbrev pub bad_at : ℕ → SlotReason → BadLine
+abbrev pub bad_at : ℕ → SlotReason → BadLine SlotReason
 bad_at number reason = record { line = number; reason = reason }
 
 -- the reading of lines of which this one is bad
-abbrev pub err_at : ℕ → SlotReason → Result (List Write) BadLine
+abbrev pub err_at : ℕ → SlotReason → Result (List Write) (BadLine SlotReason)
 err_at number reason = Err (bad_at number reason)
 
 -- what is read of the lines after so many, of so many that are stated
-abbrev pub resumed : TextKind → ℕ → ℕ → List Write → ℕ → ℕ → List Line → Result (List Write) BadLine
+abbrev pub resumed : TextKind → ℕ → ℕ → List Write → ℕ → ℕ → List Line → Result (List Write) (BadLine SlotReason)
 resumed kind slots stated front place from lines = with_front front (writes_in kind slots (place + 2) from (take (stated - place) lines))
 
-front_front : (front more : List Write) (r : Result (List Write) BadLine) → with_front front (with_front more r) ≡ with_front (front ++ more) r
+front_front : (front more : List Write) (r : Result (List Write) (BadLine SlotReason)) → with_front front (with_front more r) ≡ with_front (front ++ more) r
 front_front front more (Ok writes) = let e : front ++ (more ++ writes) ≡ (front ++ more) ++ writes = sym (append_assoc front more writes) in ap (λ ws. Ok ws) e
 front_front front more (Err bad) = refl
 
@@ -64,9 +65,9 @@ resumed-none kind slots stated place from front =
     ap (λ (ls : List Line). with_front front (writes_in kind slots (place + 2) from ls)) none ∙ ap (λ ws. Ok ws) (append-nil front)
 
 -- as many lines were found as were stated
-pub counted_same : (kind : TextKind) (heading : Heading) (found : ℕ) (read : Result (List Write) BadLine) (writes : List Write) → read ≡ Ok writes → found ≡ heading.lines →
+pub counted_same : (kind : TextKind) (heading : Heading) (found : ℕ) (read : Result (List Write) (BadLine SlotReason)) (writes : List Write) → read ≡ Ok writes → found ≡ heading.lines →
     counted kind heading found read ≡ Ok (record { slots = heading.slots; width = heading.width; writes = writes })
 counted_same kind heading found read writes is same = ap (counted kind heading found) is ∙ rw (eq-eqb found heading.lines same) refl
 
-pub counted_bad : (kind : TextKind) (heading : Heading) (found : ℕ) (read : Result (List Write) BadLine) (bad : BadLine) → read ≡ Err bad → counted kind heading found read ≡ Err bad
+pub counted_bad : (kind : TextKind) (heading : Heading) (found : ℕ) (read : Result (List Write) (BadLine SlotReason)) (bad : BadLine SlotReason) → read ≡ Err bad → counted kind heading found read ≡ Err bad
 counted_bad kind heading found read bad is = ap (counted kind heading found) is

@@ -19,7 +19,8 @@ use Rattle.memory_text.specs.Heading.{Heading, heading_of}
 use Rattle.memory_text.specs.Kept.{AreSpelled}
 use Rattle.memory_text.specs.Memory.{Memory, Write, after, entries_in}
 use Rattle.memory_text.specs.MemoryText.{first_line, memory_text, plan_text, slot_lines, write_line}
-use Rattle.memory_text.specs.Reading.{BadLine, after_heading, as_memory, in_front, memory_in_text, plan_in, plan_in_text, with_front, writes_in}
+use Rattle.text_lines.specs.Headline.Reading.{BadLine}
+use Rattle.memory_text.specs.Reading.{after_heading, as_memory, in_front, memory_in_text, plan_in, plan_in_text, with_front, writes_in}
 use Rattle.memory_text.specs.Views.{memory_of, plan_of, slots_of, write_of, writes_of}
 use Rattle.memory_text.proofs.HeadingTexts.{first_text, heading-line, heading-read, heading-written}
 use Rattle.memory_text.proofs.LineTexts.{put-cut, put-read, put_line_text, slot-line, slot-read, slot-written, slot_text}
@@ -54,7 +55,7 @@ puts_cut names slots (p ∷ puts) few below named =
     let lt = below.0 in
     put-cut names p (flat_map write_line (writes_of names puts)) (omega (arith, lt, few)) named ∙ ap (λ ls. whole_line (put_line_text names p) true ∷ ls) (puts_cut names slots puts few below.1 named)
 
-one_more : (w : Write) (ws : List Write) (number : ℕ) (rest : ℕ → Result (List Write) BadLine) (r : Result Write SlotReason) → r ≡ Ok w → rest (suc w.slot) ≡ Ok ws → in_front number r rest ≡ Ok (w ∷ ws)
+one_more : (w : Write) (ws : List Write) (number : ℕ) (rest : ℕ → Result (List Write) (BadLine SlotReason)) (r : Result Write SlotReason) → r ≡ Ok w → rest (suc w.slot) ≡ Ok ws → in_front number r rest ≡ Ok (w ∷ ws)
 one_more w ws number rest r is more = ap (λ x. in_front number x rest) is ∙ ap (with_front (w ∷ [])) more
 
 puts_read : (names : List (List ℕ)) (slots number from : ℕ) (puts : List Put) → slots ≤ 262144 → Below slots puts → AreSpelled names → writes_in kinds.Plan slots number from (put_lines names puts) ≡ Ok (writes_of names puts)
@@ -136,7 +137,7 @@ stands n front (Some e ∷ slots) at =
     ∙ sym (next_front front (Some e) (replicate (length slots) None) (standing (suc n) slots))
     ∙ stands (suc n) (front ++ Some e ∷ []) slots (let l = length-append front (Some e ∷ []) in omega (arith, l, at)) ∙ append_assoc front (Some e ∷ []) slots
 
-abbrev spelled : ℕ → List (Option Entry) → Result Memory BadLine
+abbrev spelled : ℕ → List (Option Entry) → Result Memory (BadLine SlotReason)
 spelled width slots = Ok (record { width = width; slots = slots })
 
 -- the text of a memory spells it

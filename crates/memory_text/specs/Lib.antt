@@ -3,7 +3,7 @@ pub mod MemoryText
 pub mod Heading
 pub mod Lines
 pub mod Reading
-pub mod Refused
+pub mod Reasons
 pub mod Views
 pub mod Kept
 pub mod Spreading

@@ -4,10 +4,10 @@ ghost use Rattle.razor_base.specs.declared.limits.TheConstants.{MOST_ENTRIES};
 ghost use Rattle.ternary_words.specs.Limits.{IsSlotWidth};
 ghost use Rattle.table_text.specs.Lines.{lines_of};
 ghost use Rattle.memory_text.specs.declared.TheConstants.{MOST_WRITES};
-ghost use Rattle.memory_text.specs.declared.error.SlotError.TheVariants.{BadLine};
+ghost use Rattle.text_lines.specs.Reading.{IsTextRefused};
+ghost use Rattle.text_lines.specs.declared.error.TextError.TheVariants.{BadLine};
 ghost use Rattle.memory_text.specs.Kept.{AreWithin};
 ghost use Rattle.memory_text.specs.Reading.{after_heading, count_differs, counted, memory_in_text, no_heading, plan_in, plan_in_text, writes_in};
-ghost use Rattle.memory_text.specs.Refused.{IsRefused};
 ghost use Rattle.memory_text.specs.Views.{draft_of, heading_view, memory_of, plan_of};
 
 use crate::draft::Draft;
@@ -26,7 +26,7 @@ use table_text::{TableReason, count_lines, next_line};
 pub fn read_plan(alloc: Global, bytes: &[u8]) -> Result<SlotPlan, SlotError>
     ensures { MatchResult result
         (λ plan. plan_in_text bytes.now ≡ Ok (plan_of plan))
-        (λ error. IsRefused error (plan_in_text bytes.now)) }
+        (λ error. IsTextRefused error (plan_in_text bytes.now)) }
 {
     read_text(alloc, TextKind::Plan, bytes)
 }
@@ -37,7 +37,7 @@ pub fn read_plan(alloc: Global, bytes: &[u8]) -> Result<SlotPlan, SlotError>
 pub fn read_memory(alloc: Global, bytes: &[u8]) -> Result<SlotMemory, SlotError>
     ensures { MatchResult result
         (λ memory. memory_in_text bytes.now ≡ Ok (memory_of memory))
-        (λ error. IsRefused error (memory_in_text bytes.now)) }
+        (λ error. IsTextRefused error (memory_in_text bytes.now)) }
 {
     let plan = match read_text(alloc, TextKind::Memory, bytes) {
         Ok(plan) => plan,
@@ -57,7 +57,7 @@ pub fn read_memory(alloc: Global, bytes: &[u8]) -> Result<SlotMemory, SlotError>
 fn read_text(alloc: Global, kind: TextKind, bytes: &[u8]) -> Result<SlotPlan, SlotError>
     ensures { MatchResult result
         (λ plan. plan_in kind (lines_of bytes.now) ≡ Ok (plan_of plan))
-        (λ error. IsRefused error (plan_in kind (lines_of bytes.now))) }
+        (λ error. IsTextRefused error (plan_in kind (lines_of bytes.now))) }
 {
     let Some((heading, lines)) = first_line(kind, bytes) else {
         return Err(SlotError::BadLine {
@@ -104,7 +104,7 @@ fn read_lines(
     ensures lines { MatchResult result
         (λ draft. counted kind (heading_view heading.now) (length (lines_of lines.now)) (writes_in kind heading.now.slots 2 0 (take heading.now.lines (lines_of lines.now)))
         ≡ Ok (record { slots = heading.now.slots; width = heading.now.width; writes = draft_of draft }))
-        (λ error. IsRefused error (counted kind (heading_view heading.now) (length (lines_of lines.now)) (writes_in kind heading.now.slots 2 0 (take heading.now.lines (lines_of lines.now))))) }
+        (λ error. IsTextRefused error (counted kind (heading_view heading.now) (length (lines_of lines.now)) (writes_in kind heading.now.slots 2 0 (take heading.now.lines (lines_of lines.now))))) }
     ensures within { IfOk result (λ draft. AreWithin heading.now.slots draft.writes.items) }
     ensures few { IfOk result (λ draft. vec_len draft.writes ≤ heading.now.lines) }
 {

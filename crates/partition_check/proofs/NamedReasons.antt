@@ -1,6 +1,5 @@
 -- The decisions of a reason have names.
-use Rattle.std.proofs.Common.{◌≡◌, ◌∷◌, ℕ, ◌≤◌, ◌-◌, List, [], Some, None, length, sym, subst, inl, inr, Option}
-use Rattle.field_boxes.specs.declared.rule.Rule as code
+use Rattle.std.proofs.Common.{◌≡◌, ◌∷◌, ℕ, ◌≤◌, List, [], Some, None, length, sym, subst, inl, inr, Option}
 use Rattle.filter_reader.specs.declared.list.RuleList.{RuleList}
 use Rattle.ternary_words.specs.declared.table.Table.{Table}
 use Rattle.partition_check.specs.declared.row.Why.{Why}
@@ -9,7 +8,6 @@ use Rattle.partition_check.specs.declared.row.Wrong.{Wrong}
 use Rattle.partition_check.specs.Agreement.{HaveNames}
 use Rattle.partition_check.specs.CertificateText.{is_last_line, lines_of, stated_rows}
 use Rattle.partition_check.specs.Checking.{Statement, Checking, FailsFirst, EndsWrong}
-use Rattle.partition_check.specs.Claims.{rule_decision, entry_decision}
 use Rattle.partition_check.specs.RowLines.{StatementFails}
 use Rattle.partition_check.specs.RowText.{statement_of_text}
 use Rattle.partition_check.specs.Verdict.{EndsBadly, Fails, FailsLast, FindsWrong, LacksEnd, Reading, started}

@@ -7,6 +7,7 @@ pub mod WordFields
 pub mod Claims
 pub mod Agreement
 pub mod Checking
+pub mod Reasons
 pub mod Rows
 pub mod RowText
 pub mod RowLines

@@ -1,5 +1,5 @@
 -- The entries that were read so far, and one more.
-use Rattle.std.proofs.Common.{◌≡◌, ◌∷◌, ◌++◌, ℕ, ◌+◌, ◌≤◌, List, [], Option, Some, None, map, fold, length, refl, ap, sym, ◌∙◌, arith, length-append, bytes_eq}
+use Rattle.std.proofs.Common.{◌≡◌, ◌∷◌, ◌++◌, ℕ, ◌+◌, ◌≤◌, List, [], Option, Some, None, map, length, refl, ap, sym, ◌∙◌, arith, length-append, bytes_eq}
 use Rattle.std.proofs.lemmas.Bool.{cond_both}
 use Rattle.std.specs.List.{AllByRecursion, list_any}
 use Rattle.std.proofs.lemmas.List.{map-append}

@@ -4,28 +4,30 @@ use Rattle.ternary_words.specs.Headline.Table.{Entry, Table}
 use Rattle.table_text.specs.declared.error.TableReason.{TableReason}
 use Rattle.table_text.specs.Lines.{Line}
 use Rattle.table_text.specs.Heading.{Heading}
-use Rattle.table_text.specs.Reading.{BadLine, entry_of, in_front, entries_of, counted}
-use Rattle.table_text.specs.declared.error.TableError.{TableError}
-use Rattle.table_text.specs.declared.error.TableError.TheVariants as errors
-use Rattle.table_text.specs.Refused.{IsBehind, IsLineRefused, IsRefused, table_view}
+use Rattle.table_text.specs.Reading.{entry_of, in_front, entries_of, counted}
+use Rattle.text_lines.specs.Headline.Reading.{BadLine, at_line}
+use Rattle.text_lines.specs.Reading.{IsTextRefused}
+use Rattle.text_lines.specs.declared.error.TextError.{TextError}
+use Rattle.text_lines.specs.declared.error.TextError.TheVariants as errors
+use Rattle.table_text.specs.Refused.{IsBehind, table_view}
 
 -- entries in front of what the rest comes to
-abbrev pub with_front : List Entry → Result (List Entry) BadLine → Result (List Entry) BadLine
+abbrev pub with_front : List Entry → Result (List Entry) (BadLine TableReason) → Result (List Entry) (BadLine TableReason)
 with_front front (Ok entries) = Ok (front ++ entries)
 with_front front (Err bad) = Err bad
 
-abbrev pub bad_at : ℕ → TableReason → BadLine
+abbrev pub bad_at : ℕ → TableReason → BadLine TableReason
 bad_at number reason = record { line = number; reason = reason }
 
 -- the reading of lines of which this one is bad
-abbrev pub err_at : ℕ → TableReason → Result (List Entry) BadLine
+abbrev pub err_at : ℕ → TableReason → Result (List Entry) (BadLine TableReason)
 err_at number reason = Err (bad_at number reason)
 
 -- what is read of the lines after so many
-abbrev pub resumed : Heading → List Entry → ℕ → List Line → Result (List Entry) BadLine
+abbrev pub resumed : Heading → List Entry → ℕ → List Line → Result (List Entry) (BadLine TableReason)
 resumed heading front place lines = with_front front (entries_of heading (place + 2) (take (heading.entries - place) lines))
 
-front_in : (front : List Entry) (number : ℕ) (entry : Entry) (r : Result (List Entry) BadLine) → with_front front (in_front number (Ok entry) r) ≡ with_front (front ++ entry ∷ []) r
+front_in : (front : List Entry) (number : ℕ) (entry : Entry) (r : Result (List Entry) (BadLine TableReason)) → with_front front (in_front number (Ok entry) r) ≡ with_front (front ++ entry ∷ []) r
 front_in front number entry (Ok entries) = let e : front ++ entry ∷ entries ≡ (front ++ entry ∷ []) ++ entries = sym (append_assoc front (entry ∷ []) entries) in ap (λ es. Ok es) e
 front_in front number entry (Err bad) = refl
 
@@ -68,15 +70,19 @@ resumed-all heading front lines =
     ap (λ n. with_front front (entries_of heading (heading.entries + 2) (take n lines))) none ∙ ap (λ es. Ok es) (append-nil front)
 
 -- as many lines were found as were stated
-pub counted_same : (heading : Heading) (found : ℕ) (read : Result (List Entry) BadLine) (entries : List Entry) → read ≡ Ok entries → found ≡ heading.entries → counted heading found read ≡ Ok (table_view heading entries)
+pub counted_same : (heading : Heading) (found : ℕ) (read : Result (List Entry) (BadLine TableReason)) (entries : List Entry) → read ≡ Ok entries → found ≡ heading.entries → counted heading found read ≡ Ok (table_view heading entries)
 counted_same heading found read entries is same =
     ap (counted heading found) is ∙ rw (eq-eqb found heading.entries same) refl
 
-pub counted_bad : (heading : Heading) (found : ℕ) (read : Result (List Entry) BadLine) (bad : BadLine) → read ≡ Err bad → counted heading found read ≡ Err bad
+pub counted_bad : (heading : Heading) (found : ℕ) (read : Result (List Entry) (BadLine TableReason)) (bad : BadLine TableReason) → read ≡ Err bad → counted heading found read ≡ Err bad
 counted_bad heading found read bad is = ap (counted heading found) is
 
+same_bad : (read : Result Entry (BadLine TableReason)) (a b : BadLine TableReason) → read ≡ Err a → read ≡ Err b → a ≡ b
+same_bad read a b e h = cc
+
 -- the line of this number is refused, and the text with it
-pub refused : (error : TableError) (number : ℕ) (read : Result Entry TableReason) (whole : Result Table BadLine) → IsLineRefused error number read →
-    ((reason : TableReason) → read ≡ Err reason → whole ≡ Err (bad_at number reason)) → IsRefused error whole
+pub refused : (error : TextError TableReason) (number : ℕ) (read : Result Entry TableReason) (whole : Result Table (BadLine TableReason)) → IsTextRefused error (at_line number read) →
+    ((reason : TableReason) → read ≡ Err reason → whole ≡ Err (bad_at number reason)) → IsTextRefused error whole
 refused errors.Memory number read whole h f = tt
-refused (errors.BadLine line reason) number read whole h f = f reason h.1 ∙ ap (λ n. Err (bad_at n reason)) (sym h.0)
+refused (errors.BadLine line reason) number (Ok entry) whole h f = absurd (cc)
+refused (errors.BadLine line reason) number (Err why) whole h f = f why refl ∙ ap (λ (bad : BadLine TableReason). Err bad) (same_bad (Err (bad_at number why)) (bad_at number why) (bad_at line reason) refl h)

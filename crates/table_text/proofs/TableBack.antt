@@ -10,7 +10,8 @@ use Rattle.table_text.specs.declared.heading.Version.{Version}
 use Rattle.table_text.specs.declared.heading.Version.TheVariants.{Trits, Columns}
 use Rattle.table_text.specs.Heading.{Heading, heading_of}
 use Rattle.table_text.specs.Lines.{Line, lines_of}
-use Rattle.table_text.specs.Reading.{BadLine, after_heading, counted, entries_of, entry_in, entry_of, heading_in, in_front, table_in, table_in_text}
+use Rattle.text_lines.specs.Headline.Reading.{BadLine}
+use Rattle.table_text.specs.Reading.{after_heading, counted, entries_of, entry_in, entry_of, heading_in, in_front, table_in, table_in_text}
 use Rattle.table_text.specs.UpperCase.{is_columns, is_second, is_upper_line, is_upper_table, is_upper_text}
 use Rattle.table_text.proofs.CutBack.{line_bytes, lines_back}
 use Rattle.table_text.proofs.EntryBack.{cond_ok, entry_back, ended_line}
@@ -25,7 +26,7 @@ second_version Columns h = refl
 abbrev AreKept : List Line → List Entry → Type 0
 AreKept lines entries = (length entries ≡ length lines) × (flat_map entry_line entries ≡ flat_map line_bytes lines)
 
-front_step : (number : ℕ) (line : Line) (lines : List Line) (entries : List Entry) (r : Result Entry TableReason) (rs : Result (List Entry) BadLine) →
+front_step : (number : ℕ) (line : Line) (lines : List Line) (entries : List Entry) (r : Result Entry TableReason) (rs : Result (List Entry) (BadLine TableReason)) →
     ((e : Entry) → r ≡ Ok e → entry_line e ≡ line_bytes line) → ((es : List Entry) → rs ≡ Ok es → AreKept lines es) → in_front number r rs ≡ Ok entries → AreKept (line ∷ lines) entries
 front_step number line lines entries (Ok e) (Ok es) here more h =
     let same : e ∷ es ≡ entries = cc in
@@ -58,7 +59,7 @@ whole_back line lines h entries first second size kept =
     ∙ ap (λ t. t ++ 10 ∷ flat_map entry_line entries) text ∙ ap (λ t. line.text ++ 10 ∷ t) kept
     ∙ sym (append_assoc line.text (10 ∷ []) (flat_map line_bytes lines)) ∙ ap (λ t. t ++ flat_map line_bytes lines) (ended_line line.text line.ended parts.0)
 
-read_step : (line : Line) (lines : List Line) (h : Heading) (t : Table) (r : Result (List Entry) BadLine) → heading_in line ≡ Some h → h.version ≡ Columns → ((entries : List Entry) → r ≡ Ok entries → length lines ≡ h.entries → AreKept lines entries) →
+read_step : (line : Line) (lines : List Line) (h : Heading) (t : Table) (r : Result (List Entry) (BadLine TableReason)) → heading_in line ≡ Some h → h.version ≡ Columns → ((entries : List Entry) → r ≡ Ok entries → length lines ≡ h.entries → AreKept lines entries) →
     counted h (length lines) r ≡ Ok t → table_text t ≡ flat_map line_bytes (line ∷ lines)
 read_step line lines h t (Err bad) first second kept is = absurd cc
 read_step line lines h t (Ok entries) first second kept is =

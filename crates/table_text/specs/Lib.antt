@@ -4,6 +4,7 @@ pub mod Names
 pub mod Trits
 pub mod Columns
 pub mod Reading
+pub mod Reasons
 pub mod Refused
 pub mod Seen
 pub mod HeadingViews

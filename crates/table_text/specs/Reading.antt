@@ -9,6 +9,7 @@ use Rattle.table_text.specs.declared.error.TableReason.{TableReason}
 use Rattle.table_text.specs.declared.error.TableReason.TheVariants.{FirstLine, WordLength, Trit as NoTrit, Padding, Decision, Count, FieldForm, OutsideMask}
 use Rattle.table_text.specs.Lines.{Line, lines_of}
 use Rattle.text_lines.specs.Headline.Cuts.{parts_at}
+use Rattle.text_lines.specs.Headline.Reading.{BadLine}
 use Rattle.table_text.specs.Heading.{Heading, heading_of}
 use Rattle.table_text.specs.Names.{is_decision, decided}
 use Rattle.table_text.specs.Trits.{is_trit, is_padded, word_of_trits}
@@ -48,44 +49,39 @@ entry_in Columns slot line = columns_entry line
 abbrev pub entry_of : Heading → Line → Result Entry TableReason
 entry_of heading line = entry_in heading.version heading.slot line
 
--- a bad line, counted from 1, and what is wrong with it
-pub record BadLine : Type 0 where
-  pub line : ℕ
-  pub reason : TableReason
-
 -- a line's entry in front of what the lines after it come to
-abbrev pub in_front : ℕ → Result Entry TableReason → Result (List Entry) BadLine → Result (List Entry) BadLine
+abbrev pub in_front : ℕ → Result Entry TableReason → Result (List Entry) (BadLine TableReason) → Result (List Entry) (BadLine TableReason)
 in_front number (Err reason) rest = Err (record { line = number; reason = reason })
 in_front number (Ok entry) (Err bad) = Err bad
 in_front number (Ok entry) (Ok entries) = Ok (entry ∷ entries)
 
 -- the entries of lines, of which the first has this number
-abbrev pub entries_of : Heading → ℕ → List Line → Result (List Entry) BadLine
+abbrev pub entries_of : Heading → ℕ → List Line → Result (List Entry) (BadLine TableReason)
 entries_of heading number [] = Ok []
 entries_of heading number (line ∷ lines) = in_front number (entry_of heading line) (entries_of heading (number + 1) lines)
 
 -- the table of these entries, where as many lines were found as the first line states
-abbrev pub counted : Heading → ℕ → Result (List Entry) BadLine → Result Table BadLine
+abbrev pub counted : Heading → ℕ → Result (List Entry) (BadLine TableReason) → Result Table (BadLine TableReason)
 counted heading found (Err bad) = Err bad
 counted heading found (Ok entries) =
     if found == heading.entries then Ok (record { slot = heading.slot; composed = heading.composed; entries = entries })
     else Err (record { line = min heading.entries found + 2; reason = Count heading.entries found })
 
-abbrev pub no_heading : Result Table BadLine
+abbrev pub no_heading : Result Table (BadLine TableReason)
 no_heading = Err (record { line = 1; reason = FirstLine })
 
 -- the lines after the first, of which as many as it states are read
-abbrev pub after_heading : Option Heading → List Line → Result Table BadLine
+abbrev pub after_heading : Option Heading → List Line → Result Table (BadLine TableReason)
 after_heading None lines = no_heading
 after_heading (Some heading) lines = counted heading (length lines) (entries_of heading 2 (take heading.entries lines))
 
 abbrev pub heading_in : Line → Option Heading
 heading_in line = if line.ended then heading_of line.text else None
 
-abbrev pub table_in : List Line → Result Table BadLine
+abbrev pub table_in : List Line → Result Table (BadLine TableReason)
 table_in [] = no_heading
 table_in (line ∷ lines) = after_heading (heading_in line) lines
 
 -- the table that a text spells, or its first bad line
-abbrev pub table_in_text : List ℕ → Result Table BadLine
+abbrev pub table_in_text : List ℕ → Result Table (BadLine TableReason)
 table_in_text text = table_in (lines_of text)

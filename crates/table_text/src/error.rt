@@ -1,45 +1,58 @@
 //! Why the text of a table is refused.
-use razor_base::Memory;
+ghost use Rattle.std.specs.Prelude.{◌≡◌};
+ghost use Rattle.table_text.specs.Reasons.{counts_of, reason_text};
+
+use text_lines::TextError;
 use thiserror::Error;
 
 /// What is wrong with a line of a table's text.
 #[derive(Clone, Copy, Debug, PartialEq, Eq, Error)]
+#[error("{}", self.words())]
 pub enum TableReason {
-    #[error("first line")]
     FirstLine,
-    #[error("word length")]
     WordLength,
-    #[error("trit")]
     Trit,
-    #[error("padding")]
     Padding,
-    #[error("decision")]
     Decision,
-    #[error("count of entries differs, stated {stated} found {found}")]
+    #[error("{}, stated {stated} found {found}", self.words())]
     Count { stated: u32, found: u64 },
-    #[error("field form")]
     FieldForm,
-    #[error("value outside mask")]
     OutsideMask,
 }
 
-/// Why the text of a table was refused.
-#[derive(Clone, Copy, Debug, PartialEq, Eq, Error)]
-pub enum TableError {
-    /// The first bad line, counted from 1, and its first reason.
-    #[error("line {line}: {reason}")]
-    BadLine { line: u64, reason: TableReason },
-    #[error("memory was refused")]
-    Memory,
-}
+impl TableReason {
+    /// The reason in words, without counts.
+    pub fn words(self) -> &'static str
+        ensures { result.now ≡ reason_text self }
+    {
+        match self {
+            TableReason::FirstLine => "first line",
+            TableReason::WordLength => "word length",
+            TableReason::Trit => "trit",
+            TableReason::Padding => "padding",
+            TableReason::Decision => "decision",
+            TableReason::Count { .. } => "count of entries differs",
+            TableReason::FieldForm => "field form",
+            TableReason::OutsideMask => "value outside mask",
+        }
+    }
 
-impl From<Memory> for TableError {
-    ghost use Rattle.std.specs.Prelude.{◌≡◌};
-    ghost use Rattle.table_text.specs.declared.error.TableError.TheVariants.{Memory as out_of_memory};
-
-    ghost from_gives = { λ _ e. e ≡ out_of_memory };
-
-    fn from(_refused: Memory) -> Self {
-        TableError::Memory
+    /// How many lines are stated and how many were found, where that is the reason.
+    pub fn counts(self) -> Option<(u32, u64)>
+        ensures { result ≡ counts_of self }
+    {
+        match self {
+            TableReason::Count { stated, found } => Some((stated, found)),
+            TableReason::FirstLine
+            | TableReason::WordLength
+            | TableReason::Trit
+            | TableReason::Padding
+            | TableReason::Decision
+            | TableReason::FieldForm
+            | TableReason::OutsideMask => None,
+        }
     }
 }
+
+/// Why the text of a table was refused.
+pub type TableError = TextError<TableReason>;

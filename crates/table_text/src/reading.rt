@@ -9,9 +9,11 @@ ghost use Rattle.table_text.specs.EntryViews.{line_of};
 ghost use Rattle.table_text.specs.HeadingViews.{heading_view};
 ghost use Rattle.table_text.specs.Names.{is_name};
 ghost use Rattle.table_text.specs.Reading.{after_heading, counted, entries_of, entry_of, no_heading, table_in_text};
-ghost use Rattle.table_text.specs.Refused.{IsBehind, IsLineRefused, IsRefused, table_view};
+ghost use Rattle.table_text.specs.Refused.{IsBehind, table_view};
 ghost use Rattle.table_text.specs.Seen.{names_seen};
-ghost use Rattle.table_text.specs.declared.error.TableError.TheVariants.{BadLine};
+ghost use Rattle.text_lines.specs.Headline.Reading.{at_line};
+ghost use Rattle.text_lines.specs.Reading.{IsTextRefused};
+ghost use Rattle.text_lines.specs.declared.error.TextError.TheVariants.{BadLine};
 ghost use Rattle.table_text.specs.declared.error.TableReason.TheVariants.{Count};
 
 use crate::entries::Entries;
@@ -29,7 +31,7 @@ use ternary_words::Table;
 pub fn read_table(alloc: Global, bytes: &[u8]) -> Result<Table, TableError>
     ensures table { MatchResult result
         (λ table. table_in_text bytes.now ≡ Ok (words.table_of table))
-        (λ error. IsRefused error (table_in_text bytes.now)) }
+        (λ error. IsTextRefused error (table_in_text bytes.now)) }
     ensures names { IfOk result (λ table. names_seen (words.table_of table).entries ≡ table.names) }
     ensures spelled { IfOk result (λ table. All (λ name. IsTrue (is_name name)) table.names) }
 {
@@ -73,7 +75,7 @@ fn read_entries(alloc: Global, heading: &Heading, lines: &[u8]) -> Result<Entrie
     requires few { heading.now.entries ≤ MOST_ENTRIES }
     ensures { MatchResult result
         (λ entries. counted (heading_view heading.now) (length (lines_of lines.now)) (entries_of (heading_view heading.now) 2 (take heading.now.entries (lines_of lines.now))) ≡ Ok (table_view (heading_view heading.now) (entries_view entries)))
-        (λ error. IsRefused error (counted (heading_view heading.now) (length (lines_of lines.now)) (entries_of (heading_view heading.now) 2 (take heading.now.entries (lines_of lines.now))))) }
+        (λ error. IsTextRefused error (counted (heading_view heading.now) (length (lines_of lines.now)) (entries_of (heading_view heading.now) 2 (take heading.now.entries (lines_of lines.now))))) }
 {
     let stated = heading.entries;
     let mut entries = Entries::new(alloc);
@@ -118,7 +120,7 @@ fn with_line(
     requires room { vec_len entries.entries < MOST_ENTRIES }
     ensures read { MatchResult result
         (λ new. IsBehind (entries_view entries) (entry_of (heading_view heading.now) (line_of line.now ended)) (entries_view new))
-        (λ error. IsLineRefused error number (entry_of (heading_view heading.now) (line_of line.now ended))) }
+        (λ error. IsTextRefused error (at_line number (entry_of (heading_view heading.now) (line_of line.now ended)))) }
     ensures one_more { IfOk result (λ new. vec_len new.entries ≡ vec_len entries.entries + 1) }
 {
     match entry(heading, line, ended) {

@@ -4,3 +4,4 @@ pub mod Fallible
 pub mod Cuts
 pub mod Numbers
 pub mod Lines
+pub mod Reading

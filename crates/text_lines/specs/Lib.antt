@@ -1,3 +1,4 @@
 pub mod Headline
 pub mod Numbers
 pub mod Columns
+pub mod Reading
