@@ -1,6 +1,6 @@
 -- Tables with an entry more or less.
-use Rattle.std.proofs.Common.{◌≡◌, ◌∷◌, ℕ, List, [], Bool, true, false, ◌+◌, ◌<◌, ◌≤◌, ◌-◌, ap, refl, sym, ◌∙◌, arith, length, get_or, take, drop, suc, zero, cond, subst}
-use Rattle.std.specs.List.{list_any, remove, insert}
+use Rattle.std.proofs.Common.{◌≡◌, ◌∷◌, ℕ, List, [], Bool, true, false, ◌+◌, ◌<◌, ◌-◌, ap, refl, sym, ◌∙◌, arith, length, get_or, take, drop, suc, zero, cond, subst}
+use Rattle.std.specs.List.{list_any, remove}
 use Rattle.std.proofs.lemmas.List.{take_rest}
 use Rattle.field_boxes.specs.Alike.{AreAlike}
 use Rattle.ternary_words.specs.declared.entry.Entry.{Entry}
@@ -28,25 +28,9 @@ removed_at (x ∷ table) (suc k) e h less is free =
     behind_step (matches h x.word) x.decision (answer (remove table k) h) (answer table h)
     (λ f. removed_at table k e h (omega (arith, less)) is (λ m none. free m (none_both (matches h x.word) (list_any (matches h) (words_of (take k table))) f none)))
 
-inserted_at : (table : List Entry) (k : ℕ) (e : Entry) (h : List ℕ) → k ≤ length table →
-    (matches h e.word ≡ true → list_any (matches h) (words_of (take k table)) ≡ false → answer (drop k table) h ≡ e.decision) →
-    answer (insert table k e) h ≡ answer table h
-inserted_at table zero e h less free = front_step (matches h e.word) e.decision (answer table h) (λ m. free m refl)
-inserted_at [] (suc k) e h less free = absurd (omega (arith, less))
-inserted_at (x ∷ table) (suc k) e h less free =
-    behind_step (matches h x.word) x.decision (answer (insert table k e) h) (answer table h)
-    (λ f. inserted_at table k e h (omega (arith, less)) (λ m none. free m (none_both (matches h x.word) (list_any (matches h) (words_of (take k table))) f none)))
-
 pub removed-alike : (table : List Entry) (k : ℕ) (e : Entry) → k < length table → e ≡ get_or table k e →
     IsFree (words_of (take k table)) (take (length table - (k + 1)) (drop (k + 1) table)) e.word e.decision → AreAlike (answer (remove table k)) (answer table)
 removed-alike table k e less is free h header =
     let n : k + 1 ≡ suc k = omega arith in
     let rest = subst (λ (es : List Entry). IsFree (words_of (take k table)) es e.word e.decision) (take_rest table (k + 1)) free in
     removed_at table k e h less is (λ m none. ap (λ i. answer (drop i table) h) (sym n) ∙ rest h header m none)
-
-pub inserted-alike : (table es : List Entry) (k : ℕ) (e : Entry) → es ≡ table → k ≤ length table →
-    IsFree (words_of (take k es)) (take (length es - k) (drop k es)) e.word e.decision → AreAlike (answer (insert table k e)) (answer table)
-inserted-alike table es k e same less free =
-    let rest = subst (λ (xs : List Entry). IsFree (words_of (take k xs)) (drop k xs) e.word e.decision) same
-    (subst (λ (xs : List Entry). IsFree (words_of (take k es)) xs e.word e.decision) (take_rest es k) free) in
-    λ h header. inserted_at table k e h less (λ m none. rest h header m none)

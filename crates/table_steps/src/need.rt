@@ -6,36 +6,12 @@ ghost use Rattle.std.specs.List.{remove};
 ghost use Rattle.field_boxes.specs.Alike.{AreApart, IsTight};
 ghost use Rattle.field_boxes.specs.Headline.Fields.{IsHeader};
 ghost use Rattle.ternary_words.specs.Entries.{answer};
-ghost use Rattle.table_steps.specs.Needs.{IsNeed};
 
-use crate::steps::redundant;
 use crate::wanted::{candidate, is_wanted};
 use field_boxes::Header;
 use razor_base::Memory;
 use std::alloc::Global;
 use ternary_words::Entry;
-
-/// Whether a table needs an entry: it doesn't, or it answers this header otherwise without it, or it wasn't seen.
-#[derive(Drop)]
-pub enum Need {
-    Redundant,
-    Needed(Header),
-    Unknown,
-}
-
-/// Whether the table needs the entry at the place to answer as it does.
-pub fn needs(alloc: Global, table: &[Entry], place: usize, budget: u32) -> Result<Need, Memory>
-    requires { place < length table.now }
-    ensures { IfOk result (λ need. IsNeed table.now place need) }
-{
-    if redundant(alloc, table, place, budget)? {
-        return Ok(Need::Redundant);
-    }
-    match shown(alloc, table, place, budget)? {
-        Some(header) => Ok(Need::Needed(header)),
-        None => Ok(Need::Unknown),
-    }
-}
 
 /// A header that the table answers otherwise without the entry at the place, if one is found.
 fn shown(

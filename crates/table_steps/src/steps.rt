@@ -1,8 +1,8 @@
 //! Steps that change a table and keep its answers.
 
-ghost use Rattle.std.specs.Prelude.{◌≡◌, ◌<◌, ◌≤◌, IfOk, OnErr, length, cond};
+ghost use Rattle.std.specs.Prelude.{◌≡◌, ◌<◌, IfOk, OnErr, length, cond};
 ghost use Rattle.std.specs.Bool.{OnTrue};
-ghost use Rattle.std.specs.List.{remove, insert};
+ghost use Rattle.std.specs.List.{remove};
 ghost use Rattle.field_boxes.specs.Alike.{AreAlike};
 ghost use Rattle.ternary_words.specs.Entries.{answer};
 ghost use Rattle.table_steps.specs.Shortened.{IsShortened};
@@ -60,34 +60,4 @@ pub fn tight(alloc: Global, table: &mut Vec<Entry>, budget: u32) -> Result<(), M
         take_out(alloc, table, place, budget)?;
     }
     Ok(())
-}
-
-/// Puts the entry in at the place, in front of the one that stands there, if the answers are seen to stay, and says whether it did.
-pub fn put_in(
-    alloc: Global,
-    table: &mut Vec<Entry>,
-    place: usize,
-    entry: Entry,
-    budget: u32,
-) -> Result<bool, Memory>
-    requires { place ≤ length table.old.items }
-    ensures alike { AreAlike (answer table.new.items) (answer table.old.items) }
-    ensures put { IfOk result (λ put. table.new.items ≡ cond put (insert table.old.items place entry) table.old.items) }
-    ensures kept { OnErr result (table.new.items ≡ table.old.items) }
-{
-    let entries = table.as_slice();
-    let free = free_for(
-        alloc,
-        &[],
-        &entries[..place],
-        &entries[place..],
-        &entry.word,
-        entry.decision,
-        budget,
-    )?;
-    if !free {
-        return Ok(false);
-    }
-    table.insert(place, entry)?;
-    Ok(true)
 }

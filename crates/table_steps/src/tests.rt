@@ -1,8 +1,7 @@
 //! Tables of words of four trits, against the sixteen keys one by one.
 
 use crate::{
-    Need, answers_alike, are_numbered, can_exchange, free_for, is_tight, needs, put_in, redundant,
-    take_out, tight,
+    answers_alike, are_numbered, can_exchange, free_for, is_tight, redundant, take_out, tight,
 };
 use std::alloc::Global;
 use std::process::Abort;
@@ -81,17 +80,12 @@ fn exchanged(alloc: Global, new: &[Entry], rest: &[Entry]) -> Result<Vec<Entry>,
     Ok(table)
 }
 
-/// Each entry is told redundant, or needed, as the keys show.
-fn expect_needs(rt: &impl Abort, alloc: Global, table: &[Entry]) -> Result<(), Fail> {
+/// Each entry is told redundant as the keys show.
+fn expect_redundant(rt: &impl Abort, alloc: Global, table: &[Entry]) -> Result<(), Fail> {
     for place in 0..table.len() {
         let fewer = exchanged(alloc, &table[..place], &table[place + 1..])?;
         let alike = are_alike(table, fewer.as_slice());
         assert!(rt; redundant(alloc, table, place, ENOUGH)? == alike);
-        match needs(alloc, table, place, ENOUGH)? {
-            Need::Redundant => assert!(rt; alike),
-            Need::Needed(_header) => assert!(rt; !alike),
-            Need::Unknown => assert!(rt; false),
-        }
     }
     Ok(())
 }
@@ -104,9 +98,8 @@ fn expect_steps(
     entry: Entry,
 ) -> Result<usize, Fail> {
     let free = free_for(alloc, &[], &[], old, &entry.word, entry.decision, ENOUGH)?;
-    let mut table = exchanged(alloc, old, &[])?;
-    let put = put_in(alloc, &mut table, 0, entry, ENOUGH)?;
-    assert!(rt; put == free);
+    let front: &[Entry] = if free { &[entry] } else { &[] };
+    let mut table = exchanged(alloc, front, old)?;
     let count = table.len();
     assert!(rt; count > 0);
     let _taken = take_out(alloc, &mut table, 0, ENOUGH)?;
@@ -124,7 +117,7 @@ fn tables_stay_alike_and_get_tight(rt: HostRuntime) -> Result<(), Fail> {
     let mut taken = 0usize;
     for _ in 0..20 {
         let old = small_table(&rt, rt.alloc(), &mut seed, 7)?;
-        expect_needs(&rt, rt.alloc(), old.as_slice())?;
+        expect_redundant(&rt, rt.alloc(), old.as_slice())?;
         seed = next(seed);
         let entry = small_entry(&rt, seed);
         let fewer = expect_steps(&rt, rt.alloc(), old.as_slice(), entry)?;
