@@ -1,16 +1,8 @@
 //! What errors say of themselves.
+use crate::tests::said::check;
 use bank_update::{BeginRefusal, DriveError, Idle, ScriptError, ScriptReason, StepRefusal};
-use std::fmt::Display;
-use std::process::Abort;
 use std::test::Fail;
 use trace_run::{TraceError, TraceReason};
-
-/// Compares what the error says.
-fn check<R: Abort + AllocGlobal, E: Display>(rt: &R, error: &E, text: &str) -> Result<(), Fail> {
-    let told = format!(in rt.alloc(); "{error}")?;
-    assert!(rt; told.as_str() == text);
-    Ok(())
-}
 
 #[test]
 fn errors_of_traces_say_what_stopped_them(rt: HostRuntime) -> Result<(), Fail> {

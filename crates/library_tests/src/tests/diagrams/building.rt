@@ -1,9 +1,9 @@
 //! Diagrams of rules, diagrams changed in one box, and what is asked of them.
-ghost use Rattle.std.specs.Prelude.{◌≡◌, ◌≤◌};
+ghost use Rattle.std.specs.Prelude.{◌≡◌};
 ghost use Rattle.field_boxes.specs.Headline.Fields.{stated};
-ghost use Rattle.field_boxes.specs.Spans.{AreInside};
 ghost use Rattle.node_store.specs.Diagram.{level_of};
 
+use crate::tests::boxes::{ADDRESSES, PORTS, protocols};
 use fdd_build::{build, over, under, under_rule};
 use fdd_ops::agrees_where;
 use field_boxes::{Header, Ports, Rule, Span};
@@ -11,22 +11,6 @@ use node_store::{NodeId, Store, stated_order};
 use std::process::Abort;
 use std::test::Fail;
 use table_compose::cost;
-
-const ADDRESSES: Span = Span {
-    lo: 0,
-    hi: 4_294_967_295,
-};
-
-const PORTS: Span = Span { lo: 0, hi: 65_535 };
-
-/// The box that is open but for the protocol.
-fn protocols(lo: u32, hi: u32) -> [Span; 5]
-    requires ordered { lo ≤ hi }
-    requires inside { hi ≤ 255 }
-    ensures { AreInside result }
-{
-    [ADDRESSES, ADDRESSES, PORTS, PORTS, Span { lo, hi }]
-}
 
 /// What the diagram answers at some protocols.
 fn expect(rt: &impl Abort, store: &Store, root: NodeId, answers: &[(u32, u32)]) -> Result<(), Fail>

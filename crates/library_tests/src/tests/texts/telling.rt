@@ -1,19 +1,11 @@
 //! What errors say of themselves.
+use crate::tests::said::check;
 use box_partition::CertError;
 use field_boxes::Header;
 use filter_reader::{ListError, Reason};
 use partition_check::{NotPrefix, Stop, Why, Wrong};
-use std::fmt::Display;
-use std::process::Abort;
 use std::test::Fail;
 use table_compose::ComposeError;
-
-/// Compares what the error says.
-fn check<R: Abort + AllocGlobal, E: Display>(rt: &R, error: &E, text: &str) -> Result<(), Fail> {
-    let told = format!(in rt.alloc(); "{error}")?;
-    assert!(rt; told.as_str() == text);
-    Ok(())
-}
 
 /// Why a line of a list is bad, in words.
 const REASONS: [(Reason, &str); 15] = [

@@ -4,6 +4,7 @@ mod covers;
 mod lists;
 mod real_files;
 mod reasons;
+mod rows;
 mod table_texts;
 mod telling;
 mod writes;
