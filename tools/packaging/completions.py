@@ -1,4 +1,5 @@
-"""Completions of the program's words for shells, made from the forms of its commands."""
+"""Completions of the program's words for shells, made from the forms of its commands and what tools/commands says of them."""
+from calling.commands import commands
 from calling.options import VALUES
 from specifications.usage import FILES
 
@@ -7,11 +8,6 @@ def values(option):
     """The words of which an option's value is one; none where it is a number of a range."""
     known = VALUES.get(option.name, ())
     return "" if isinstance(known, range) else " ".join(map(str, known))
-
-
-def rest(form):
-    """The line of a command without its name."""
-    return form.line.removeprefix(form.name).strip()
 
 
 def for_bash(forms):
@@ -31,11 +27,12 @@ def for_bash(forms):
 
 
 def for_zsh(forms):
+    said = commands()
     yield from ("#compdef razor", "# Completions of razor for zsh.", "if ((CURRENT == 2)); then", "    local -a commands=(")
-    yield from (f"        '{form.name}:{rest(form)}'" for form in forms)
+    yield from (f"        '{form.name}:{said[form.name].says}'" for form in forms)
     yield from ("    )", "    _describe command commands", "    return", "fi", "shift words", "((CURRENT--))", "case $words[1] in")
     for form in forms:
-        options = [f"'{option.name}=[{option.value}]:{option.value}:{f'({values(option)})' if values(option) else ''}'" for option in form.options]
+        options = [f"'{option.name}=[{said[form.name].options[option.name]}]:{option.value}:{f'({values(option)})' if values(option) else ''}'" for option in form.options]
         words = [f"':{word}:{action(word)}'" for word in form.words]
         again = [f"'*:{form.words[-1]}:{action(form.words[-1])}'"] if form.repeats else []
         yield f"    {form.name}) _arguments {' '.join([*options, *words, *again])} ;;"
@@ -47,13 +44,14 @@ def action(word):
 
 
 def for_fish(forms):
+    said = commands()
     yield "# Completions of razor for fish."
     yield "complete -c razor -n __fish_use_subcommand -f"
     for form in forms:
-        yield f"complete -c razor -n __fish_use_subcommand -a {form.name} -d '{rest(form)}'"
+        yield f"complete -c razor -n __fish_use_subcommand -a {form.name} -d '{said[form.name].says}'"
         named = f"complete -c razor -n '__fish_seen_subcommand_from {form.name}'"
         for option in form.options:
-            yield " ".join([named, "-l", option.name.removeprefix("--"), "-x", *([f"-a '{values(option)}'"] if values(option) else []), "-d", option.value])
+            yield " ".join([named, "-l", option.name.removeprefix("--"), "-x", *([f"-a '{values(option)}'"] if values(option) else []), "-d", f"'{said[form.name].options[option.name]}'"])
         if not FILES.intersection(form.words):
             yield f"{named} -f"
 

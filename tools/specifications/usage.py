@@ -23,7 +23,6 @@ class Option:
 class Form:
     """A command: its name, its options, and what its other words are called; the last of these may come again."""
 
-    line: str
     name: str
     options: tuple
     words: tuple
@@ -45,7 +44,7 @@ def form(line):
     options = tuple(Option(found[2], found[3], not found[1]) for found in OPTION.finditer(rest))
     words = OPTION.sub("", rest).split()
     repeats = words[-1:] == [".."]
-    return Form(line.strip(), name, options, tuple(words[:-1] if repeats else words), repeats)
+    return Form(name, options, tuple(words[:-1] if repeats else words), repeats)
 
 
 def forms(specifications):

@@ -43,7 +43,6 @@ impl Slots {
             *of_id = None;
         }
         self.len = self.len.wrapping_sub(1);
-        self.fixed = self.fixed.wrapping_sub(usize::from(row.fixed));
         Ok(())
     }
 
@@ -83,22 +82,6 @@ impl Slots {
             self.spread(alloc)?;
         }
         Ok(())
-    }
-
-    /// The lowest row, or the end, that a row may be moved right in front of on its way to the one with this id,
-    /// or the end, without passing a fixed one.
-    pub fn above_fixed(&self, id: usize, before: Option<usize>) -> Option<usize> {
-        if self.fixed == 0 {
-            return before;
-        }
-        let end = self.place_or_end(before);
-        for place in self.links.behind(self.place_or_end(Some(id))) {
-            let slot = self.slot(place);
-            if place == end || slot.row.fixed {
-                return Some(slot.id);
-            }
-        }
-        before
     }
 
     /// The slot of the row with this id, or the end.

@@ -3,7 +3,7 @@
 use crate::cube::Cube;
 
 /// Lowest bit and width of the fields: source and destination address, their ports, protocol.
-pub const FIELDS: [(u32, u32); 5] = [(72, 32), (40, 32), (24, 16), (8, 16), (0, 8)];
+pub(crate) const FIELDS: [(u32, u32); 5] = [(72, 32), (40, 32), (24, 16), (8, 16), (0, 8)];
 
 /// The bits of the fields.
 pub(crate) const FIELD_BITS: [u128; 5] = [

@@ -37,7 +37,7 @@ mod view;
 
 pub use covers::{covered, covered_by};
 pub use cube::Cube;
-pub use fields::{FIELDS, field, raised};
+pub use fields::{field, raised};
 pub use free::{free_for, passes};
 pub use marks::{Failed, Mark};
 pub use row::Row;

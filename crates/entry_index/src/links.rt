@@ -64,20 +64,15 @@ impl Links {
 
     /// The slots in order.
     pub fn in_order(&self) -> InOrder<'_> {
-        self.behind(0)
-    }
-
-    /// The slots behind this one, in order.
-    pub fn behind(&self, slot: usize) -> InOrder<'_> {
         InOrder {
             links: self,
-            at: slot,
+            at: 0,
             left: self.links.len(),
         }
     }
 }
 
-/// The slots behind one, in order.
+/// The slots in order.
 #[derive(Drop)]
 pub(crate) struct InOrder<'a> {
     links: &'a Links,

@@ -57,8 +57,8 @@ impl Table {
         self.log_since(since).iter().any(|told| told.0.meets(cube))
     }
 
-    /// Moves a row as far down as it can go: there the fewest rows forbid it to widen. Not behind a fixed one
-    /// after `hold_front`. False, and nothing done, where about more than `most` rows meet it.
+    /// Moves a row as far down as it can go: there the fewest rows forbid it to widen. False, and nothing done,
+    /// where about more than `most` rows meet it.
     #[inline(never)]
     pub fn sink(&mut self, id: usize, most: usize) -> Result<bool, Memory> {
         let row = self.slots.row(id);
@@ -66,27 +66,17 @@ impl Table {
         if !self.slots.small(row.cube, Some(id), most, view)? {
             return Ok(false);
         }
-        let upto = if self.holds_front {
-            view.first_fixed()
-        } else {
-            view.rows.len()
-        };
         let place = passes(
             &view.rows,
             row.cube,
             row.decision,
             view.at,
-            upto,
+            view.rows.len(),
             None,
             &mut self.scratch,
         )?;
         let next = view.ids.get(place).copied();
-        let before = if self.holds_front {
-            self.slots.above_fixed(id, next)
-        } else {
-            next
-        };
-        self.slots.carry(self.alloc, id, before)?;
+        self.slots.carry(self.alloc, id, next)?;
         Ok(true)
     }
 

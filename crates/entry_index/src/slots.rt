@@ -56,7 +56,6 @@ pub(crate) struct Slots {
     /// The slot of each row by its id, none where it was taken out.
     pub places: Vec<Option<usize>>,
     pub len: usize,
-    pub fixed: usize,
     /// How many rows moved since they were laid out.
     pub far: usize,
 }
@@ -98,7 +97,6 @@ impl Slots {
             empty: Vec::with_capacity(alloc, room)?,
             places: vec![in alloc; None; ids]?,
             len: 0,
-            fixed: 0,
             far: 0,
         };
         for place in (1..room).rev() {
@@ -130,7 +128,6 @@ impl Slots {
         }
         self.flip(place, slot.row);
         self.len = self.len.wrapping_add(1);
-        self.fixed = self.fixed.wrapping_add(usize::from(slot.row.fixed));
     }
 
     /// Puts a row's slot into the sets, or takes it out.

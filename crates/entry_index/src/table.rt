@@ -19,8 +19,6 @@ pub struct Table {
     pub(crate) log: Vec<(Cube, u32)>,
     pub(crate) view: View,
     pub(crate) scratch: Vec<Cube>,
-    /// Whether no row goes down behind a fixed one.
-    pub(crate) holds_front: bool,
 }
 
 impl Table {
@@ -37,13 +35,7 @@ impl Table {
             log: Vec::new(alloc),
             view: View::new(alloc),
             scratch: Vec::new(alloc),
-            holds_front: false,
         })
-    }
-
-    /// From now on no row goes down behind a fixed one: what stood in front of the fixed rows stays there.
-    pub fn hold_front(&mut self) {
-        self.holds_front = true;
     }
 
     /// How many rows it has.

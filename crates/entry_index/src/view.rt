@@ -43,16 +43,6 @@ impl View {
         self.moved.clear();
     }
 
-    /// The place of the first fixed row behind the one that the others are looked at for, or how many there are.
-    pub(crate) fn first_fixed(&self) -> usize {
-        for (k, row) in self.rows.iter().enumerate().skip(self.at) {
-            if row.fixed {
-                return k;
-            }
-        }
-        self.rows.len()
-    }
-
     /// Pushes what stands in a slot; `here` is the label of the row that the others are looked at for.
     #[inline]
     fn push(&mut self, slot: &Slot, here: u64) -> Result<(), Memory> {

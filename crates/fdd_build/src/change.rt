@@ -1,4 +1,4 @@
-//! A diagram changed in one box.
+//! A diagram changed in one box. It is for users of the library: no command does so.
 ghost use Rattle.std.specs.Prelude.{◌≡◌, ℕ, List, ◌&&◌, nat_eq, if◌then◌else◌, IfOk};
 ghost use Rattle.field_boxes.specs.Headline.Fields.{stated, IsHeader, AreValues};
 ghost use Rattle.field_boxes.specs.Headline.Classifier.{matches};

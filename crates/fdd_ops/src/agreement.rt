@@ -1,4 +1,5 @@
 //! Whether one diagram decides as asked wherever another one answers an index.
+//! It is for users of the library: no command asks.
 ghost use Rattle.std.specs.Prelude.{◌≡◌, ◌≢◌, IfOk};
 ghost use Rattle.std.specs.Bool.{OnTrue, OnFalse};
 ghost use Rattle.field_boxes.specs.Headline.Fields.{stated};

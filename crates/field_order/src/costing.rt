@@ -1,4 +1,5 @@
 //! What the table of a rule list costs in an order of the fields.
+//! It is for users of the library: no command asks.
 ghost use Rattle.std.specs.Prelude.{ℕ, List, IfOk};
 ghost use Rattle.field_boxes.specs.NamedRules.{named_rules};
 ghost use Rattle.table_compose.specs.Headline.LeastCost.{IsLeastCost};

@@ -1,4 +1,5 @@
 //! How many prefixes hold the values of some spans.
+//! It is for users of the library: no command asks.
 ghost use Rattle.std.specs.Prelude.{◌≡◌, ◌≤◌, ◌-◌, ◌*◌, List, length, max, ◌<◌, ◌^◌};
 ghost use Rattle.field_boxes.specs.declared.prefix.Prefix.{Prefix};
 ghost use Rattle.field_boxes.specs.Spans.{intervals_of};

@@ -5,11 +5,13 @@
 //!
 //! | Room | Holds |
 //! |---|---|
-//! | `steps` | the commands of the tour |
-//! | `shelf` | its files |
+//! | `steps` | the steps of the tour and the files that they begin with, as `tools/commands` has them |
+//! | `step` | a step |
+//! | `shelf` | the files so far |
 #![tactic(auto)]
 
 mod shelf;
+mod step;
 mod steps;
 
 use anyhow::Result;

@@ -1,21 +1,10 @@
 //! The files of the tour.
 ghost use Rattle.std.specs.Prelude.{◌≡◌, ◌+◌, length, OnOk};
 
+use crate::steps::FILES;
 use anyhow::Result;
 use razor_base::{Desk, MemDesk, Memory, read_all};
 use std::alloc::Global;
-
-/// The files in `data/`.
-const NAMES: [&str; 8] = [
-    "lab.list",
-    "office.list",
-    "lab.trace",
-    "swap.script",
-    "edit.script",
-    "old.table",
-    "hosts.table",
-    "edge.list",
-];
 
 /// As many bytes as a file of the tour may have.
 const MOST_BYTES: u64 = 10_000;
@@ -39,7 +28,7 @@ impl Shelf {
         let mut shelf = Shelf {
             files: Vec::new(alloc),
         };
-        for name in NAMES {
+        for name in FILES {
             let mut bytes = Vec::new(alloc);
             read_all(desk, name, MOST_BYTES, &mut bytes)?;
             shelf.files.push(File { name, bytes })?;

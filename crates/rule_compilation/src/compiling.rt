@@ -1,4 +1,5 @@
 //! The table of a rule list.
+//! `compose_in` is for users of the library: no command calls it.
 ghost use Rattle.std.specs.Prelude.{◌≡◌, ◌≤◌, ℕ, All, IfOk, MatchResult};
 ghost use Rattle.razor_base.specs.declared.limits.TheConstants.{MOST_ENTRIES};
 ghost use Rattle.field_boxes.specs.Headline.Fields.{stated};

@@ -1,5 +1,5 @@
 -- The shorter of two tables.
-use Rattle.std.proofs.Common.{◌≡◌, ◌≤◌, ◌<◌, ℕ, List, length, arith, refl, subst, sym}
+use Rattle.std.proofs.Common.{◌≡◌, ◌≤◌, ℕ, List, length, arith, refl, subst, sym}
 use Rattle.field_boxes.specs.Headline.Classifier.{Rule}
 use Rattle.ternary_words.specs.Headline.Table.{Table}
 use Rattle.table_compose.specs.Headline.LeastCost.{IsLeastCost}
@@ -18,10 +18,6 @@ cheap one order rules n cost is le other h = let same = one order rules cost oth
 pub searched_in : OneCost → (order : List ℕ) (rules : List (Rule (List ℕ))) (limit width : ℕ) (t u : Table) → IsShortTable rules limit width t → IsCompiledIn order rules width u → length t.entries ≤ length u.entries →
     IsShortTableIn order rules limit width t
 searched_in one order rules limit width t u short compiled le = record { short = short; cheap = cheap one order rules (length t.entries) u.composed compiled.composed (omega (arith, le, compiled.few)) }
-
--- the one that was searched for, within a limit that the cost is above
-pub alone_in : OneCost → (order : List ℕ) (rules : List (Rule (List ℕ))) (limit width cost : ℕ) (t : Table) → IsShortTable rules limit width t → IsLeastCost order rules cost → limit < cost → IsShortTableIn order rules limit width t
-alone_in one order rules limit width cost t short is less = record { short = short; cheap = cheap one order rules (length t.entries) cost is (omega (arith, less, short.few)) }
 
 -- the composed one, within both bounds
 pub composed_in : OneCost → (order : List ℕ) (rules : List (Rule (List ℕ))) (limit width : ℕ) (u t : Table) → IsCompiledIn order rules width u → t ≡ record u { composed = length u.entries } → length u.entries ≤ limit → length u.entries ≤ expanded_count rules →

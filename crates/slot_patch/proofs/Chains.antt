@@ -131,9 +131,6 @@ laid-stacked old new from limit p h = record {
   behind = λ k small low. h.chains k small;
 }
 
-pub limit-less : (old new : List Entry) (from limit less : ℕ) (p : Piles) → less ≤ limit → AreLaid old new from limit p → AreLaid old new from less p
-limit-less old new from limit less p le h = record { stacked = h.stacked; behind = λ k small low. h.behind k small (omega (arith, low, le)) }
-
 -- the link on top of the pile before leads on
 leads-on : (old new : List Entry) (p : Piles) (pair : Pair) (limit place pile : ℕ) → AreLaid old new pair.old limit p → place < limit → pile ≤ length p.places.items →
     ((k : ℕ) → suc k ≡ pile → get_or p.places.items k 0 < place) → LeadsOn old new p.links.items pair place pile (top_before p.tops.items pile)
@@ -149,18 +146,6 @@ pub laid-step : (old new : List Entry) (before now : Piles) (pair : Pair) (limit
     now.tops.items ≡ laid before.tops.items pile (length before.links.items) → AreLaid old new pair.old place now
 laid-step old new before now pair limit place pile h less word is within below links places tops =
     laid-on old new before now pair limit place pile (top_before before.tops.items pile) h less word is within (leads-on old new before pair limit place pile h less within below) links places tops
-
--- the pairs of the last pile
-pub chain-pairs : (old new : List Entry) (p : Piles) (k : ℕ) (pairs : List Pair) → AreStacked old new 0 p → suc k ≡ length p.places.items →
-    ((found : List Pair) → Follows p.links.items (Some (get_or p.tops.items k 0)) found → length found ≡ suc k → pairs ≡ found) →
-    AreShared old new 0 0 pairs × (length pairs ≡ length p.places.items)
-chain-pairs old new p k pairs h last all =
-    let chain = h.chains k (omega (arith, last)) in
-    let same = all chain.pairs chain.leads chain.many in (
-      subst (λ (ps : List Pair). AreShared old new 0 0 ps) (sym same)
-          (shared-from old new 0 (length new - suc (get_or p.places.items k 0)) 0 0 chain.pairs (omega arith) (omega arith) chain.shared),
-      ap (λ (ps : List Pair). length ps) same ∙ chain.many ∙ last,
-    )
 
 -- one link more is followed
 pub follow-step : (links : List Link) (at : Option ℕ) (number : ℕ) (link : Link) (rest found made pairs : List Pair) (count all : ℕ) → at ≡ Some number → slice_get links number ≡ Some link →

@@ -40,12 +40,9 @@ more_case n p xs h (inl a) (inr b) = absurd (omega (arith, a, b))
 more_case n p xs h (inr a) (inl b) = let x = below_out n p xs a in let y = below_in (suc n) p xs b in omega (arith, x, y, h)
 more_case n p xs h (inr a) (inr b) = let x = below_out n p xs a in let y = below_out (suc n) p xs b in omega (arith, x, y, h)
 
-more_below : (n : ℕ) (xs : List ℕ) → below n xs ≤ below (suc n) xs
-more_below n [] = omega arith
-more_below n (p ∷ xs) = more_case n p xs (more_below n xs) (cases_lt p n) (cases_lt p (suc n))
-
 pub below-more : (n : ℕ) (xs : List ℕ) → below n xs ≤ below (suc n) xs
-below-more n xs = more_below n xs
+below-more n [] = omega arith
+below-more n (p ∷ xs) = more_case n p xs (below-more n xs) (cases_lt p n) (cases_lt p (suc n))
 
 last_in : (x : ℕ) → below (suc x) (x ∷ []) ≡ 1
 last_in x = below_in (suc x) x [] (omega arith)
@@ -77,12 +74,9 @@ all_case : (n p : ℕ) (xs : List ℕ) → below n xs ≤ length xs → (p < n) 
 all_case n p xs h (inl a) = let x = below_in n p xs a in omega (arith, x, h)
 all_case n p xs h (inr a) = let x = below_out n p xs a in omega (arith, x, h)
 
-below_all : (n : ℕ) (xs : List ℕ) → below n xs ≤ length xs
-below_all n [] = omega arith
-below_all n (p ∷ xs) = all_case n p xs (below_all n xs) (cases_lt p n)
-
 pub below-all : (n : ℕ) (xs : List ℕ) → below n xs ≤ length xs
-below-all n xs = below_all n xs
+below-all n [] = omega arith
+below-all n (p ∷ xs) = all_case n p xs (below-all n xs) (cases_lt p n)
 
 -- a list with an item laid
 

@@ -1,14 +1,9 @@
 -- Two writes to one slot, one right behind the other, as one.
-use Rattle.std.proofs.Common.{◌≡◌, ◌⊎◌, ◌≤◌, ◌<◌, ◌∷◌, ◌++◌, ℕ, zero, suc, List, [], Option, Some, option_map, length, set, slice_get, inl, inr, refl, ap, sym, ◌∙◌, subst, arith, append_assoc, length-append}
+use Rattle.std.proofs.Common.{◌≡◌, ◌⊎◌, ◌≤◌, ◌<◌, ◌∷◌, ◌++◌, ℕ, zero, suc, List, [], Some, option_map, length, set, slice_get, inl, inr, refl, ap, sym, ◌∙◌, subst, arith, append_assoc, length-append}
 use Rattle.std.proofs.lemmas.Bool.{cases_lt}
 use Rattle.std.proofs.lemmas.List.{set-set}
 use Rattle.tcam_sim.specs.Slots.{stored}
-use Rattle.std.specs.Global.{Vec}
-use Rattle.ternary_words.specs.declared.entry.Entry.{Entry}
-use Rattle.slot_patch.specs.Banks.{Bank, bank_of, decided}
-use Rattle.slot_patch.specs.Moving.{entries_in}
-use Rattle.slot_patch.specs.Planning.{IsPlan}
-use Rattle.slot_patch.specs.declared.plan.Plan.{Plan}
+use Rattle.slot_patch.specs.Banks.{Bank, decided}
 use Rattle.slot_patch.specs.Phases.{Clearing, IsNoLater}
 use Rattle.slot_patch.specs.Plans.{IsPatch, SayWhatStood, after, written}
 use Rattle.slot_patch.specs.declared.plan.Write.{Write}
@@ -140,28 +135,8 @@ joined-patch old new front w v rest same p =
 
 -- what is put down before the rest
 
-pub put-one : (old new : Bank) (before now front : List Write) (w : Write) (rest : List Write) → before ≡ front → now ≡ front ++ w ∷ [] → IsPatch old new (before ++ w ∷ rest) → IsPatch old new (now ++ rest)
-put-one old new before now front w rest is made h =
-    subst (IsPatch old new) (ap (λ (ws : List Write). ws ++ w ∷ rest) is ∙ sym (append_assoc front (w ∷ []) rest) ∙ ap (λ (ws : List Write). ws ++ rest) (sym made)) h
-
-pub put-two : (old new : Bank) (before now front : List Write) (w v : Write) (rest : List Write) → before ≡ front ++ w ∷ [] → now ≡ front ++ w ∷ v ∷ [] → IsPatch old new (before ++ v ∷ rest) → IsPatch old new (now ++ rest)
-put-two old new before now front w v rest is made h =
-    subst (IsPatch old new) (ap (λ (ws : List Write). ws ++ v ∷ rest) is ∙ append_assoc front (w ∷ []) (v ∷ rest) ∙ sym (append_assoc front (w ∷ v ∷ []) rest) ∙ ap (λ (ws : List Write). ws ++ rest) (sym made)) h
-
 pub put-joint : (old new : Bank) (before now front : List Write) (w v : Write) (rest : List Write) → v.slot ≡ w.slot → before ≡ front ++ w ∷ [] → now ≡ front ++ joint w v ∷ [] →
     IsPatch old new (before ++ v ∷ rest) → IsPatch old new (now ++ rest)
 put-joint old new before now front w v rest same is made h =
     let two = subst (IsPatch old new) (ap (λ (ws : List Write). ws ++ v ∷ rest) is ∙ append_assoc front (w ∷ []) (v ∷ rest)) h in
     subst (IsPatch old new) (sym (append_assoc front (joint w v ∷ []) rest) ∙ ap (λ (ws : List Write). ws ++ rest) (sym made)) (joined-patch old new front w v rest same two)
-
--- a plan whose writes are joined
-pub plan-joined : (held : List (Option Entry)) (table : List Entry) (before now : Plan) → IsPlan held table before → now.table ≡ before.table →
-    IsPatch (bank_of held) (bank_of before.table.items) now.writes.items → length now.writes.items ≤ length before.writes.items → IsPlan held table now
-plan-joined held table before now h same patch fewer =
-    let few = h.few in
-    record {
-      patch = subst (λ (t : Vec (Option Entry)). IsPatch (bank_of held) (bank_of t.items) now.writes.items) (sym same) patch;
-      entries = ap (λ (t : Vec (Option Entry)). entries_in t.items) same ∙ h.entries;
-      slots = ap (λ (t : Vec (Option Entry)). length t.items) same ∙ h.slots;
-      few = omega (arith, few, fewer);
-    }

@@ -1,5 +1,5 @@
 -- How many writes a plan has at most.
-use Rattle.std.proofs.Common.{◌≡◌, ◌⊎◌, ◌≤◌, ◌<◌, ◌+◌, ◌-◌, ◌*◌, ◌∷◌, ◌++◌, ℕ, zero, suc, Bool, true, false, if◌then◌else◌, List, [], Option, Some, None, length, slice_get, slice_index, inl, inr, ap, sym, ◌∙◌, arith, length-append, lt-ltb, le-ltb}
+use Rattle.std.proofs.Common.{◌≡◌, ◌⊎◌, ◌≤◌, ◌<◌, ◌+◌, ◌-◌, ◌*◌, ◌∷◌, ◌++◌, ℕ, zero, suc, Bool, if◌then◌else◌, List, [], Option, Some, None, length, slice_get, slice_index, inl, inr, ap, sym, ◌∙◌, arith, length-append, lt-ltb, le-ltb}
 use Rattle.std.proofs.lemmas.Bool.{cases_lt}
 use Rattle.ternary_words.specs.declared.entry.Entry.{Entry}
 use Rattle.slot_patch.specs.InPlace.{differing, in_place, is_same}
@@ -7,7 +7,7 @@ use Rattle.slot_patch.specs.Layouts.{IsLayout}
 use Rattle.slot_patch.specs.Moving.{entries_in, move}
 use Rattle.slot_patch.specs.Ordered.{down_move, downs, moves_of, up_move, ups}
 use Rattle.slot_patch.specs.declared.plan.Write.{Write}
-use Rattle.slot_patch.proofs.Fewest.{differing-from}
+use Rattle.slot_patch.proofs.Fewest.{differing-from, one, one-most}
 use Rattle.slot_patch.proofs.Places.{count-writes}
 
 abbrev Slots : Type 0
@@ -73,18 +73,11 @@ two-a-move from to entries =
 
 -- writes in place
 
-abbrev one : Bool → ℕ
-one t = if t then 0 else 1
-
-one_most : (t : Bool) → one t ≤ 1
-one_most true = omega arith
-one_most false = omega arith
-
 one_slot : (a b : Option Entry) (xs ys : Slots) (n : ℕ) → n ≤ length (entries_in xs) + length (entries_in ys) → one (is_same a b) + n ≤ length (entries_in (a ∷ xs)) + length (entries_in (b ∷ ys))
 one_slot None None xs ys n h = omega (arith, h)
 one_slot None (Some b) xs ys n h = omega (arith, h)
 one_slot (Some a) None xs ys n h = omega (arith, h)
-one_slot (Some a) (Some b) xs ys n h = let most = one_most (is_same (Some a) (Some b)) in omega (arith, h, most)
+one_slot (Some a) (Some b) xs ys n h = let most = one-most (is_same (Some a) (Some b)) in omega (arith, h, most)
 
 count_in : (start next : Slots) → length start ≡ length next → differing start next (length start) ≤ length (entries_in start) + length (entries_in next)
 count_in [] [] h = omega arith

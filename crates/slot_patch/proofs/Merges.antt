@@ -1,7 +1,9 @@
 -- Layouts that grow by one slot.
-use Rattle.std.proofs.Common.{◌≡◌, ◌≤◌, ◌<◌, ◌+◌, ◌∷◌, ◌++◌, ℕ, zero, suc, List, [], Option, Some, None, option_map, length, take, drop, slice_get, get_or, refl, ap, sym, ◌∙◌, subst, arith, append-nil, drop-cons}
+use Rattle.std.proofs.Common.{◌≡◌, ◌<◌, ◌+◌, ◌∷◌, ◌++◌, ℕ, zero, suc, List, [], Option, Some, None, option_map, length, take, drop, slice_get, get_or, refl, ap, sym, ◌∙◌, subst, arith, append-nil, drop-cons}
 use Rattle.std.specs.Option.{option_to_list}
 use Rattle.std.proofs.lemmas.Option.{none-some, slice_get_within}
+use Rattle.std.proofs.Math.Seq.{take-length}
+use Rattle.std.proofs.lemmas.List.{length-take-le}
 use Rattle.ternary_words.specs.Views.{word_of}
 use Rattle.ternary_words.specs.declared.entry.Entry.{Entry}
 use Rattle.tcam_sim.specs.Slots.{stored}
@@ -49,10 +51,6 @@ take-none : {X : Type 0} (xs : List X) → take 0 xs ≡ []
 take-none [] = refl
 take-none (x ∷ xs) = refl
 
-pub take-whole : {X : Type 0} (xs : List X) → take (length xs) xs ≡ xs
-take-whole [] = refl
-take-whole {X = X} (x ∷ xs) = ap (λ (zs : List X). x ∷ zs) (take-whole xs)
-
 -- a slot more, in front of which so many entries stood
 abbrev pub AreNext : List Entry → ℕ → ℕ → Option Entry → Type 0
 AreNext xs i next x = take next xs ≡ take i xs ++ option_to_list x
@@ -97,23 +95,14 @@ merged-both old new i j shared before now a b h start next at_old at_new word =
     ap (λ (e : Entry). word_of e.word) one ∙ words-alike word.a word.b word.same ∙ ap (λ (e : Entry). word_of e.word) (sym two) in
     merged-more old new i j shared (suc i) (suc j) (suc shared) before now (Some a) (Some b) h start next same (take-more old i a at_old) (take-more new j b at_new) (omega arith)
 
-pub merged-none : (old new : List Entry) (l : Layout) → l.start.items ≡ [] → l.next.items ≡ [] → IsMerged old new 0 0 0 l
-merged-none old new l start next = record {
-  long = ap length next ∙ sym (ap length start);
-  old_entries = ap entries_in start ∙ sym (take-none old);
-  new_entries = ap entries_in next ∙ sym (take-none new);
-  words = subst (λ (s : Slots). ShareWords (bank_of s) (bank_of l.next.items)) (sym start) (subst (λ (s : Slots). ShareWords (bank_of []) (bank_of s)) (sym next) tt);
-  count = (let e = ap length start in omega (arith, e));
-}
-
 -- the whole of both tables
 pub merged-all : (old new : List Entry) (shared : ℕ) (l : Layout) → IsMerged old new (length old) (length new) shared l →
     IsLayout (length l.start.items) old new l.start.items l.next.items
 merged-all old new shared l h = record {
   start_slots = refl;
   next_slots = h.long;
-  old_entries = h.old_entries ∙ take-whole old;
-  new_entries = h.new_entries ∙ take-whole new;
+  old_entries = h.old_entries ∙ take-length old;
+  new_entries = h.new_entries ∙ take-length new;
   words = h.words;
 }
 
@@ -124,19 +113,6 @@ next-shared old new i j k pairs d small h = subst (λ (ps : List Pair). AreShare
 
 pub pair-inside : (old new : List Entry) (i j : ℕ) (p : Pair) → IsPairFrom old new i j p → (p.old < length old) × (p.new < length new)
 pair-inside old new i j p h = (slice_get_within old p.old h.word.a h.word.old_at, slice_get_within new p.new h.word.b h.word.new_at)
-
-drop_all : {X : Type 0} (xs : List X) → drop (length xs) xs ≡ []
-drop_all [] = refl
-drop_all (x ∷ xs) = drop_all xs
-
--- behind the last pair
-pub shared-end : (old new : List Entry) (i j k : ℕ) (pairs : List Pair) → k ≡ length pairs → AreShared old new i j (drop k pairs) → (i ≤ length old) × (j ≤ length new)
-shared-end old new i j k pairs all h = subst (λ (ps : List Pair). AreShared old new i j ps) (ap (λ n. drop n pairs) all ∙ drop_all pairs) h
-
-length_front : (xs : Slots) (k : ℕ) → k < length xs → length (take k xs) ≡ k
-length_front [] k h = absurd (omega (arith, h))
-length_front (x ∷ xs) zero h = refl
-length_front (x ∷ xs) (suc k) h = ap suc (length_front xs k (omega (arith, h)))
 
 -- slots with empty ones
 
@@ -204,8 +180,8 @@ spread-layout compact now slots old new l s long =
     record {
       start_slots = long;
       next_slots = s.long ∙ long;
-      old_entries = s.old_entries ∙ ap entries_in (take-whole compact.start.items) ∙ l.old_entries;
-      new_entries = s.new_entries ∙ ap entries_in (ap (λ (m : ℕ). take m compact.next.items) (sym l.next_slots) ∙ take-whole compact.next.items) ∙ l.new_entries;
+      old_entries = s.old_entries ∙ ap entries_in (take-length compact.start.items) ∙ l.old_entries;
+      new_entries = s.new_entries ∙ ap entries_in (ap (λ (m : ℕ). take m compact.next.items) (sym l.next_slots) ∙ take-length compact.next.items) ∙ l.new_entries;
       words = s.words;
     }
 
@@ -214,7 +190,7 @@ pub standing-more : (held : Slots) (k : ℕ) (x : Option Entry) → slice_get he
     (places 0 (take (suc k) held) ≡ places 0 (take k held) ++ placed x k) × (entries_in (take (suc k) held) ≡ entries_in (take k held) ++ option_to_list x)
 standing-more held k x at =
     let small = slice_get_within held k x at in
-    let long : 0 + length (take k held) ≡ k = (let e = length_front held k small in omega (arith, e)) in (
+    let long : 0 + length (take k held) ≡ k = (let e = length-take-le k held (omega (arith, small)) in omega (arith, e)) in (
       ap (places 0) (take-more held k x at) ∙ places-more 0 (take k held) x ∙ ap (λ n. places 0 (take k held) ++ placed x n) long,
       ap entries_in (take-more held k x at) ∙ entries-more (take k held) x,
     )

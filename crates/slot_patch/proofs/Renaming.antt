@@ -1,9 +1,9 @@
 -- Numbers of decisions in a list of names that grows.
-use Rattle.std.proofs.Common.{◌≡◌, ◌≤◌, ◌<◌, ◌-◌, ◌∷◌, ◌++◌, ◌&&◌, nat_eq, ℕ, zero, suc, min, Bool, true, false, ◌==◌, if◌then◌else◌, List, [], Option, Some, None, option_map, length, map, slice_get, slice_index, inl, inr, refl, ap, sym, ◌∙◌, subst, arith, replicate, append-nil, length-append, append_assoc}
-use Rattle.std.specs.Prelude.{IfSome}
+use Rattle.std.proofs.Common.{◌≡◌, ◌≤◌, ◌<◌, ◌-◌, ◌∷◌, ◌++◌, ◌&&◌, nat_eq, ℕ, zero, suc, min, Bool, true, false, if◌then◌else◌, List, [], Option, Some, None, option_map, length, map, slice_get, slice_index, inl, inr, refl, ap, sym, ◌∙◌, subst, arith, replicate, append-nil, length-append, append_assoc}
 use Rattle.std.proofs.lemmas.Bool.{cases_eq}
 use Rattle.std.proofs.lemmas.Option.{slice_get-map}
 use Rattle.std.proofs.lemmas.List.Elements.{All-head, All-tail, All-nil, All-cons}
+use Rattle.slot_patch.proofs.Builders.{get-front}
 use Rattle.field_boxes.specs.Headline.Names.{miss, text_of}
 use Rattle.field_boxes.specs.Names.{name_at, with_name, is_known}
 use Rattle.ternary_words.specs.Limits.{AreNumbered}
@@ -13,10 +13,9 @@ use Rattle.ternary_words.specs.declared.entry.Entry.{Entry}
 use Rattle.ternary_words.specs.declared.word.Word.{Word}
 use Rattle.slot_patch.specs.Banks.{Bank, bank_of, table_in}
 use Rattle.slot_patch.specs.Least.{least_slots, same_word}
-use Rattle.slot_patch.specs.Machine.{IsOldOrNew, Patch, State, aborted, begun, begun_with, moved, reached, reached_by, settle, stepped, turned_back, with_patch}
+use Rattle.slot_patch.specs.Machine.{IsOldOrNew, Patch, State}
 use Rattle.slot_patch.specs.Moving.{entries_in}
 use Rattle.slot_patch.specs.Naming.{AreNumbersOf, Grow, HaveWordsOf, IsAnswer, IsNumbered, renumbered}
-use Rattle.slot_patch.specs.declared.plan.Write.{Write}
 use Rattle.slot_patch.proofs.Naming.{named}
 
 abbrev Names : Type 0
@@ -26,14 +25,9 @@ Names = List (List ℕ)
 abbrev UpTo : ℕ → Entry → Type 0
 UpTo n e = e.decision ≤ n
 
-get_front : (xs ys : Names) (k : ℕ) → k < length xs → slice_get (xs ++ ys) k ≡ slice_get xs k
-get_front [] ys k h = absurd (omega (arith, h))
-get_front (x ∷ xs) ys zero h = refl
-get_front (x ∷ xs) ys (suc k) h = get_front xs ys k (omega (arith, h))
-
 pub name-kept : (before now : Names) (n : ℕ) → Grow before now → n ≤ length before → name_at now n ≡ name_at before n
 name-kept before now zero g h = refl
-name-kept before now (suc k) g h = ap (λ (names : Names). slice_get names k) g.1 ∙ get_front before g.0 k (omega (arith, h))
+name-kept before now (suc k) g h = ap (λ (names : Names). slice_get names k) g.1 ∙ get-front before g.0 k (omega (arith, h))
 
 entries_kept : (before now : Names) (es : List Entry) → Grow before now → AreNumbered (length before) es → map (entry_of now) es ≡ map (entry_of before) es
 entries_kept before now [] g h = refl
@@ -47,21 +41,8 @@ entries_kept before now (e ∷ es) g h =
 pub table-kept : (before now : Names) (slots : List (Option Entry)) → Grow before now → AreNumbered (length before) (entries_in slots) → table_in now slots ≡ table_in before slots
 table-kept before now slots g h = entries_kept before now (entries_in slots) g h
 
-up_more : (m n : ℕ) (es : List Entry) → m ≤ n → AreNumbered m es → AreNumbered n es
-up_more m n es le h = λ k d small. let x = h k d small in omega (arith, x, le)
-
 grown : (before now : Names) → Grow before now → length before ≤ length now
 grown before now g = let e = ap length g.1 in let long = length-append before g.0 in omega (arith, e, long)
-
-pending_kept : (m n : ℕ) (p : Option Patch) → m ≤ n → IfSome p (λ (q : Patch). AreNumbered m (entries_in q.new)) → IfSome p (λ (q : Patch). AreNumbered n (entries_in q.new))
-pending_kept m n None le h = tt
-pending_kept m n (Some p) le h = up_more m n (entries_in p.new) le h
-
-pub numbered-kept : (before now : Names) (s : State) → Grow before now → IsNumbered before s → IsNumbered now s
-numbered-kept before now s g h = record {
-  settled = up_more (length before) (length now) (entries_in s.settled) (grown before now g) h.settled;
-  pending = pending_kept (length before) (length now) s.pending (grown before now g) h.pending;
-}
 
 -- growing
 
@@ -101,15 +82,6 @@ renumbered-within names list numbers (e ∷ es) h small =
 pub renumbered-words : (numbers : List ℕ) (es : List Entry) → HaveWordsOf (map (renumbered numbers) es) es
 renumbered-words numbers [] = tt
 renumbered-words numbers (e ∷ es) = (refl, renumbered-words numbers es)
-
-pub numbers-none : (names list : Names) (numbers : List ℕ) → numbers ≡ 0 ∷ [] → AreNumbersOf 0 names list numbers
-numbers-none names list numbers is = record {
-  many = ap length is;
-  same = λ k h. let zero_is : k ≡ 0 = omega (arith, h) in
-      ap (λ n. name_at list (slice_index numbers n)) zero_is ∙ ap (λ (ns : List ℕ). name_at list (slice_index ns 0)) is ∙ ap (name_at names) (sym zero_is);
-  within = λ k h. let zero_is : k ≡ 0 = omega (arith, h) in
-      let e = ap (slice_index numbers) zero_is ∙ ap (λ (ns : List ℕ). slice_index ns 0) is in omega (arith, e);
-}
 
 name_there : (names : Names) (k : ℕ) → k < length names → name_at names (suc k) ≡ Some (text_of (name_at names (suc k)))
 name_there [] k h = absurd (omega (arith, h))
@@ -182,45 +154,6 @@ length-words (m ∷ made) [] h = absurd h
 length-words (m ∷ made) (b ∷ new) h = ap suc (length-words made new h.1)
 
 -- the machine's states
-
-back_case : (names : Names) (s : State) (p : Patch) (over : Bool) → AreNumbered (length names) (entries_in s.settled) → AreNumbered (length names) (entries_in p.new) →
-    IsNumbered names (if over then with_patch s None else with_patch s (Some p))
-back_case names s p true h g = record { settled = h; pending = tt }
-back_case names s p false h g = record { settled = h; pending = g }
-
-ahead_case : (names : Names) (s : State) (p : Patch) (over : Bool) → AreNumbered (length names) (entries_in s.settled) → AreNumbered (length names) (entries_in p.new) →
-    IsNumbered names (if over then settle p else with_patch s (Some p))
-ahead_case names s p true h g = record { settled = g; pending = tt }
-ahead_case names s p false h g = record { settled = h; pending = g }
-
-way_case : (names : Names) (s : State) (p : Patch) (back none all : Bool) → AreNumbered (length names) (entries_in s.settled) → AreNumbered (length names) (entries_in p.new) →
-    IsNumbered names (if back then (if none then with_patch s None else with_patch s (Some p)) else (if all then settle p else with_patch s (Some p)))
-way_case names s p true none all h g = back_case names s p none h g
-way_case names s p false none all h g = ahead_case names s p all h g
-
-pub numbered-reached : (names : Names) (s : State) (p : Patch) → AreNumbered (length names) (entries_in s.settled) → AreNumbered (length names) (entries_in p.new) → IsNumbered names (reached s p)
-numbered-reached names s p h g = way_case names s p p.back (p.done == 0) (p.done == length p.writes) h g
-
-changed_case : (names : Names) (change : Patch → Patch) (s : State) (p : Option Patch) → ((q : Patch) → (change q).new ≡ q.new) → AreNumbered (length names) (entries_in s.settled) →
-    IfSome p (λ (q : Patch). AreNumbered (length names) (entries_in q.new)) → IsNumbered names s → IsNumbered names (reached_by change s p)
-changed_case names change s None same h g n = n
-changed_case names change s (Some p) same h g n =
-    numbered-reached names s (change p) h (subst (λ (slots : List (Option Entry)). AreNumbered (length names) (entries_in slots)) (sym (same p)) g)
-
-pub numbered-stepped : (names : Names) (s : State) → IsNumbered names s → IsNumbered names (stepped s)
-numbered-stepped names s n = changed_case names moved s s.pending (λ q. refl) n.settled n.pending n
-
-pub numbered-aborted : (names : Names) (s : State) → IsNumbered names s → IsNumbered names (aborted s)
-numbered-aborted names s n = changed_case names turned_back s s.pending (λ q. refl) n.settled n.pending n
-
-begun_case : (names : Names) (s : State) (p : Option Patch) (writes : List Write) (next : List (Option Entry)) → IsNumbered names s → AreNumbered (length names) (entries_in next) →
-    IsNumbered names (begun_with s p writes next)
-begun_case names s None writes next n h = numbered-reached names s (record { writes = writes; new = next; done = 0; back = false }) n.settled h
-begun_case names s (Some p) writes next n h = n
-
-pub numbered-begun : (names : Names) (s : State) (writes : List Write) (next : List (Option Entry)) → IsNumbered names s → AreNumbered (length names) (entries_in next) →
-    IsNumbered names (begun s writes next)
-numbered-begun names s writes next n h = begun_case names s s.pending writes next n h
 
 none_numbered : (count n : ℕ) → entries_in (replicate count None) ≡ []
 none_numbered zero n = refl

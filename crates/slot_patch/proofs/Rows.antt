@@ -3,6 +3,7 @@ use Rattle.std.proofs.Common.{◌≡◌, ◌≤◌, ◌<◌, ◌+◌, ◌-◌, �
 use Rattle.std.specs.Prelude.{slice_index_or, nat_eq, ◌&&◌}
 use Rattle.std.proofs.lemmas.Bool.{cases_eq, cases_lt, and_parts, eqb-true, eq-eqb}
 use Rattle.std.proofs.lemmas.Option.{get_or_from_slice_get, slice_get_within}
+use Rattle.std.proofs.Math.Seq.{drop-length}
 use Rattle.ternary_words.specs.declared.entry.Entry.{Entry}
 use Rattle.slot_patch.specs.Finding.{ArePlaces, HasWord, IsNext}
 use Rattle.slot_patch.specs.Least.{least_slots, same_word}
@@ -161,13 +162,9 @@ rows-on old new row before now small h lowered taken =
     let parts : drop row old ≡ a.0 ∷ drop (suc row) old = drop-cons old row a.0 small ∙ ap (λ (x : Entry). x ∷ drop (suc row) old) head in
     subst (λ (es : List Entry). AreBounded es new now) (sym parts) (bounded-row a.0 (drop (suc row) old) new before now lowered h (taken a.0 a.1))
 
-drop-all : {X : Type 0} (xs : List X) → drop (length xs) xs ≡ []
-drop-all [] = refl
-drop-all (x ∷ xs) = drop-all xs
-
 pub rows-none : (old new : List Entry) (places : List ℕ) → places ≡ [] → AreBounded (drop (length old) old) new places
 rows-none old new places none =
-    subst (λ (es : List Entry). AreBounded es new places) (sym (drop-all old)) (subst (λ (ps : List ℕ). AreBounded [] new ps) (sym none) (bounded-none new))
+    subst (λ (es : List Entry). AreBounded es new places) (sym (drop-length old)) (subst (λ (ps : List ℕ). AreBounded [] new ps) (sym none) (bounded-none new))
 
 -- fewer places are left behind the next one
 pub left-less : (new : List Entry) (place mask value : ℕ) (at : Option ℕ) → place < length new → IsNext new (suc place) mask value at → places_left (length new) at < places_left (length new) (Some place)
@@ -176,7 +173,3 @@ left-less new place mask value (Some next) small h =
     let behind = h.behind in
     let within = slice_get_within new next h.entry h.at in
     omega (arith, behind, within, small)
-
--- the entry that was read
-pub read-is : (xs : List Entry) (k : ℕ) (x a : Entry) → x ≡ get_or xs k x → slice_get xs k ≡ Some a → x ≡ a
-read-is xs k x a is at = is ∙ get_or_from_slice_get xs k a x at

@@ -10,9 +10,6 @@ use Rattle.field_boxes.specs.Headline.Prefix.{FitsWidth, prefix_holds}
 use Rattle.table_compose.specs.Headline.LeastCost.{Choice}
 use Rattle.table_compose.specs.Choices.{first_choice, plan_cost}
 
-single : ℕ → ℕ → ℕ → Choice
-single w v cost = record { prefix = record { value = v; len = w }; value = v; cost = cost }
-
 div_none : (w v : ℕ) → v / 2 ^ (w - w) ≡ v
 div_none w v = let none : w - w ≡ 0 = omega arith in rw none (let e : v / 1 ≡ v = omega arith in e)
 

@@ -79,7 +79,7 @@ pub fn compose(
 }
 
 /// What each node of the diagram costs, and its prefix list, where the diagram costs no more than the limit.
-pub fn plans_within(
+fn plans_within(
     alloc: Global,
     store: &Store,
     order: &[u8],

@@ -53,7 +53,7 @@ mod placed;
 mod room;
 mod row;
 
-pub use composition::{ComposeError, compose, plans_within};
+pub use composition::{ComposeError, compose};
 pub use costs::Costs;
 pub use diagram_plans::Plans;
 pub use least_cost::cost;

@@ -15,9 +15,6 @@ only_one false h = h
 pub covered-by : (words : List Word) (w x : Word) (k : ℕ) → k < length words → x ≡ get_or words k x → Covers (x ∷ []) w → Covers words w
 covered-by words w x k h e c header is m = list_any_at (matches header) words k x h (ap (matches header) (sym e) ∙ only_one (matches header x) (c header is m))
 
-pub among-none : (words : List Word) → AreAmong [] words
-among-none words header h = absurd (cc h)
-
 in_two : (P : Type 0) (s t : Bool) → s || (t || false) ≡ true → (s ≡ true → P) → (t ≡ true → P) → P
 in_two P true t m f g = f refl
 in_two P false true m f g = g refl
@@ -38,10 +35,6 @@ at_front s t h = ap (λ x. x || t) h
 behind : (s t : Bool) → t ≡ true → s || t ≡ true
 behind true t h = refl
 behind false t h = h
-
--- the start: a word covers itself
-pub part-start : (words : List Word) (w : Word) → Covers (w ∷ words) w
-part-start words w header is m = at_front (matches header w) (list_any (matches header) words) m
 
 -- the part falls into two, of which the others cover one
 pub part-next : (words others : List Word) (w part inner outer : Word) → Covers (inner ∷ outer ∷ []) part → AreAmong others words → Covers others outer →
