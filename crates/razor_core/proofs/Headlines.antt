@@ -1,9 +1,7 @@
 -- What status 0 of a command means, over bytes.
 use Rattle.std.proofs.Common.{◌≡◌, ℕ, List, [], ◌∷◌, Some, None, ap, inl, inr, refl, subst, sym, ◌∙◌}
 use Rattle.std.specs.Prelude.{Bool, true, false, Option, Ok, Err, Result, IsSome, length, map, unwrap_or, if◌then◌else◌}
-use Rattle.filter_reader.specs.Headline.FilterList as lists
 use Rattle.filter_reader.specs.Headline.FilterList.{FilterList, list_of}
-use Rattle.table_text.specs.Reading as tables
 use Rattle.bank_update.specs.Script as scripts
 use Rattle.edit_session.specs.SessionText as sessions
 use Rattle.table_text.specs.Reading.{table_in_text}
@@ -24,7 +22,7 @@ use Rattle.razor_core.specs.Equiv.{Compares, comparing}
 use Rattle.razor_core.specs.Headlines.{Adds, AgreeByName, AreEqualLists, IsCheap, IsAnswered, IsArrangedText, IsCertified, IsCompiledText, IsDriven, IsExpandedText, IsMigrated, IsMergedText, IsAudited, IsEdited, IsQueried, IsShortenedText, IsTrimmedText}
 use Rattle.rule_shortening.specs.Shortened.{IsShortTable}
 use Rattle.razor_core.specs.Make.{IsMade, IsOrderOf, making}
-use Rattle.razor_core.specs.Inputs.{Input, Value, as_list, as_script, as_session, as_table, certificate_input, lines_value, is_too_long, list_input, list_value, script_input, script_value, session_input, session_value, table_input, table_value, trace_input, text_of_list, text_of_script, text_of_session, text_of_table}
+use Rattle.razor_core.specs.Inputs.{Input, Value, spelled_as, certificate_input, lines_value, is_too_long, list_input, list_value, script_input, script_value, session_input, session_value, table_input, table_value, trace_input, text_of_list, text_of_script, text_of_session, text_of_table}
 use Rattle.razor_core.specs.Outcome.{IsTextOf, Outcome}
 use Rattle.razor_core.specs.Outside.{Outside, Tells, bytes_at}
 use Rattle.razor_core.specs.Turns.{Stop, before_others, stopped_by, turn, turns_of}
@@ -38,6 +36,9 @@ use Rattle.razor_core.specs.Gen.{generating}
 use Rattle.razor_core.specs.Drive.{swapping}
 use Rattle.razor_core.specs.Session.{editing}
 use Rattle.razor_core.specs.Meaning.{Meaning}
+use Rattle.text_lines.specs.Headline.Reading as lines
+use Rattle.razor_core.specs.declared.line_reason.LineReason.{LineReason}
+use Rattle.razor_core.specs.declared.line_reason.LineReason.TheVariants.{OfList, OfScript, OfSession, OfTable}
 
 -- turns that pass, one by one
 pub record IsFirst (turned : Result Value Stop) (others : Result (List Value) Stop) (values : List Value) : Type 0 where
@@ -58,45 +59,24 @@ in_front values rest known a x first is later = cc
 two_are : (values rest more : List Value) (a b x y : Value) → values ≡ a ∷ rest → a ≡ x → rest ≡ b ∷ more → b ≡ y → values ≡ x ∷ y ∷ more
 two_are values rest more a b x y first is second also = cc
 
--- a list whose turn passes
-listed_by : (long : Bool) (read : Result FilterList lists.BadLine) (name : List ℕ) (stop : Stop) (value : Value) → (if long then Err stop else stopped_by name (as_list read)) ≡ Ok value →
-    (list : FilterList) × (read ≡ Ok list) × (value ≡ list_value list)
-listed_by true read name stop value h = absurd cc
-listed_by false (Ok list) name stop value h = (list, refl, cc)
-listed_by false (Err bad) name stop value h = absurd cc
+-- a text whose turn passes
+pub spelled_so : {A R : Type 0} (make : A → Value) (why : R → LineReason) (long : Bool) (read : Result A (lines.BadLine R)) (name : List ℕ) (stop : Stop) (value : Value) →
+    (if long then Err stop else stopped_by name (spelled_as make why read)) ≡ Ok value → (it : A) × (read ≡ Ok it) × (value ≡ make it)
+spelled_so make why true read name stop value h = absurd cc
+spelled_so make why false (Ok it) name stop value h = (it, refl, cc)
+spelled_so make why false (Err bad) name stop value h = absurd cc
 
 pub listed : (name text : List ℕ) (value : Value) → turn (list_input name) text ≡ Ok value → (list : FilterList) × (list_of text ≡ Ok list) × (value ≡ list_value list)
-listed name text value h = listed_by (is_too_long text_of_list (length text)) (list_of text) name _ value h
-
--- a table whose turn passes
-tabled_by : (long : Bool) (read : Result Table tables.BadLine) (name : List ℕ) (stop : Stop) (value : Value) → (if long then Err stop else stopped_by name (as_table read)) ≡ Ok value →
-    (table : Table) × (read ≡ Ok table) × (value ≡ table_value table)
-tabled_by true read name stop value h = absurd cc
-tabled_by false (Ok table) name stop value h = (table, refl, cc)
-tabled_by false (Err bad) name stop value h = absurd cc
+listed name text value h = spelled_so list_value OfList (is_too_long text_of_list (length text)) (list_of text) name _ value h
 
 pub tabled : (name text : List ℕ) (value : Value) → turn (table_input name) text ≡ Ok value → (table : Table) × (table_in_text text ≡ Ok table) × (value ≡ table_value table)
-tabled name text value h = tabled_by (is_too_long text_of_table (length text)) (table_in_text text) name _ value h
-
--- a script whose turn passes
-scripted_by : (long : Bool) (read : Result (List scripts.Event) scripts.BadLine) (name : List ℕ) (stop : Stop) (value : Value) → (if long then Err stop else stopped_by name (as_script read)) ≡ Ok value →
-    (events : List scripts.Event) × (read ≡ Ok events) × (value ≡ script_value events)
-scripted_by true read name stop value h = absurd cc
-scripted_by false (Ok events) name stop value h = (events, refl, cc)
-scripted_by false (Err bad) name stop value h = absurd cc
+tabled name text value h = spelled_so table_value OfTable (is_too_long text_of_table (length text)) (table_in_text text) name _ value h
 
 scripted : (tables : ℕ) (name text : List ℕ) (value : Value) → turn (script_input tables name) text ≡ Ok value → (events : List scripts.Event) × (scripts.script_of tables text ≡ Ok events) × (value ≡ script_value events)
-scripted tables name text value h = scripted_by (is_too_long (text_of_script tables) (length text)) (scripts.script_of tables text) name _ value h
-
--- a session whose turn passes
-sessioned_by : (long : Bool) (read : Result (List sessions.SessionEvent) sessions.BadLine) (name : List ℕ) (stop : Stop) (value : Value) → (if long then Err stop else stopped_by name (as_session read)) ≡ Ok value →
-    (events : List sessions.SessionEvent) × (read ≡ Ok events) × (value ≡ session_value events)
-sessioned_by true read name stop value h = absurd cc
-sessioned_by false (Ok events) name stop value h = (events, refl, cc)
-sessioned_by false (Err bad) name stop value h = absurd cc
+scripted tables name text value h = spelled_so script_value OfScript (is_too_long (text_of_script tables) (length text)) (scripts.script_of tables text) name _ value h
 
 sessioned : (name text : List ℕ) (value : Value) → turn (session_input name) text ≡ Ok value → (events : List sessions.SessionEvent) × (sessions.session_of text ≡ Ok events) × (value ≡ session_value events)
-sessioned name text value h = sessioned_by (is_too_long text_of_session (length text)) (sessions.session_of text) name _ value h
+sessioned name text value h = spelled_so session_value OfSession (is_too_long text_of_session (length text)) (sessions.session_of text) name _ value h
 
 -- the bytes that are told
 pub told : (known : Option (List ℕ)) (text : List ℕ) → known ≡ Some text → IsSome known

@@ -5,11 +5,10 @@ use Rattle.std.proofs.lemmas.Bool.{cases_eq, cases_lt}
 use Rattle.ternary_words.specs.Headline.Table.{Table}
 use Rattle.memory_text.specs.Memory.{Memory, Plan, entries_in}
 use Rattle.memory_text.specs.Patching.{slots_for}
-use Rattle.memory_text.specs.Reading as memories
 use Rattle.memory_text.specs.Reading.{memory_in_text, plan_in_text}
 use Rattle.memory_text.proofs.Evenly.{spread_stands}
 use Rattle.command_words.specs.Commands.{Apply, Command, Dump, Patch, Place}
-use Rattle.razor_core.specs.Inputs.{Value, as_memory, as_plan, is_too_long, memory_input, memory_value, plan_input, plan_value, table_input, table_value, text_of_memory, text_of_plan}
+use Rattle.razor_core.specs.Inputs.{Value, is_too_long, memory_input, memory_value, plan_input, plan_value, table_input, table_value, text_of_memory, text_of_plan}
 use Rattle.razor_core.specs.Headlines.{Adds}
 use Rattle.razor_core.specs.Outside.{Outside, bytes_at}
 use Rattle.razor_core.specs.Promise.{KeepsPromise}
@@ -18,21 +17,14 @@ use Rattle.razor_core.specs.Dump.{IsDumped, dumping}
 use Rattle.razor_core.specs.Patch.{IsPatchText, patching}
 use Rattle.razor_core.specs.Place.{IsPlaced, placing}
 use Rattle.razor_core.specs.declared.line_reason.LineReason.{LineReason}
-use Rattle.razor_core.specs.declared.line_reason.LineReason.TheVariants.{SlotWidth}
+use Rattle.razor_core.specs.declared.line_reason.LineReason.TheVariants.{OfSlots, SlotWidth}
 use Rattle.razor_core.specs.Stopping.{IsFree}
 use Rattle.razor_core.specs.Turns.{Stop, bad_line, stopped_by, too_many, turn, turns_of}
-use Rattle.razor_core.proofs.Headlines.{first_of, tabled, told, turn_told}
+use Rattle.razor_core.proofs.Headlines.{first_of, spelled_so, tabled, told, turn_told}
 use Rattle.razor_core.specs.Meaning.{Meaning}
 
--- a memory whose turn passes
-remembered_by : (long : Bool) (read : Result Memory memories.BadLine) (name : List ℕ) (stop : Stop) (value : Value) → (if long then Err stop else stopped_by name (as_memory read)) ≡ Ok value →
-    (memory : Memory) × (read ≡ Ok memory) × (value ≡ memory_value memory)
-remembered_by true read name stop value h = absurd cc
-remembered_by false (Ok memory) name stop value h = (memory, refl, cc)
-remembered_by false (Err bad) name stop value h = absurd cc
-
 pub remembered : (name text : List ℕ) (value : Value) → turn (memory_input name) text ≡ Ok value → (memory : Memory) × (memory_in_text text ≡ Ok memory) × (value ≡ memory_value memory)
-remembered name text value h = remembered_by (is_too_long text_of_memory (length text)) (memory_in_text text) name _ value h
+remembered name text value h = spelled_so memory_value OfSlots (is_too_long text_of_memory (length text)) (memory_in_text text) name _ value h
 
 -- a table that is placed has as many entries as there are slots at most
 room_by : (slots : ℕ) (file : List ℕ) (table : Table) (rest : List Value) → IsFree (placing slots file) (table_value table ∷ rest) → length table.entries ≤ slots
@@ -45,15 +37,8 @@ room : (slots : ℕ) (file : List ℕ) (table : Table) (rest : List Value) → I
 room slots file table rest (inl free) = room_by slots file table rest free
 room slots file table rest (inr may) = absurd may
 
--- a plan whose turn passes
-planned_by : (long : Bool) (read : Result Plan memories.BadLine) (name : List ℕ) (stop : Stop) (value : Value) → (if long then Err stop else stopped_by name (as_plan read)) ≡ Ok value →
-    (plan : Plan) × (read ≡ Ok plan) × (value ≡ plan_value plan)
-planned_by true read name stop value h = absurd cc
-planned_by false (Ok plan) name stop value h = (plan, refl, cc)
-planned_by false (Err bad) name stop value h = absurd cc
-
 planned : (name text : List ℕ) (value : Value) → turn (plan_input name) text ≡ Ok value → (plan : Plan) × (plan_in_text text ≡ Ok plan) × (value ≡ plan_value plan)
-planned name text value h = planned_by (is_too_long text_of_plan (length text)) (plan_in_text text) name _ value h
+planned name text value h = spelled_so plan_value OfSlots (is_too_long text_of_plan (length text)) (plan_in_text text) name _ value h
 
 pair_are : (values rest more : List Value) (a b x y : Value) → values ≡ a ∷ rest → a ≡ x → rest ≡ b ∷ more → b ≡ y → values ≡ x ∷ y ∷ more
 pair_are values rest more a b x y first is second also = cc

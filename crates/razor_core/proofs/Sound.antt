@@ -11,6 +11,8 @@ use Rattle.razor_core.specs.Meaning.{Meaning}
 use Rattle.razor_core.specs.Outcome.{Outcome}
 use Rattle.razor_core.specs.Trace.{HasBadLine, bad_line_of, taken_of}
 use Rattle.razor_core.specs.Turns.{Stop, bad_line, too_long, too_many, stop_status}
+use Rattle.trace_run.specs.declared.reason.TraceReason.{TraceReason}
+use Rattle.text_lines.specs.Headline.Reading as lines
 
 pub record IsSound (command : Meaning) : Type 0 where
   -- what ends it later has one status
@@ -19,7 +21,7 @@ pub record IsSound (command : Meaning) : Type 0 where
   pub counts : command.goes_on → (values : List Value) (stop : Stop) → command.stops values stop → (needed : ℕ) × (limit : ℕ) × (stop ≡ too_many needed limit)
   pub says_yes : command.goes_on → (values : List Value) (outcome : Outcome) → command.gives values outcome → outcome.yes ≡ true
 
-no_bad_line : (o : Option traces.BadLine) (bad : BadLine) → o ≡ None → option_map bad_line_of o ≡ Some bad → ⊥
+no_bad_line : (o : Option (lines.BadLine TraceReason)) (bad : BadLine) → o ≡ None → option_map bad_line_of o ≡ Some bad → ⊥
 no_bad_line o bad none some = cc
 
 -- a trace with a bad line that is taken doesn't go on after its limit

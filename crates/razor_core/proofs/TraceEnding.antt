@@ -38,6 +38,7 @@ use Rattle.razor_core.specs.Ending.{Ends, IsDone, Stops}
 use Rattle.razor_core.proofs.Ended.{done_ends, passed_or_stopped, same_values}
 use Rattle.razor_core.proofs.Turns.{Passed, PassesWith, ends_in_turn, fault_later, kept_told, near_later, passed_taken, read_taken, some_bytes, told_turn, turn_behind, turns_pass}
 use Rattle.razor_core.specs.Meaning.{in_turn}
+use Rattle.text_lines.specs.Headline.Reading as lines
 
 abbrev pub most : ℕ
 most = 67108864
@@ -78,10 +79,10 @@ lines_pass : (trace : List ℕ) (known : Option (List ℕ)) → PassesWith (trac
 lines_pass trace None = tt
 lines_pass trace (Some text) = refl
 
-no_bad : (o : Option traces.BadLine) (bad : BadLine) → o ≡ None → option_map bad_line_of o ≡ Some bad → ⊥
+no_bad : (o : Option (lines.BadLine TraceReason)) (bad : BadLine) → o ≡ None → option_map bad_line_of o ≡ Some bad → ⊥
 no_bad o bad none some = cc
 
-some_bad : (o : Option traces.BadLine) (bad : traces.BadLine) → o ≡ Some bad → option_map bad_line_of o ≡ Some (bad_line_of bad)
+some_bad : (o : Option (lines.BadLine TraceReason)) (bad : lines.BadLine TraceReason) → o ≡ Some bad → option_map bad_line_of o ≡ Some (bad_line_of bad)
 some_bad o bad e = ap (option_map bad_line_of) e
 
 same_entries : (turned : Result Value Stop) (a b : Table) → turned ≡ Ok (table_value a) → turned ≡ Ok (table_value b) → a ≡ b

@@ -7,6 +7,7 @@ use Rattle.bank_update.specs.Script as scripts
 use Rattle.edit_session.specs.SessionText as sessions
 use Rattle.memory_text.specs.Memory.{Memory, Plan}
 use Rattle.memory_text.specs.Reading as memories
+use Rattle.text_lines.specs.Headline.Reading as lines
 use Rattle.ternary_words.specs.Headline.Table.{Table}
 use Rattle.razor_core.specs.declared.line_reason.LineReason.{LineReason}
 use Rattle.razor_core.specs.declared.line_reason.LineReason.TheVariants.{OfList, OfTable, OfScript, OfSession, OfSlots}
@@ -97,47 +98,21 @@ pub data Value : Type 0 where
   lines_value : List ℕ → Value
 
 -- a bad line of a text, counted from 1, and its first reason
-pub record BadLine : Type 0 where
-  pub line : ℕ
-  pub reason : LineReason
+abbrev pub BadLine : Type 0
+BadLine = lines.BadLine LineReason
 
--- a list, or its first bad line
-abbrev pub as_list : Result lists.FilterList lists.BadLine → Result Value BadLine
-as_list (Ok list) = Ok (list_value list)
-as_list (Err bad) = Err (record { line = bad.line; reason = OfList bad.reason })
-
--- a table, or its first bad line
-abbrev pub as_table : Result Table tables.BadLine → Result Value BadLine
-as_table (Ok table) = Ok (table_value table)
-as_table (Err bad) = Err (record { line = bad.line; reason = OfTable bad.reason })
-
--- a script, or its first bad line
-abbrev pub as_script : Result (List scripts.Event) scripts.BadLine → Result Value BadLine
-as_script (Ok events) = Ok (script_value events)
-as_script (Err bad) = Err (record { line = bad.line; reason = OfScript bad.reason })
-
--- a session, or its first bad line
-abbrev pub as_session : Result (List sessions.SessionEvent) sessions.BadLine → Result Value BadLine
-as_session (Ok events) = Ok (session_value events)
-as_session (Err bad) = Err (record { line = bad.line; reason = OfSession bad.reason })
-
--- a memory, or its first bad line
-abbrev pub as_memory : Result Memory memories.BadLine → Result Value BadLine
-as_memory (Ok memory) = Ok (memory_value memory)
-as_memory (Err bad) = Err (record { line = bad.line; reason = OfSlots bad.reason })
-
--- a plan, or its first bad line
-abbrev pub as_plan : Result Plan memories.BadLine → Result Value BadLine
-as_plan (Ok plan) = Ok (plan_value plan)
-as_plan (Err bad) = Err (record { line = bad.line; reason = OfSlots bad.reason })
+-- what was read, or its first bad line, by the kind of the text
+abbrev pub spelled_as : {A R : Type 0} → (A → Value) → (R → LineReason) → Result A (lines.BadLine R) → Result Value BadLine
+spelled_as value why (Ok read) = Ok (value read)
+spelled_as value why (Err bad) = Err (record { line = bad.line; reason = why bad.reason })
 
 -- what a text spells, or its first bad line
 abbrev pub spelled_by : Kind → List ℕ → Result Value BadLine
-spelled_by text_of_list text = as_list (lists.list_of text)
-spelled_by text_of_table text = as_table (tables.table_in_text text)
-spelled_by (text_of_script tables) text = as_script (scripts.script_of tables text)
-spelled_by text_of_session text = as_session (sessions.session_of text)
-spelled_by text_of_memory text = as_memory (memories.memory_in_text text)
-spelled_by text_of_plan text = as_plan (memories.plan_in_text text)
+spelled_by text_of_list text = spelled_as list_value OfList (lists.list_of text)
+spelled_by text_of_table text = spelled_as table_value OfTable (tables.table_in_text text)
+spelled_by (text_of_script tables) text = spelled_as script_value OfScript (scripts.script_of tables text)
+spelled_by text_of_session text = spelled_as session_value OfSession (sessions.session_of text)
+spelled_by text_of_memory text = spelled_as memory_value OfSlots (memories.memory_in_text text)
+spelled_by text_of_plan text = spelled_as plan_value OfSlots (memories.plan_in_text text)
 spelled_by text_of_trace text = Ok (lines_value text)
 spelled_by text_of_certificate text = Ok (lines_value text)

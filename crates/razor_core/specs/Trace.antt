@@ -7,6 +7,8 @@ use Rattle.ternary_words.specs.Headline.Table.{Table, answer}
 use Rattle.trace_run.specs.Trace as traces
 use Rattle.trace_run.specs.Trace.{trace_of, trace_within, whole_lines}
 use Rattle.trace_run.specs.declared.error.TraceError.{TraceError}
+use Rattle.trace_run.specs.declared.reason.TraceReason.{TraceReason}
+use Rattle.text_lines.specs.Headline.Reading as lines
 use Rattle.trace_run.specs.declared.error.TraceError.TheVariants as errors
 use Rattle.trace_run.specs.Outcome.{IsCut, GoesOn}
 use Rattle.trace_run.specs.Pace.{IsPaced}
@@ -40,7 +42,7 @@ taken_before seen = trace_of (whole_lines seen)
 abbrev pub Answers : Table → List ℕ → Outcome → Type 0
 Answers entries text outcome = outcome ≡ record { yes = true; text = answers_text entries (taken_of text).headers; line = [] }
 
-abbrev pub bad_line_of : traces.BadLine → BadLine
+abbrev pub bad_line_of : lines.BadLine TraceReason → BadLine
 bad_line_of bad = record { line = bad.line; reason = OfTrace bad.reason }
 
 -- a line of what is taken is bad
