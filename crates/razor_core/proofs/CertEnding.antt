@@ -36,7 +36,7 @@ use Rattle.razor_core.specs.Turns.{bad_line, too_long, too_many}
 use Rattle.razor_core.specs.Ending.{Ends, Stops}
 use Rattle.razor_core.proofs.Ended.{done_ends}
 use Rattle.razor_core.proofs.Turns.{AllRead, Passed, ends_in_turn, pass_behind, passed_taken, read_taken, turns_pass}
-use Rattle.razor_core.specs.Meaning.{in_turn}
+use Rattle.razor_core.specs.Meaning.{Meaning, in_turn}
 
 -- the entry at a place, as the specification sees it
 entry_at : (names : List (List ℕ)) (es : List Entry) (k : ℕ) (e : tables.Entry) → slice_get (map (entry_of names) es) k ≡ Some e → (x : Entry) × (slice_get es k ≡ Some x) × (e ≡ entry_of names x)

@@ -31,7 +31,7 @@ use Rattle.razor_core.specs.Ending.{Ends, IsDone}
 use Rattle.razor_core.proofs.CertEnding.{BothRead, both_read, passed}
 use Rattle.razor_core.proofs.Ended.{done_ends}
 use Rattle.razor_core.proofs.Turns.{AllRead, Passed, PassesWith, ends_in_turn, fault_later, kept_told, near_later, pass_behind, some_bytes, told_turn, turns_pass}
-use Rattle.razor_core.specs.Meaning.{in_turn}
+use Rattle.razor_core.specs.Meaning.{Meaning, in_turn}
 
 abbrev most : ℕ
 most = 268435456

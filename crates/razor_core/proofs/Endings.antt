@@ -118,7 +118,7 @@ complete_by command before after Memory h tells values pass = inr (inr (inr (inr
 
 -- entries are counted that are more than the limit, of a command that goes on
 counted : (command : Meaning) (stop : Stop) (status : ℕ) → command.goes_on → (status ≡ 0) ⊎ (status ≡ 6) → (needed : ℕ) × (limit : ℕ) × (stop ≡ too_many needed limit) → IsStatusOfGoingOn command stop status
-counted command stop status may which h = subst (λ (s : Stop). IsStatusOfGoingOn command s status) (sym h.1.1) (may, which)
+counted command stop status may which h = subst (λ (s : Stop). IsStatusOfGoingOn command s status) (sym h.2) (may, which)
 
 goes_on : (command : Meaning) → IsSound command → (before : Outside) (stop : Stop) (values : List Value) (status : ℕ) → turns_of before command.inputs ≡ Ok values → command.goes_on → (status ≡ 0) ⊎ (status ≡ 6) → IsStopped command before stop →
     IsStatusOfStop command stop status

@@ -1,7 +1,7 @@
 -- The headline of the commands that make a table of a file, from what the top call promises.
 use Rattle.std.proofs.Common.{◌≡◌, ℕ, List, [], ◌∷◌, Some, None, ap, ◌∙◌, subst}
 use Rattle.std.specs.Prelude.{Option, codes}
-use Rattle.command_words.specs.Commands.{Arrange, Command, Compile, Method, Shorten}
+use Rattle.command_words.specs.Commands.{Arrange, Command, Compile, Make, Method, Shorten}
 use Rattle.command_words.specs.Settings.{Sizes}
 use Rattle.command_words.specs.Orders.{Best}
 use Rattle.command_words.specs.Spelling.{command_of}
@@ -12,22 +12,22 @@ use Rattle.razor_core.specs.Headlines.{Adds}
 use Rattle.razor_core.specs.Outside.{Outside}
 use Rattle.razor_core.specs.Promise.{KeepsPromise, KeepsPromiseOf, Promise}
 use Rattle.razor_core.proofs.Headlines.{made}
-use Rattle.razor_core.specs.Meaning.{Meaning}
+use Rattle.razor_core.specs.Commands.{meaning}
 use Rattle.razor_core.specs.Make.{making}
 
 -- 144 trits, and as many entries as a memory has
 abbrev usual : Sizes
 usual = record { limit = 262144; slot = 144 }
 
-kept_by : (words : List (List ℕ)) (command : Meaning) (before after : Outside) (line : List ℕ) (status : ℕ) → command_of words ≡ Some command → status ≡ 0 →
-    KeepsPromiseOf (command_of words) before after line status → KeepsPromise command before after line 0
+kept_by : (words : List (List ℕ)) (command : Command) (before after : Outside) (line : List ℕ) (status : ℕ) → command_of words ≡ Some command → status ≡ 0 →
+    KeepsPromiseOf (command_of words) before after line status → KeepsPromise (meaning command) before after line 0
 kept_by words command before after line status is done keeps =
     let at : KeepsPromiseOf (Some command) before after line status = subst (λ (o : Option Command). KeepsPromiseOf o before after line status) is keeps in
-    subst (λ (n : ℕ). KeepsPromise command before after line n) done at
+    subst (λ (n : ℕ). KeepsPromise (meaning command) before after line n) done at
 
 module _ (words : List (List ℕ)) (before after : Outside) (Heard : List ℕ → Type 0) (status : ℕ) (promise : Promise words before after Heard status) (file text : List ℕ) (done : status ≡ 0) (known : before.remaining file ≡ Some text) where
-  kept : (method : Method) → command_of words ≡ Some (making method usual file) → KeepsPromise (making method usual file) before after promise.line 0
-  kept method is = kept_by words (making method usual file) before after promise.line status is done promise.command
+  kept : (method : Method) → command_of words ≡ Some (Make method usual file) → KeepsPromise (making method usual file) before after promise.line 0
+  kept method is = kept_by words (Make method usual file) before after promise.line status is done promise.command
 
   pub compiled_file : words ≡ codes "compile" ∷ codes "--" ∷ file ∷ [] → Adds before after (IsCompiled text)
   compiled_file is =

@@ -34,6 +34,7 @@ use Rattle.razor_core.specs.Standing.{IsCutOff}
 use Rattle.razor_core.specs.Taking.{TakesTurn, value_of}
 use Rattle.razor_core.proofs.Ended.{done_ends}
 use Rattle.razor_core.proofs.Turns.{AllRead, Passed, pass_behind, passed_taken, read_taken, turns_pass}
+use Rattle.razor_core.specs.Meaning.{Meaning}
 
 -- a list has at most as many names as rules
 named_by : (known : Bool) (names : List (List ℕ)) (name : List ℕ) → length (if known then names else names ++ name ∷ []) ≤ length names + 1

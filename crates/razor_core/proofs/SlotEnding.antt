@@ -27,7 +27,7 @@ use Rattle.razor_core.specs.declared.line_reason.LineReason.{LineReason}
 use Rattle.razor_core.specs.declared.line_reason.LineReason.TheVariants.{SlotWidth}
 use Rattle.razor_core.proofs.Ended.{cut_off_ends, done_ends}
 use Rattle.razor_core.proofs.Turns.{AllRead, AllTold, Passed, ends_in_turn, passed_taken, read_taken, turns_pass}
-use Rattle.razor_core.specs.Meaning.{in_turn}
+use Rattle.razor_core.specs.Meaning.{Meaning, in_turn}
 use Rattle.razor_core.specs.Patch.{patching}
 
 module _ (slots : ℕ) (file : List ℕ) (before after : Outside) (table : Table) (taken : TakesTurn (table_input file) (before.remaining file) (after.remaining file) (table_value_of table)) where
@@ -67,26 +67,26 @@ none_or_some : {A : Type 0} (o : Option A) (x : A) → o ≡ None → o ≡ Some
 none_or_some o x none some = cc
 
 module _ (first second : List ℕ) (before after : Outside) (m : SlotMemory) (p : SlotPlan) (taken : BothTaken (memory_input first) (plan_input second) (memory_value_of m) (plan_value_of p) before after) where
-  abbrev command : Meaning
-  command = applying first second
+  abbrev apply_command : Meaning
+  apply_command = applying first second
 
   abbrev held : List Value
   held = memory_value_of m ∷ plan_value_of p ∷ []
 
-  fits_free : misfit (memory_of m) (plan_of p) ≡ None → IsFree command held
+  fits_free : misfit (memory_of m) (plan_of p) ≡ None → IsFree apply_command held
   fits_free fits (bad_line name bad) later = none_or_some (misfit (memory_of m) (plan_of p)) bad.reason fits later.2
   fits_free fits (too_long name limit) later = later
   fits_free fits (too_many needed limit) later = later
 
   -- the plan is for other memories
-  pub misfit_stops : (reason : LineReason) → misfit (memory_of m) (plan_of p) ≡ Some reason → Keeps before.written after.written → Stops command before after (bad_line second (record { line = 1; reason = reason }))
+  pub misfit_stops : (reason : LineReason) → misfit (memory_of m) (plan_of p) ≡ Some reason → Keeps before.written after.written → Stops apply_command before after (bad_line second (record { line = 1; reason = reason }))
   misfit_stops reason is keeps = record {
     unchanged = λ last. keeps;
     named = ends_in_turn before after (λ input. second ≡ input.name) (memory_input first ∷ []) (memory_value_of m ∷ []) (plan_input second) []
         ((both_passed (memory_input first) (plan_input second) (memory_value_of m) (plan_value_of p) before after taken).0, tt) refl tt;
     stopped = λ tells. inr (record {
       values = held;
-      turns = turns_pass before command.inputs held (both_passed (memory_input first) (plan_input second) (memory_value_of m) (plan_value_of p) before after taken) tells;
+      turns = turns_pass before apply_command.inputs held (both_passed (memory_input first) (plan_input second) (memory_value_of m) (plan_value_of p) before after taken) tells;
       later = (refl, refl, is);
     });
     stands = λ tells. record { in_a_turn = λ stop h. keeps; later = λ vs h. keeps };
@@ -95,53 +95,53 @@ module _ (first second : List ℕ) (before after : Outside) (m : SlotMemory) (p 
   abbrev applied_outcome : SlotMemory → Outcome
   applied_outcome made = record { yes = true; text = memory_text (memory_of made); line = [] }
 
-  gives_applied : (made : SlotMemory) → memory_of made ≡ applied (memory_of m) (plan_of p) → command.gives held (applied_outcome made)
+  gives_applied : (made : SlotMemory) → memory_of made ≡ applied (memory_of m) (plan_of p) → apply_command.gives held (applied_outcome made)
   gives_applied made is =
       let text : IsTextOfMemory (memory_of made) (memory_text (memory_of made)) = record { written = refl; spells = memory-read made } in
       (subst (λ (x : Memory). IsTextOfMemory x (memory_text (memory_of made))) is text, refl, refl)
 
   pub applied_done : (made : SlotMemory) → memory_of made ≡ applied (memory_of m) (plan_of p) → misfit (memory_of m) (plan_of p) ≡ None → Appends before.written after.written (memory_text (memory_of made)) →
-      Tells before command.inputs → IsDone command before after true []
+      Tells before apply_command.inputs → IsDone apply_command before after true []
   applied_done made is fits written tells =
-      done_ends command before after held (applied_outcome made) true (both_passed (memory_input first) (plan_input second) (memory_value_of m) (plan_value_of p) before after taken) (fits_free fits) (gives_applied made is) refl
+      done_ends apply_command before after held (applied_outcome made) true (both_passed (memory_input first) (plan_input second) (memory_value_of m) (plan_value_of p) before after taken) (fits_free fits) (gives_applied made is) refl
       written (both_read (memory_input first) (plan_input second) (memory_value_of m) (plan_value_of p) before after taken tells) tells
 
   pub applied_cut : (made : SlotMemory) → memory_of made ≡ applied (memory_of m) (plan_of p) → misfit (memory_of m) (plan_of p) ≡ None → Rose before.write_faults after.write_faults →
-      AppendsFront before.written after.written (memory_text (memory_of made)) → Ends command before after WriteFault
+      AppendsFront before.written after.written (memory_text (memory_of made)) → Ends apply_command before after WriteFault
   applied_cut made is fits rose written =
-      cut_off_ends command before after (λ tells. tt) held (applied_outcome made) (both_passed (memory_input first) (plan_input second) (memory_value_of m) (plan_value_of p) before after taken) (inl (fits_free fits)) (gives_applied made is) rose written
+      cut_off_ends apply_command before after (λ tells. tt) held (applied_outcome made) (both_passed (memory_input first) (plan_input second) (memory_value_of m) (plan_value_of p) before after taken) (inl (fits_free fits)) (gives_applied made is) rose written
 
 module _ (first second : List ℕ) (before after : Outside) (m : SlotMemory) (table : Table) (taken : BothTaken (memory_input first) (table_input second) (memory_value_of m) (table_value_of table) before after) where
-  abbrev command : Meaning
-  command = patching first second
+  abbrev patch_command : Meaning
+  patch_command = patching first second
 
   abbrev both : List Value
   both = memory_value_of m ∷ table_value_of table ∷ []
 
-  all_passed : Passed before command.inputs both
+  all_passed : Passed before patch_command.inputs both
   all_passed = both_passed (memory_input first) (table_input second) (memory_value_of m) (table_value_of table) before after taken
 
   -- slots of another width
-  pub width_stops : (table.slot ≢ m.width) → Keeps before.written after.written → Stops command before after (bad_line second (record { line = 1; reason = SlotWidth }))
+  pub width_stops : (table.slot ≢ m.width) → Keeps before.written after.written → Stops patch_command before after (bad_line second (record { line = 1; reason = SlotWidth }))
   width_stops other keeps = record {
     unchanged = λ last. keeps;
     named = ends_in_turn before after (λ input. second ≡ input.name) (memory_input first ∷ []) (memory_value_of m ∷ []) (table_input second) [] (all_passed.0, tt) refl tt;
-    stopped = λ tells. inr (record { values = both; turns = turns_pass before command.inputs both all_passed tells; later = (refl, other, refl) });
+    stopped = λ tells. inr (record { values = both; turns = turns_pass before patch_command.inputs both all_passed tells; later = (refl, other, refl) });
     stands = λ tells. record { in_a_turn = λ stop h. keeps; later = λ vs h. keeps };
   }
 
   -- fewer slots than both tables need
   pub room_stops : (needed limit : ℕ) → table.slot ≡ m.width → needed ≡ slots_for (entries_in (memory_of m).slots) (table_of table).entries → limit ≡ length (memory_of m).slots → limit < needed → limit ≤ 262144 →
-      Keeps before.written after.written → Stops command before after (too_many needed limit)
+      Keeps before.written after.written → Stops patch_command before after (too_many needed limit)
   room_stops needed limit same is all less few keeps = record {
     unchanged = λ last. keeps;
     named = (few, less);
-    stopped = λ tells. inr (record { values = both; turns = turns_pass before command.inputs both all_passed tells; later = (same, is, all, less) });
+    stopped = λ tells. inr (record { values = both; turns = turns_pass before patch_command.inputs both all_passed tells; later = (same, is, all, less) });
     stands = λ tells. record { in_a_turn = λ stop h. keeps; later = λ vs h. keeps };
   }
 
   -- a plan can be made exactly where there is room
-  leads_free : table.slot ≡ m.width → slots_for (entries_in (memory_of m).slots) (table_of table).entries ≤ length (memory_of m).slots → IsFree command both
+  leads_free : table.slot ≡ m.width → slots_for (entries_in (memory_of m).slots) (table_of table).entries ≤ length (memory_of m).slots → IsFree patch_command both
   leads_free same fits (bad_line name bad) later = later.1 same
   leads_free same fits (too_long name limit) later = later
   leads_free same fits (too_many needed limit) later = omega (arith, fits, later.1, later.2, later.3)
@@ -149,15 +149,15 @@ module _ (first second : List ℕ) (before after : Outside) (m : SlotMemory) (ta
   abbrev patched_outcome : SlotPlan → Outcome
   patched_outcome plan = record { yes = true; text = plan_text (plan_of plan); line = [] }
 
-  gives_patched : (plan : SlotPlan) → LeadsTo (memory_of m) (table_of table) (plan_of plan) → command.gives both (patched_outcome plan)
+  gives_patched : (plan : SlotPlan) → LeadsTo (memory_of m) (table_of table) (plan_of plan) → patch_command.gives both (patched_outcome plan)
   gives_patched plan leads = (plan_of plan, leads, record { written = refl; spells = plan-read plan }, refl, refl)
 
   pub patched_done : (plan : SlotPlan) → LeadsTo (memory_of m) (table_of table) (plan_of plan) → table.slot ≡ m.width → slots_for (entries_in (memory_of m).slots) (table_of table).entries ≤ length (memory_of m).slots →
-      Appends before.written after.written (plan_text (plan_of plan)) → Tells before command.inputs → IsDone command before after true []
+      Appends before.written after.written (plan_text (plan_of plan)) → Tells before patch_command.inputs → IsDone patch_command before after true []
   patched_done plan leads same fits written tells =
-      done_ends command before after both (patched_outcome plan) true all_passed (leads_free same fits) (gives_patched plan leads) refl
+      done_ends patch_command before after both (patched_outcome plan) true all_passed (leads_free same fits) (gives_patched plan leads) refl
       written (both_read (memory_input first) (table_input second) (memory_value_of m) (table_value_of table) before after taken tells) tells
 
   pub patched_cut : (plan : SlotPlan) → LeadsTo (memory_of m) (table_of table) (plan_of plan) → table.slot ≡ m.width → slots_for (entries_in (memory_of m).slots) (table_of table).entries ≤ length (memory_of m).slots →
-      Rose before.write_faults after.write_faults → AppendsFront before.written after.written (plan_text (plan_of plan)) → Ends command before after WriteFault
-  patched_cut plan leads same fits rose written = cut_off_ends command before after (λ tells. tt) both (patched_outcome plan) all_passed (inl (leads_free same fits)) (gives_patched plan leads) rose written
+      Rose before.write_faults after.write_faults → AppendsFront before.written after.written (plan_text (plan_of plan)) → Ends patch_command before after WriteFault
+  patched_cut plan leads same fits rose written = cut_off_ends patch_command before after (λ tells. tt) both (patched_outcome plan) all_passed (inl (leads_free same fits)) (gives_patched plan leads) rose written
