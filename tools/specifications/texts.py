@@ -44,7 +44,7 @@ class Cases(Exception):
 
 
 class Reader:
-    """Reads expressions from their tokens: applications, joined lists, records and conditions; what else there is, is `unread`."""
+    """Reads expressions from their tokens: applications, functions, joined lists, records and conditions; all else is `unread`."""
 
     def __init__(self, text):
         self.tokens = TOKEN.findall(text)
@@ -96,7 +96,16 @@ class Reader:
             return parts[0] if len(parts) == 1 else ("unread",)
         if token == "record":
             return self.record()
+        if token == "λ":
+            return self.function()
         return ("string", token[1:-1]) if token.startswith('"') else ("name", token)
+
+    def function(self):
+        """A function of one name; one of more, or whose name has a type, is `unread`."""
+        name = self.take()
+        if not re.fullmatch(r"\w+\.", name):
+            return self.unread()
+        return ("function", name[:-1], self.expression())
 
     def record(self):
         fields = {}
@@ -138,7 +147,7 @@ class Texts:
         return found
 
     def called(self, definition, arguments):
-        """What the definition gives. Nothing is known of it inside itself, nor where it gives no list and no record."""
+        """What the definition gives. Nothing is known of it inside itself, nor where it gives no list, option or record."""
         if definition in self.inside or not self.is_worked_out(definition):
             return self.unknown()
         if len(arguments) < arity(definition):
@@ -152,7 +161,7 @@ class Texts:
     def is_worked_out(self, definition):
         result = definition.parts()[0].rpartition("→ ")[2].rpartition(" : ")[2].split()[0]
         of = self.specifications.owners.get(self.specifications.place(self.file(definition), result))
-        return is_read(definition) and (result == "List" or of is not None and of.kind == "record")
+        return is_read(definition) and (result in ("List", "Option") or of is not None and of.kind == "record")
 
     def file(self, definition):
         return self.specifications.files[definition.place.crate, definition.place.file]
@@ -182,7 +191,7 @@ class Texts:
     def case(self, file, pattern):
         """A value of the pattern, with unknown values inside."""
         name = self.constructor(file, pattern)
-        return Made(name, [self.unknown() for _ in pattern[2:]]) if name else self.unknown()
+        return Made(name, [Unknown() for _ in pattern[2:]]) if name else Unknown()
 
     def fits(self, file, pattern, value, patterns, bound):
         """Whether the value is of the pattern, if it is of one of these; what its names stand for then is bound."""
@@ -207,6 +216,9 @@ class Texts:
             return self.value(file, parts[1 if self.holds(self.value(file, parts[0], bound)) else 2], bound)
         if kind == "record":
             return {name: self.value(file, part, bound) for name, part in parts[0].items()}
+        if kind == "function":
+            name, body = parts
+            return lambda value: self.value(file, body, {**bound, name: value})
         if kind == "string":
             return parts[0]
         if kind == "name":
@@ -229,8 +241,8 @@ class Texts:
                 value = self.known(value)
                 value = value.field(name) if isinstance(value, Unknown) else value[name]
             return value
-        if word in ("codes", "flat_map", "[]"):
-            return {"codes": lambda text: [ord(letter) for letter in text], "flat_map": self.flat_map, "[]": []}[word]
+        if word in LIBRARY:
+            return LIBRARY[word](self)
         if word.isdigit():
             return int(word)
         place = self.specifications.place(file, word)
@@ -241,6 +253,12 @@ class Texts:
             return constant(place)
         name = place.name if place else word
         return Made(name, []) if name[0].isupper() else self.unknown()
+
+    def option_map_or(self, function, option, other):
+        option = self.known(option)
+        if not isinstance(option, Made):
+            return self.unknown()
+        return function(*option.values) if option.constructor == "Some" else other
 
     def flat_map(self, function, items):
         return [one for item in self.items(items) for one in ([HOLE] if item is HOLE else self.items(function(item)))]
@@ -256,6 +274,15 @@ class Texts:
         """The items of a list, with a hole for one that isn't known."""
         value = self.known(value)
         return value if isinstance(value, list) else [HOLE]
+
+
+# The words of the library that are known.
+LIBRARY = {
+    "codes": lambda texts: lambda text: [ord(letter) for letter in text],
+    "flat_map": lambda texts: texts.flat_map,
+    "option_map_or": lambda texts: texts.option_map_or,
+    "[]": lambda texts: [],
+}
 
 
 def constant(place):
