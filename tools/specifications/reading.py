@@ -61,7 +61,7 @@ SECTIONS = [
     ),
     (
         "Ternary words and tables",
-        "A word has a trit for each of the 104 bits of a header. The first entry whose word matches answers.",
+        "A word is a list of trits, one for each bit of a header: 104 in every table that is written, which `promise` says and no definition here, since the text reads back as its table. The first entry whose word matches answers.",
         [("field_boxes", "Headline.Bits"), ("ternary_words", "Headline.Word"), ("ternary_words", "Headline.Table")],
     ),
     (
