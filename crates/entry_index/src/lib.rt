@@ -31,8 +31,6 @@ mod sets;
 mod sharpening;
 mod slots;
 mod table;
-#[cfg(test)]
-mod tests;
 mod view;
 
 pub use covers::{covered, covered_by};

@@ -46,8 +46,6 @@ mod plan;
 mod reading;
 mod spreading;
 mod standing;
-#[cfg(test)]
-mod tests;
 mod writing;
 
 pub use error::{SlotError, SlotReason};

@@ -47,8 +47,6 @@ mod search;
 mod shapes;
 mod sides;
 mod strips;
-#[cfg(test)]
-mod tests;
 mod widening;
 mod windows;
 

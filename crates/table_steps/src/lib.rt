@@ -35,8 +35,6 @@ mod numbers;
 mod passing;
 mod steps;
 mod tables;
-#[cfg(test)]
-mod tests;
 mod wanted;
 
 pub use exchange::can_exchange;

@@ -21,8 +21,6 @@ mod covering;
 mod shown;
 mod sight;
 mod splits;
-#[cfg(test)]
-mod tests;
 mod words;
 
 pub use covering::covered;

@@ -1,0 +1,6 @@
+//! The tests, by what they are about.
+
+mod boxes;
+mod diagrams;
+mod telling;
+mod texts;

@@ -1,0 +1,20 @@
+//! The tests, by what they are about.
+
+mod action;
+mod bank;
+mod drawing;
+mod driving;
+mod editing;
+mod edits;
+mod expected;
+mod lists;
+mod patching;
+mod plain_list;
+mod random;
+mod reading;
+mod refusing;
+mod running;
+mod sessions;
+mod slots;
+mod table;
+mod tracing;
