@@ -23,18 +23,22 @@ use Rattle.razor_core.specs.Inputs.{Input, Value, certificate_input, lines_value
 use Rattle.razor_core.specs.Outcome.{Outcome}
 use Rattle.razor_core.specs.Outside.{Outside, Tells, bytes_at}
 use Rattle.razor_core.specs.Standing.{IsCutOff}
-use Rattle.razor_core.specs.Taking.{table_value_of, value_of}
+use Rattle.razor_core.specs.Taking.{TakesTurn, table_value_of, value_of}
 use Rattle.razor_core.specs.Turns.{Stop, too_long}
 use Rattle.razor_core.specs.Stopping.{IsFree}
 use Rattle.razor_core.specs.Deciding.{EndsInTurn, IsFaultUnder, IsLong, IsReadFault}
 use Rattle.razor_core.specs.Ending.{Ends, IsDone}
-use Rattle.razor_core.proofs.CertEnding.{BothRead, both_read, passed}
 use Rattle.razor_core.proofs.Ended.{done_ends}
-use Rattle.razor_core.proofs.Turns.{AllRead, Passed, PassesWith, ends_in_turn, fault_later, kept_told, near_later, pass_behind, some_bytes, told_turn, turns_pass}
+use Rattle.razor_core.proofs.Turns.{AllRead, Passed, PassesWith, ends_in_turn, fault_later, kept_told, near_later, pass_behind, passed_taken, read_taken, some_bytes, told_turn, turns_pass}
 use Rattle.razor_core.specs.Meaning.{Meaning, in_turn}
 
 abbrev most : ℕ
 most = 268435456
+
+-- list and table were read
+pub record BothRead (first second : List ℕ) (before after : Outside) (list : RuleList) (table : Table) : Type 0 where
+  pub list_taken : TakesTurn (list_input first) (before.remaining first) (after.remaining first) (value_of list)
+  pub table_taken : TakesTurn (table_input second) (before.remaining second) (after.remaining second) (table_value_of table)
 
 -- list and table were read, and then the certificate, of which this was left, with this count of faults
 pub record Checked (first second third : List ℕ) (before after : Outside) (list : RuleList) (table : Table) (left : Option (List ℕ)) (faults : ℕ) : Type 0 where
@@ -85,13 +89,19 @@ module _ (first second third : List ℕ) (before after : Outside) (list : RuleLi
   checks = record { list = list; table = table; rules_are = refl; entries_are = refl }
 
   both_passed : Passed before (list_input first ∷ table_input second ∷ []) (value_of list ∷ table_value_of table ∷ [])
-  both_passed = passed first second before after list table checked.reads
+  both_passed = (
+    passed_taken (list_input first) (before.remaining first) (after.remaining first) (value_of list) checked.reads.list_taken,
+    (passed_taken (table_input second) (before.remaining second) (after.remaining second) (table_value_of table) checked.reads.table_taken, tt),
+  )
 
   all_passed : Passed before command.inputs values
   all_passed = (both_passed.0, (both_passed.1.0, (lines_pass third (before.remaining third), tt)))
 
   front_read : Tells before command.inputs → AllRead after (list_input first ∷ table_input second ∷ [])
-  front_read tells = both_read first second before after list table checked.reads (tells.0, (tells.1.0, tt))
+  front_read tells = (
+    read_taken (list_input first) (before.remaining first) (after.remaining first) (value_of list) checked.reads.list_taken tells.0,
+    (read_taken (table_input second) (before.remaining second) (after.remaining second) (table_value_of table) checked.reads.table_taken tells.1.0, tt),
+  )
 
   at_text : (P : List ℕ → Type 0) → IfSome (left third) P → Tells before command.inputs → P text
   at_text P h tells = subst (λ (o : Option (List ℕ)). IfSome o P) (kept_told (before.remaining third) (left third) checked.kept tells.1.1.0 ∙ some_bytes (before.remaining third) tells.1.1.0) h

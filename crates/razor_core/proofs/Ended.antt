@@ -96,6 +96,20 @@ turn_ends command before after front values input others WriteFault reached stil
 turn_ends command before after front values input others Memory reached still h =
     (still.calm, still_short command.writes command before after still.keeps still.pace, turn_behind before after (λ i. Unit {0}) command.inputs (ends_there command before after front values input others (λ i. Unit {0}) reached tt))
 
+-- a command of which nothing more is known wherever it ends, that doesn't write while it reads, and reads all whatever it answers
+pub record IsPlain (command : Meaning) : Type 0 where
+  pub unread : (before after : Outside) (file : List ℕ) → command.where_unread before after file
+  pub pace : (before after : Outside) → command.pace before after
+  pub whole : (command.writes ≡ in_turn) → ⊥
+  pub reads : command.read_by_no ≡ command.inputs
+
+-- the turn of the only input is ended, and nothing was written
+pub only_turn_ends : {command : Meaning} {before after : Outside} {ending : Ending} (input : Input) → IsPlain command → command.inputs ≡ input ∷ [] → Keeps before.written after.written → after.write_faults ≡ before.write_faults →
+    EndsTurn input (before.remaining input.name) (after.remaining input.name) (before.read_faults input.name) (after.read_faults input.name) ending → Ends command before after ending
+only_turn_ends {command = command} {before = before} {after = after} {ending = ending} input plain is keeps calm h =
+    turn_ends command before after [] [] input [] ending (record { inputs_are = is; passed = tt; kept = tt })
+    (record { keeps = keeps; calm = calm; unread = λ file e tells. plain.unread before after file; pace = λ tells. plain.pace before after }) h
+
 stops_later : (input : Input) (before between : Option (List ℕ)) (stop : Stop) → Keeps before between → StopsWith input between stop → StopsWith input before stop
 stops_later input None between stop keeps h = tt
 stops_later input (Some text) None stop keeps h = absurd keeps

@@ -1,10 +1,7 @@
 -- What status 0 of a command means, over bytes.
 use Rattle.std.proofs.Common.{◌≡◌, ℕ, List, [], ◌∷◌, Some, None, ap, inl, inr, refl, subst, sym, ◌∙◌}
-use Rattle.std.specs.Prelude.{Bool, true, false, Option, Ok, Err, Result, IsSome, length, map, unwrap_or, if◌then◌else◌}
+use Rattle.std.specs.Prelude.{true, false, Option, Ok, Result, length, map}
 use Rattle.filter_reader.specs.Headline.FilterList.{FilterList, list_of}
-use Rattle.bank_update.specs.Script as scripts
-use Rattle.edit_session.specs.SessionText as sessions
-use Rattle.table_text.specs.Reading.{table_in_text}
 use Rattle.ternary_words.specs.Headline.Table.{Table, answer}
 use Rattle.field_boxes.specs.Alike.{AreAlike, source_of}
 use Rattle.field_boxes.specs.Headline.Classifier.{Interval, Rule}
@@ -12,7 +9,7 @@ use Rattle.filter_reader.specs.ListText.{list_text}
 use Rattle.list_generator.specs.DrawnRules.{generated}
 use Rattle.bit_merge.proofs.Merged.{is_alike, is_fewer, is_tight}
 use Rattle.command_words.specs.Orders.{Wanted}
-use Rattle.command_words.specs.Commands.{Command, Method, Arrange, Compile, Expand, Shorten, Cert, Check, Drive, Equiv, Make, Migrate, Merge, Session, Trace, Trim, Audit, Query}
+use Rattle.command_words.specs.Commands.{Method, Arrange, Compile, Expand, Shorten}
 use Rattle.command_words.specs.Settings.{Sizes}
 use Rattle.razor_core.specs.Selfrun.{Summarises, running_load}
 use Rattle.razor_core.specs.Trace.{answers_text, taken_of, tracing}
@@ -22,10 +19,10 @@ use Rattle.razor_core.specs.Equiv.{Compares, comparing}
 use Rattle.razor_core.specs.Headlines.{Adds, AgreeByName, AreEqualLists, IsCheap, IsAnswered, IsArrangedText, IsCertified, IsCompiledText, IsDriven, IsExpandedText, IsMigrated, IsMergedText, IsAudited, IsEdited, IsQueried, IsShortenedText, IsTrimmedText}
 use Rattle.rule_shortening.specs.Shortened.{IsShortTable}
 use Rattle.razor_core.specs.Make.{IsMade, IsOrderOf, making}
-use Rattle.razor_core.specs.Inputs.{Input, Value, spelled_as, certificate_input, lines_value, is_too_long, list_input, list_value, script_input, script_value, session_input, session_value, table_input, table_value, trace_input, text_of_list, text_of_script, text_of_session, text_of_table}
+use Rattle.razor_core.specs.Inputs.{Input, Value, certificate_input, lines_value, list_input, list_value, script_input, session_input, table_input, table_value, trace_input}
 use Rattle.razor_core.specs.Outcome.{IsTextOf, Outcome}
 use Rattle.razor_core.specs.Outside.{Outside, Tells, bytes_at}
-use Rattle.razor_core.specs.Turns.{Stop, before_others, stopped_by, turn, turns_of}
+use Rattle.razor_core.specs.Turns.{Stop, turn, turns_of}
 use Rattle.razor_core.specs.Promise.{KeepsPromise}
 use Rattle.razor_core.specs.Migrate.{migrating}
 use Rattle.razor_core.specs.Trim.{trimming}
@@ -35,75 +32,29 @@ use Rattle.razor_core.specs.Query.{querying}
 use Rattle.razor_core.specs.Gen.{generating}
 use Rattle.razor_core.specs.Drive.{swapping}
 use Rattle.razor_core.specs.Session.{editing}
-use Rattle.razor_core.specs.Meaning.{Meaning}
-use Rattle.text_lines.specs.Headline.Reading as lines
-use Rattle.razor_core.specs.declared.line_reason.LineReason.{LineReason}
-use Rattle.razor_core.specs.declared.line_reason.LineReason.TheVariants.{OfList, OfScript, OfSession, OfTable}
-
--- turns that pass, one by one
-pub record IsFirst (turned : Result Value Stop) (others : Result (List Value) Stop) (values : List Value) : Type 0 where
-  pub value : Value
-  pub rest : List Value
-  pub turned_is : turned ≡ Ok value
-  pub others_are : others ≡ Ok rest
-  pub values_are : values ≡ value ∷ rest
-
-pub first_of : (turned : Result Value Stop) (others : Result (List Value) Stop) (values : List Value) → before_others turned others ≡ Ok values → IsFirst turned others values
-first_of (Err stop) others values h = absurd cc
-first_of (Ok value) (Err stop) values h = absurd cc
-first_of (Ok value) (Ok rest) values h = record { value = value; rest = rest; turned_is = refl; others_are = refl; values_are = cc }
+use Rattle.razor_core.proofs.Gave.{Spells, first_of, listed, one_gave, scripted, sessioned, tabled, told, turn_told, two_gave}
 
 in_front : (values rest known : List Value) (a x : Value) → values ≡ a ∷ rest → a ≡ x → rest ≡ known → values ≡ x ∷ known
 in_front values rest known a x first is later = cc
-
-two_are : (values rest more : List Value) (a b x y : Value) → values ≡ a ∷ rest → a ≡ x → rest ≡ b ∷ more → b ≡ y → values ≡ x ∷ y ∷ more
-two_are values rest more a b x y first is second also = cc
-
--- a text whose turn passes
-pub spelled_so : {A R : Type 0} (make : A → Value) (why : R → LineReason) (long : Bool) (read : Result A (lines.BadLine R)) (name : List ℕ) (stop : Stop) (value : Value) →
-    (if long then Err stop else stopped_by name (spelled_as make why read)) ≡ Ok value → (it : A) × (read ≡ Ok it) × (value ≡ make it)
-spelled_so make why true read name stop value h = absurd cc
-spelled_so make why false (Ok it) name stop value h = (it, refl, cc)
-spelled_so make why false (Err bad) name stop value h = absurd cc
-
-pub listed : (name text : List ℕ) (value : Value) → turn (list_input name) text ≡ Ok value → (list : FilterList) × (list_of text ≡ Ok list) × (value ≡ list_value list)
-listed name text value h = spelled_so list_value OfList (is_too_long text_of_list (length text)) (list_of text) name _ value h
-
-pub tabled : (name text : List ℕ) (value : Value) → turn (table_input name) text ≡ Ok value → (table : Table) × (table_in_text text ≡ Ok table) × (value ≡ table_value table)
-tabled name text value h = spelled_so table_value OfTable (is_too_long text_of_table (length text)) (table_in_text text) name _ value h
-
-scripted : (tables : ℕ) (name text : List ℕ) (value : Value) → turn (script_input tables name) text ≡ Ok value → (events : List scripts.Event) × (scripts.script_of tables text ≡ Ok events) × (value ≡ script_value events)
-scripted tables name text value h = spelled_so script_value OfScript (is_too_long (text_of_script tables) (length text)) (scripts.script_of tables text) name _ value h
-
-sessioned : (name text : List ℕ) (value : Value) → turn (session_input name) text ≡ Ok value → (events : List sessions.SessionEvent) × (sessions.session_of text ≡ Ok events) × (value ≡ session_value events)
-sessioned name text value h = spelled_so session_value OfSession (is_too_long text_of_session (length text)) (sessions.session_of text) name _ value h
-
--- the bytes that are told
-pub told : (known : Option (List ℕ)) (text : List ℕ) → known ≡ Some text → IsSome known
-told known text is = rw is refl
-
-pub bytes_are : (known : Option (List ℕ)) (text : List ℕ) → known ≡ Some text → unwrap_or known [] ≡ text
-bytes_are known text is = rw is refl
 
 -- a text that is taken line by line
 lined : (text : List ℕ) (value : Value) (turned : Result Value Stop) → turned ≡ Ok (lines_value text) → turned ≡ Ok value → value ≡ lines_value text
 lined text value turned taken h = cc
 
--- the turn of an input that is told
-pub turn_told : (before : Outside) (input : Input) (text : List ℕ) (value : Value) → before.remaining input.name ≡ Some text → turn input (bytes_at before input.name) ≡ Ok value → turn input text ≡ Ok value
-turn_told before input text value known h = subst (λ (t : List ℕ). turn input t ≡ Ok value) (bytes_are (before.remaining input.name) text known) h
+lines_of : {E : Type 0} (input : Input) (text : List ℕ) (taken : Result (List ℕ) E) → taken ≡ Ok text → turn input text ≡ Ok (lines_value text) → Spells input text taken lines_value
+lines_of input text taken is taken_so value h = (text, is, lined text value (turn input text) taken_so h)
+
+same_text : {E : Type 0} (taken : Result (List ℕ) E) (a b : List ℕ) → taken ≡ Ok a → taken ≡ Ok b → b ≡ a
+same_text taken a b p q = cc
 
 module _ (before after : Outside) (line : List ℕ) where
   -- a table that was made of a list
   pub made : (method : Method) (sizes : Sizes) (file text : List ℕ) → KeepsPromise (making method sizes file) before after line 0 → before.remaining file ≡ Some text →
       (list : FilterList) × (list_of text ≡ Ok list) × Adds before after (λ written. (order : List ℕ) × IsOrderOf method list.rules order × (table : Table) × IsMade method order list.rules sizes table × IsTextOf table written)
   made method sizes file text is known =
-      let command : Meaning = making method sizes file in
-      let done = is.done refl (told (before.remaining file) text known, tt) in
-      let first = first_of (turn (list_input file) (bytes_at before file)) (Ok []) done.values done.pass.turns in
-      let read = listed file text first.value (turn_told before (list_input file) text first.value known first.turned_is) in
-      let gives = subst (λ (v : Value). command.gives (v ∷ first.rest) done.outcome) read.2 (subst (λ (vs : List Value). command.gives vs done.outcome) first.values_are done.gives) in
-      (read.0, read.1, (done.outcome.text, done.written, (gives.order, gives.is_order, gives.table, gives.meets, gives.text)))
+      let h = one_gave is (list_input file) refl (listed file text) known in
+      let gives = h.2.gives in
+      (h.0, h.1, (h.2.outcome.text, h.2.written, (gives.order, gives.is_order, gives.table, gives.meets, gives.text)))
 
   pub compiled : (sizes : Sizes) (file text : List ℕ) → KeepsPromise (making Compile sizes file) before after line 0 → before.remaining file ≡ Some text → Adds before after (IsCompiledText sizes.slot text)
   compiled sizes file text is known =
@@ -174,15 +125,9 @@ module _ (before after : Outside) (line : List ℕ) where
 
   pub equal : (left right first second : List ℕ) → KeepsPromise (comparing left right) before after line 0 → before.remaining left ≡ Some first → before.remaining right ≡ Some second → AreEqualLists first second
   equal left right first second is known also =
-      let command : Meaning = comparing left right in
-      let done = is.done refl (told (before.remaining left) first known, (told (before.remaining right) second also, tt)) in
-      let one = first_of (turn (list_input left) (bytes_at before left)) (turns_of before (list_input right ∷ [])) done.values done.pass.turns in
-      let two = first_of (turn (list_input right) (bytes_at before right)) (Ok []) one.rest one.others_are in
-      let read = listed left first one.value (turn_told before (list_input left) first one.value known one.turned_is) in
-      let also_read = listed right second two.value (turn_told before (list_input right) second two.value also two.turned_is) in
-      let values = two_are done.values one.rest two.rest one.value two.value (list_value read.0) (list_value also_read.0) one.values_are read.2 two.values_are also_read.2 in
-      let gives = subst (λ (vs : List Value). command.gives vs done.outcome) values done.gives in
-      record { left = read.0; right = also_read.0; left_spelled = read.1; right_spelled = also_read.1; alike = alike_by read.0.rules also_read.0.rules done.outcome gives done.answered }
+      let h = two_gave is (list_input left) (list_input right) refl (listed left first) (listed right second) known also in
+      let gave = h.2.2.2 in
+      record { left = h.0; right = h.2.0; left_spelled = h.1; right_spelled = h.2.1; alike = alike_by h.0.rules h.2.0.rules gave.outcome gave.gives gave.yes }
 
   shown_by : (rules : FilterList) (entries : Table) (text : List ℕ) (outcome : Outcome) → Certifies rules entries text outcome → outcome.yes ≡ true → AreAlike (source_of rules.rules) (answer entries.entries)
   shown_by rules entries text outcome (inl h) agreed = h.1.alike
@@ -191,8 +136,7 @@ module _ (before after : Outside) (line : List ℕ) where
   pub shown : (list table certificate first second third : List ℕ) → KeepsPromise (checking list table certificate) before after line 0 →
       before.remaining list ≡ Some first → before.remaining table ≡ Some second → before.remaining certificate ≡ Some third → AgreeByName first second
   shown list table certificate first second third is known also last =
-      let command : Meaning = checking list table certificate in
-      let tells : Tells before command.inputs = (told (before.remaining list) first known, (told (before.remaining table) second also, (told (before.remaining certificate) third last, tt))) in
+      let tells : Tells before (checking list table certificate).inputs = (told (before.remaining list) first known, (told (before.remaining table) second also, (told (before.remaining certificate) third last, tt))) in
       let done = is.done refl tells in
       let one = first_of (turn (list_input list) (bytes_at before list)) (turns_of before (table_input table ∷ certificate_input certificate ∷ [])) done.values done.pass.turns in
       let two = first_of (turn (table_input table) (bytes_at before table)) (turns_of before (certificate_input certificate ∷ [])) one.rest one.others_are in
@@ -200,9 +144,10 @@ module _ (before after : Outside) (line : List ℕ) where
       let read = listed list first one.value (turn_told before (list_input list) first one.value known one.turned_is) in
       let also_read = tabled table second two.value (turn_told before (table_input table) second two.value also two.turned_is) in
       let lines : three.value ≡ lines_value (bytes_at before certificate) = lined (bytes_at before certificate) three.value (turn (certificate_input certificate) (bytes_at before certificate)) refl three.turned_is in
-      let last_two = two_are one.rest two.rest three.rest two.value three.value (table_value also_read.0) (lines_value (bytes_at before certificate)) two.values_are also_read.2 three.values_are lines in
+      let last_two = in_front one.rest two.rest (lines_value (bytes_at before certificate) ∷ three.rest) two.value (table_value also_read.0) two.values_are also_read.2
+      (in_front two.rest three.rest three.rest three.value (lines_value (bytes_at before certificate)) three.values_are lines refl) in
       let values = in_front done.values one.rest (table_value also_read.0 ∷ lines_value (bytes_at before certificate) ∷ three.rest) one.value (list_value read.0) one.values_are read.2 last_two in
-      let gives = subst (λ (vs : List Value). command.gives vs done.outcome) values done.gives in
+      let gives = subst (λ (vs : List Value). (checking list table certificate).gives vs done.outcome) values done.gives in
       record { list = read.0; table = also_read.0; list_spelled = read.1; table_spelled = also_read.1; alike = shown_by read.0 also_read.0 (bytes_at before certificate) done.outcome gives done.answered }
 
   certificate_by : (rules : FilterList) (entries : Table) (outcome : Outcome) → Writes rules entries outcome → outcome.yes ≡ true → IsCertificateOf rules entries outcome.text
@@ -211,63 +156,42 @@ module _ (before after : Outside) (line : List ℕ) where
 
   pub certified : (list table first second : List ℕ) → KeepsPromise (certifying list table) before after line 0 → before.remaining list ≡ Some first → before.remaining table ≡ Some second → Adds before after (IsCertified first second)
   certified list table first second is known also =
-      let command : Meaning = certifying list table in
-      let done = is.done refl (told (before.remaining list) first known, (told (before.remaining table) second also, tt)) in
-      let one = first_of (turn (list_input list) (bytes_at before list)) (turns_of before (table_input table ∷ [])) done.values done.pass.turns in
-      let two = first_of (turn (table_input table) (bytes_at before table)) (Ok []) one.rest one.others_are in
-      let read = listed list first one.value (turn_told before (list_input list) first one.value known one.turned_is) in
-      let also_read = tabled table second two.value (turn_told before (table_input table) second two.value also two.turned_is) in
-      let values = two_are done.values one.rest two.rest one.value two.value (list_value read.0) (table_value also_read.0) one.values_are read.2 two.values_are also_read.2 in
-      let gives = subst (λ (vs : List Value). command.gives vs done.outcome) values done.gives in
-      (done.outcome.text, done.written, record { list = read.0; table = also_read.0; list_spelled = read.1; table_spelled = also_read.1; certificate = certificate_by read.0 also_read.0 done.outcome gives done.answered })
+      let h = two_gave is (list_input list) (table_input table) refl (listed list first) (tabled table second) known also in
+      let gave = h.2.2.2 in
+      (gave.outcome.text, gave.written, record { list = h.0; table = h.2.0; list_spelled = h.1; table_spelled = h.2.1; certificate = certificate_by h.0 h.2.0 gave.outcome gave.gives gave.yes })
 
   pub answered : (table trace first second : List ℕ) → KeepsPromise (tracing table trace) before after line 0 → before.remaining table ≡ Some first → before.remaining trace ≡ Some second → Adds before after (IsAnswered first second)
   answered table trace first second is known also =
-      let command : Meaning = tracing table trace in
-      let done = is.done refl (told (before.remaining table) first known, (told (before.remaining trace) second also, tt)) in
-      let one = first_of (turn (table_input table) (bytes_at before table)) (turns_of before (trace_input trace ∷ [])) done.values done.pass.turns in
-      let two = first_of (turn (trace_input trace) (bytes_at before trace)) (Ok []) one.rest one.others_are in
-      let read = tabled table first one.value (turn_told before (table_input table) first one.value known one.turned_is) in
-      let lines : two.value ≡ lines_value (bytes_at before trace) = lined (bytes_at before trace) two.value (turn (trace_input trace) (bytes_at before trace)) refl two.turned_is in
-      let values = two_are done.values one.rest two.rest one.value two.value (table_value read.0) (lines_value (bytes_at before trace)) one.values_are read.2 two.values_are lines in
-      let gives = subst (λ (vs : List Value). command.gives vs done.outcome) values done.gives in
-      let text = ap (λ (o : Outcome). o.text) gives ∙ ap (λ (bytes : List ℕ). answers_text read.0 (taken_of bytes).headers) (bytes_are (before.remaining trace) second also) in
-      (done.outcome.text, done.written, record { table = read.0; table_spelled = read.1; answers = text })
+      let taken : Result (List ℕ) Stop = Ok second in
+      let h = two_gave is (table_input table) (trace_input trace) refl (tabled table first) (lines_of (trace_input trace) second taken refl refl) known also in
+      let gave = h.2.2.2 in
+      (gave.outcome.text, gave.written, record { table = h.0; table_spelled = h.1; answers = ap (λ (o : Outcome). o.text) gave.gives ∙ ap (λ (bytes : List ℕ). answers_text h.0 (taken_of bytes).headers) (same_text taken second h.2.0 refl h.2.1) })
 
   pub migrated : (file text : List ℕ) → KeepsPromise (migrating file) before after line 0 → before.remaining file ≡ Some text → Adds before after (IsMigrated text)
   migrated file text is known =
-      let command : Meaning = migrating file in
-      let done = is.done refl (told (before.remaining file) text known, tt) in
-      let first = first_of (turn (table_input file) (bytes_at before file)) (Ok []) done.values done.pass.turns in
-      let read = tabled file text first.value (turn_told before (table_input file) text first.value known first.turned_is) in
-      let gives = subst (λ (v : Value). command.gives (v ∷ first.rest) done.outcome) read.2 (subst (λ (vs : List Value). command.gives vs done.outcome) first.values_are done.gives) in
-      (done.outcome.text, done.written, record { table = read.0; table_spelled = read.1; compact = gives.0.written; reads_back = gives.0.spells })
+      let h = one_gave is (table_input file) refl (tabled file text) known in
+      let text_of = h.2.gives.0 in
+      (h.2.outcome.text, h.2.written, record { table = h.0; table_spelled = h.1; compact = text_of.written; reads_back = text_of.spells })
 
   pub trimmed : (file text : List ℕ) → KeepsPromise (trimming file) before after line 0 → before.remaining file ≡ Some text → Adds before after (IsTrimmedText text)
   trimmed file text is known =
-      let command : Meaning = trimming file in
-      let done = is.done refl (told (before.remaining file) text known, tt) in
-      let first = first_of (turn (table_input file) (bytes_at before file)) (Ok []) done.values done.pass.turns in
-      let read = tabled file text first.value (turn_told before (table_input file) text first.value known first.turned_is) in
-      let gives = subst (λ (v : Value). command.gives (v ∷ first.rest) done.outcome) read.2 (subst (λ (vs : List Value). command.gives vs done.outcome) first.values_are done.gives) in
-      (done.outcome.text, done.written, record { table = read.0; trimmed = gives.0; table_spelled = read.1; reads_back = gives.2.spells; is_trimmed = gives.1 })
+      let h = one_gave is (table_input file) refl (tabled file text) known in
+      let gives = h.2.gives in
+      (h.2.outcome.text, h.2.written, record { table = h.0; trimmed = gives.0; table_spelled = h.1; reads_back = gives.2.spells; is_trimmed = gives.1 })
 
   pub merged : (file text : List ℕ) → KeepsPromise (merging file) before after line 0 → before.remaining file ≡ Some text → Adds before after (IsMergedText text)
   merged file text is known =
-      let command : Meaning = merging file in
-      let done = is.done refl (told (before.remaining file) text known, tt) in
-      let first = first_of (turn (table_input file) (bytes_at before file)) (Ok []) done.values done.pass.turns in
-      let read = tabled file text first.value (turn_told before (table_input file) text first.value known first.turned_is) in
-      let gives = subst (λ (v : Value). command.gives (v ∷ first.rest) done.outcome) read.2 (subst (λ (vs : List Value). command.gives vs done.outcome) first.values_are done.gives) in
-      let entries = read.0.entries in
+      let h = one_gave is (table_input file) refl (tabled file text) known in
+      let gives = h.2.gives in
+      let entries = h.0.entries in
       let out = gives.0.entries in
       let joined = gives.1.entries in (
-        done.outcome.text,
-        done.written,
+        h.2.outcome.text,
+        h.2.written,
         record {
-          table = read.0;
+          table = h.0;
           merged = gives.0;
-          table_spelled = read.1;
+          table_spelled = h.1;
           reads_back = gives.2.spells;
           is_merged = gives.1;
           answers = λ header. is_alike entries out header joined;
@@ -278,21 +202,14 @@ module _ (before after : Outside) (line : List ℕ) where
 
   pub audited : (file text : List ℕ) → KeepsPromise (auditing file) before after line 0 → before.remaining file ≡ Some text → Adds before after (IsAudited text)
   audited file text is known =
-      let command : Meaning = auditing file in
-      let done = is.done refl (told (before.remaining file) text known, tt) in
-      let first = first_of (turn (list_input file) (bytes_at before file)) (Ok []) done.values done.pass.turns in
-      let read = listed file text first.value (turn_told before (list_input file) text first.value known first.turned_is) in
-      let gives = subst (λ (v : Value). command.gives (v ∷ first.rest) done.outcome) read.2 (subst (λ (vs : List Value). command.gives vs done.outcome) first.values_are done.gives) in
-      (done.outcome.text, done.written, record { list = read.0; states = gives.text.0; spelled = read.1; right = gives.text.1; lines = gives.text.2 })
+      let h = one_gave is (list_input file) refl (listed file text) known in
+      let states = h.2.gives.text in
+      (h.2.outcome.text, h.2.written, record { list = h.0; states = states.0; spelled = h.1; right = states.1; lines = states.2 })
 
   pub queried : (box : List Interval) (name : Option (List ℕ)) (file text : List ℕ) → KeepsPromise (querying file box name) before after line 0 → before.remaining file ≡ Some text → Adds before after (IsQueried box name text)
   queried box name file text is known =
-      let command : Meaning = querying file box name in
-      let done = is.done refl (told (before.remaining file) text known, tt) in
-      let first = first_of (turn (list_input file) (bytes_at before file)) (Ok []) done.values done.pass.turns in
-      let read = listed file text first.value (turn_told before (list_input file) text first.value known first.turned_is) in
-      let gives = subst (λ (v : Value). command.gives (v ∷ first.rest) done.outcome) read.2 (subst (λ (vs : List Value). command.gives vs done.outcome) first.values_are done.gives) in
-      (done.outcome.text, done.written, record { list = read.0; spelled = read.1; answer = gives.text })
+      let h = one_gave is (list_input file) refl (listed file text) known in
+      (h.2.outcome.text, h.2.written, record { list = h.0; spelled = h.1; answer = h.2.gives.text })
 
   pub drawn : (seed rules : ℕ) → KeepsPromise (generating seed rules) before after line 0 → Adds before after (λ written. written ≡ list_text (generated seed rules).rules)
   drawn seed rules is =
@@ -307,11 +224,10 @@ module _ (before after : Outside) (line : List ℕ) where
   pub driven : (slots : ℕ) (script : List ℕ) (tables : List (List ℕ)) (text : List ℕ) → KeepsPromise (swapping slots script tables) before after line 0 → Tells before (swapping slots script tables).inputs → before.remaining script ≡ Some text →
       Adds before after (IsDriven slots before tables text)
   driven slots script tables text is tells known =
-      let command : Meaning = swapping slots script tables in
       let done = is.done refl tells in
       let first = first_of (turn (script_input (length tables) script) (bytes_at before script)) (turns_of before (map table_input tables)) done.values done.pass.turns in
       let read = scripted (length tables) script text first.value (turn_told before (script_input (length tables) script) text first.value known first.turned_is) in
-      let gives = subst (λ (v : Value). command.gives (v ∷ first.rest) done.outcome) read.2 (subst (λ (vs : List Value). command.gives vs done.outcome) first.values_are done.gives) in (
+      let gives = subst (λ (v : Value). (swapping slots script tables).gives (v ∷ first.rest) done.outcome) read.2 (subst (λ (vs : List Value). (swapping slots script tables).gives vs done.outcome) first.values_are done.gives) in (
         done.outcome.text,
         done.written,
         record {
@@ -326,12 +242,6 @@ module _ (before after : Outside) (line : List ℕ) where
   pub edited : (slots : ℕ) (sizes : Sizes) (script list first second : List ℕ) → KeepsPromise (editing slots sizes script list) before after line 0 → before.remaining script ≡ Some first → before.remaining list ≡ Some second →
       Adds before after (IsEdited slots sizes first second)
   edited slots sizes script list first second is known also =
-      let command : Meaning = editing slots sizes script list in
-      let done = is.done refl (told (before.remaining script) first known, (told (before.remaining list) second also, tt)) in
-      let one = first_of (turn (session_input script) (bytes_at before script)) (turns_of before (list_input list ∷ [])) done.values done.pass.turns in
-      let two = first_of (turn (list_input list) (bytes_at before list)) (Ok []) one.rest one.others_are in
-      let session = sessioned script first one.value (turn_told before (session_input script) first one.value known one.turned_is) in
-      let rules = listed list second two.value (turn_told before (list_input list) second two.value also two.turned_is) in
-      let values = two_are done.values one.rest two.rest one.value two.value (session_value session.0) (list_value rules.0) one.values_are session.2 two.values_are rules.2 in
-      let gives = subst (λ (vs : List Value). command.gives vs done.outcome) values done.gives in
-      (done.outcome.text, done.written, record { events = session.0; list = rules.0; outcome = done.outcome; session_spelled = session.1; list_spelled = rules.1; edits = gives; lines = refl })
+      let h = two_gave is (session_input script) (list_input list) refl (sessioned script first) (listed list second) known also in
+      let gave = h.2.2.2 in
+      (gave.outcome.text, gave.written, record { events = h.0; list = h.2.0; outcome = gave.outcome; session_spelled = h.1; list_spelled = h.2.1; edits = gave.gives; lines = refl })

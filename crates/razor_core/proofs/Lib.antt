@@ -3,6 +3,8 @@ pub mod DifferText
 pub mod DriveEnding
 pub mod SessionEnding
 pub mod Ended
+pub mod Behind
+pub mod Passing
 pub mod Endings
 pub mod Sound
 pub mod Tables
@@ -17,8 +19,8 @@ pub mod SelfrunEnding
 pub mod SpelledNames
 pub mod FieldOrders
 pub mod OrderText
+pub mod Gave
 pub mod Headlines
-pub mod OneText
 pub mod StateLines
 pub mod AnsweredBoxes
 pub mod FileWords

@@ -1,7 +1,6 @@
 -- How a command ends that writes a table without its redundant entries.
 use Rattle.std.proofs.Common.{◌≡◌, ◌∙◌, ℕ, zero, suc, ◌+◌, List, [], ◌∷◌, inl, inr, map, ap, refl, sym, length}
 use Rattle.std.specs.Prelude.{All}
-use Rattle.std.specs.Io.KnownBytes.{Keeps}
 use Rattle.std.proofs.lemmas.List.Elements.{All-cons, All-nil}
 use Rattle.field_boxes.specs.Names.{AreDistinct, name_at}
 use Rattle.ternary_words.specs.Entries.{IsPart}
@@ -10,20 +9,14 @@ use Rattle.ternary_words.specs.Prefixes.{IsPrefixInEach}
 use Rattle.ternary_words.specs.Views.{entry_of, word_of}
 use Rattle.ternary_words.specs.declared.entry.Entry.{Entry}
 use Rattle.ternary_words.specs.declared.table.Table.{Table}
-use Rattle.partition_check.specs.PrefixWords.{ArePrefixes, IsFirstOther}
+use Rattle.partition_check.specs.PrefixWords.{ArePrefixes}
 use Rattle.rule_compilation.proofs.Removed.{answer_named, tight_named}
 use Rattle.rule_shortening.specs.Trimmed.{AreTrimmed}
-use Rattle.razor_core.specs.Inputs.{table_input}
-use Rattle.razor_core.specs.Outside.{Outside}
-use Rattle.razor_core.specs.Taking.{TakesTurn, table_value_of}
+use Rattle.razor_core.specs.Taking.{table_value_of}
 use Rattle.razor_core.specs.Trim.{IsPartOf, IsTrimmedTable, trimming}
 use Rattle.razor_core.specs.Turns.{bad_line, too_long, too_many}
 use Rattle.razor_core.specs.Stopping.{IsFree}
-use Rattle.razor_core.specs.Ending.{Stops}
-use Rattle.razor_core.specs.declared.line_reason.LineReason.TheVariants.{NotPrefix}
-use Rattle.razor_core.proofs.CertEnding.{first_other, prefix_at}
-use Rattle.razor_core.proofs.Turns.{ends_in_turn, passed_taken, turns_pass}
-use Rattle.razor_core.specs.Meaning.{in_turn}
+use Rattle.razor_core.proofs.CertEnding.{prefix_at}
 
 -- words that are prefixes at each place
 pub all_prefixes : (es : List Entry) → ArePrefixes es → All (λ (e : Entry). IsPrefixInEach (word_of e.word)) es
@@ -46,22 +39,8 @@ trimmed_named names slot composed old kept distinct numbered h = record {
   tight = tight_named names kept distinct numbered h.tight;
 }
 
-module _ (file : List ℕ) (before after : Outside) (table : Table) (taken : TakesTurn (table_input file) (before.remaining file) (after.remaining file) (table_value_of table)) where
-  -- all words are prefixes
-  pub free : ArePrefixes table.entries.items → IsFree (trimming file) (table_value_of table ∷ [])
-  free are (bad_line name bad) later = later.1.1.other (prefix_at table.names table.entries.items are later.1.0 later.1.1.entry later.1.1.at)
-  free are (too_long name limit) later = later
-  free are (too_many needed limit) later = later
-
-  -- a word isn't a prefix
-  pub other_stops : (place : ℕ) → IsFirstOther table.entries.items place → Keeps before.written after.written → Stops (trimming file) before after (bad_line file (record { line = place + 2; reason = NotPrefix }))
-  other_stops place h keeps = record {
-    unchanged = λ last. keeps;
-    named = ends_in_turn before after (λ input. file ≡ input.name) [] [] (table_input file) [] tt refl tt;
-    stopped = λ tells. inr (record {
-      values = table_value_of table ∷ [];
-      turns = turns_pass before (table_input file ∷ []) (table_value_of table ∷ []) (passed_taken (table_input file) (before.remaining file) (after.remaining file) (table_value_of table) taken, tt) tells;
-      later = (refl, (place, first_other table place h, refl));
-    });
-    stands = λ tells. record { in_a_turn = λ stop e. keeps; later = λ vs e. keeps };
-  }
+-- all words are prefixes
+pub free : (file : List ℕ) (table : Table) → ArePrefixes table.entries.items → IsFree (trimming file) (table_value_of table ∷ [])
+free file table are (bad_line name bad) later = later.1.1.other (prefix_at table.names table.entries.items are later.1.0 later.1.1.entry later.1.1.at)
+free file table are (too_long name limit) later = later
+free file table are (too_many needed limit) later = later

@@ -57,20 +57,6 @@ abbrev pub HasOther : List ℕ → Table → Stop → Type 0
 HasOther name entries (bad_line file bad) = (file ≡ name) × IsOtherLine entries bad
 HasOther name entries stop = ⊥
 
--- the line on the least header on which list and table differ is written, so far as this says
-abbrev pub SaysDifference : RuleList → code.Table → (List ℕ → Type 0) → Type 0
-SaysDifference list table Has = (header : List ℕ) × IsFirstDifference (name_decided list) (name_answered table) header × Has (differ_line header (name_decided list header) (name_answered table header))
-
--- the table is named so; this was written before, and this is written after, with these counts of faults
-abbrev pub IsEndOfCert : RuleList → code.Table → List ℕ → Option (List ℕ) → Option (List ℕ) → ℕ → ℕ → Ending → Type 0
-IsEndOfCert list table name before after old new (Done summary) = (summary ≡ Nothing) × ArePrefixes table.entries.items × (rows : ℕ) × IsWritten list table before after rows
-IsEndOfCert list table name before after old new No = ArePrefixes table.entries.items × SaysDifference list table (Appends before after)
-IsEndOfCert list table name before after old new (Bad file line reason) =
-    (file.now ≡ name) × (reason ≡ NotPrefix) × Keeps before after × (place : ℕ) × IsFirstOther table.entries.items place × (line ≡ place + 2)
-IsEndOfCert list table name before after old new WriteFault = Rose old new × ArePrefixes table.entries.items × (IsCut list table before after ⊎ SaysDifference list table (AppendsFront before after))
-IsEndOfCert list table name before after old new Memory = (new ≡ old) × (Keeps before after ⊎ (ArePrefixes table.entries.items × IsCut list table before after))
-IsEndOfCert list table name before after old new ending = ⊥
-
 abbrev of_both : List Value → Outcome → Type 0
 of_both (list_value rules ∷ table_value entries ∷ values) outcome = Writes rules entries outcome
 of_both values outcome = ⊥

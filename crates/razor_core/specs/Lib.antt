@@ -32,6 +32,7 @@ pub mod Standing
 pub mod Reasons
 pub mod Messages
 pub mod Ending
+pub mod Behind
 pub mod Says
 pub mod Promise
 pub mod Headlines

@@ -105,6 +105,30 @@ fn check(
     Ok(())
 }
 
+/// Calls the program with the words over the desk, with so much room for the output, and compares the status, the output
+/// and the line on standard error.
+fn check_over(
+    rt: &(impl Abort + AllocGlobal),
+    words: &Words,
+    desk: &mut MemDesk,
+    setting: Setting<'_>,
+    room: usize,
+    status: u8,
+    out: &[u8],
+    err: &[u8],
+) -> Result<(), Fail> {
+    desk.piece_limit(setting.most.max(1));
+    desk.fail_at(setting.failing_read)?;
+    let mut written = MemSink::new(rt.alloc(), room)?;
+    written.fail_at(setting.failing_write)?;
+    let mut said = MemSink::new(rt.alloc(), ROOM)?;
+    let answer = razor(rt.alloc(), words, desk, &mut written, &mut said);
+    assert!(rt; answer == status);
+    assert!(rt; written.bytes() == out);
+    assert!(rt; said.bytes() == err);
+    Ok(())
+}
+
 /// Expands the list.
 fn check_expand(
     rt: &(impl Abort + AllocGlobal),

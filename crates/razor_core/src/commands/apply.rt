@@ -1,12 +1,14 @@
 //! `apply`: a memory after the writes of a plan.
-ghost use Rattle.std.specs.Prelude.{◌≡◌, ◌≢◌, ℕ, List};
+ghost use Rattle.std.specs.Prelude.{◌≡◌, ◌≢◌, ℕ, List, [], ◌∷◌};
 ghost use Rattle.std.specs.Io.KnownBytes.{Keeps};
 ghost use Rattle.memory_text.specs.Views.{memory_of, plan_of};
+ghost use Rattle.razor_core.specs.Behind.{EndsOver};
 ghost use Rattle.razor_core.specs.Ending.{Ends};
 ghost use Rattle.razor_core.specs.Outside.{seen};
 ghost use Rattle.razor_core.specs.Apply.{misfit, applying};
+ghost use Rattle.razor_core.specs.Taking.{memory_value_of, plan_value_of};
 
-use crate::ending::{Ending, Summary};
+use crate::ending::{Ending, written};
 use crate::line_reason::LineReason;
 use crate::taking::take;
 use crate::texts::{MemoryText, PlanText};
@@ -36,21 +38,31 @@ pub fn apply_plan<'a, D: Desk, K: Sink>(
         Ok(plan) => plan,
         Err(ending) => return ending,
     };
-    if let Some(reason) = misfit(&memory, &plan) {
+    apply_over(memory, &plan, files.second, out)
+}
+
+/// Writes the memory after the writes of the plan of this file, and says how the command ends.
+fn apply_over<'a, K: Sink>(
+    memory: SlotMemory,
+    plan: &SlotPlan,
+    file: &'a str,
+    out: &mut K,
+) -> Ending<'a>
+    ensures { (first : List ℕ) → EndsOver (applying first file.now) (memory_value_of memory ∷ plan_value_of plan.now ∷ [])
+        (K.written out.old) (K.written out.new) (K.faults out.old) (K.faults out.new) result }
+{
+    if let Some(reason) = misfit(&memory, plan) {
         return Ending::BadLine {
-            file: files.second,
+            file,
             line: 1,
             reason,
         };
     }
-    let memory = match memory.after(&plan) {
+    let memory = match memory.after(plan) {
         Ok(memory) => memory,
         Err(_) => return Ending::Memory,
     };
-    match write_memory(&memory, out) {
-        Ok(()) => Ending::Done(Summary::Nothing),
-        Err(_) => Ending::WriteFault,
-    }
+    written(write_memory(&memory, out))
 }
 
 /// What is wrong with a plan for a memory: another number of slots, or other ones.

@@ -1,9 +1,11 @@
 //! `cert`: the certificate that a list and a table decide every header alike.
-ghost use Rattle.std.specs.Prelude.{◌≢◌, ℕ, List};
+ghost use Rattle.std.specs.Prelude.{◌≢◌, ℕ, List, [], ◌∷◌};
 ghost use Rattle.std.specs.Io.KnownBytes.{Keeps};
-ghost use Rattle.razor_core.specs.Cert.{IsEndOfCert, certifying};
+ghost use Rattle.razor_core.specs.Behind.{EndsOver};
+ghost use Rattle.razor_core.specs.Cert.{certifying};
 ghost use Rattle.razor_core.specs.Outside.{seen};
 ghost use Rattle.razor_core.specs.Ending.{Ends};
+ghost use Rattle.razor_core.specs.Taking.{table_value_of, value_of};
 
 use crate::commands::difference::write_difference;
 use crate::ending::{Ending, Summary};
@@ -26,7 +28,8 @@ fn certify_both<'a, K: Sink>(
     file: &'a str,
     out: &mut K,
 ) -> Ending<'a>
-    ensures { IsEndOfCert list.now table.now file.now (K.written out.old) (K.written out.new) (K.faults out.old) (K.faults out.new) result }
+    ensures { (first : List ℕ) → EndsOver (certifying first file.now) (value_of list.now ∷ table_value_of table.now ∷ [])
+        (K.written out.old) (K.written out.new) (K.faults out.old) (K.faults out.new) result }
 {
     match write_certificate(alloc, list, table, out) {
         Ok(_) => Ending::Done(Summary::Nothing),

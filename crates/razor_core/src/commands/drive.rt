@@ -1,5 +1,5 @@
 //! `drive`: a script of updates, run over tables in a memory.
-ghost use Rattle.std.specs.Prelude.{◌≡◌, ◌≢◌, ◌≤◌, ◌<◌, ◌++◌, ℕ, List, IfErr, IsTrue, OnOk, Some, length, map};
+ghost use Rattle.std.specs.Prelude.{◌≡◌, ◌≢◌, ◌≤◌, ◌<◌, ◌++◌, ◌∷◌, ℕ, List, IfErr, IsTrue, OnOk, Some, length, map};
 ghost use Rattle.std.specs.Io.KnownBytes.{Keeps};
 ghost use Rattle.command_words.specs.Commands.{Drive};
 ghost use Rattle.command_words.specs.Files.{all_differ, script_and_tables};
@@ -7,7 +7,7 @@ ghost use Rattle.command_words.specs.PlainWords.{plain_seen};
 ghost use Rattle.razor_core.specs.Commands.{meaning};
 ghost use Rattle.razor_core.specs.Outside.{seen, IsNoInput};
 ghost use Rattle.razor_core.specs.Ending.{Ends};
-ghost use Rattle.razor_core.specs.Drive.{IsEndOfDrive};
+ghost use Rattle.razor_core.specs.Drive.{IsEndOfDrive, swapping};
 ghost use Rattle.razor_core.specs.Tables.{AreAdded, IsNone, FailsAmong};
 
 use crate::ending::{Ending, Summary};
@@ -91,16 +91,36 @@ fn run_words<'a, D: Desk, K: Sink>(
         result }
     ensures others { (other : List ℕ) → IsNoInput (meaning (script_and_tables (Drive slots.count) (map (λ word. word.now) files.now))).inputs other → Keeps (D.remaining desk.old other) (D.remaining desk.new other) }
 {
-    let [script, table_files @ ..] = files else {
+    let [script, tables @ ..] = files else {
         unreachable!()
     };
-    let tables = table_files.len() as u32;
+    run_tables(alloc, slots, script, tables, desk, out)
+}
+
+/// The same, over a script and the tables of these files.
+fn run_tables<'a, D: Desk, K: Sink>(
+    alloc: Global,
+    slots: Slots,
+    script: &'a str,
+    files: &[&'a str],
+    desk: &mut D,
+    out: &mut K,
+) -> Ending<'a>
+    requires few { length files.now ≤ 8 }
+    requires apart { IsTrue (all_differ (script.now ∷ map (λ word. word.now) files.now)) }
+    ensures ends { Ends (swapping slots.count script.now (map (λ word. word.now) files.now))
+        (seen D.remaining D.faults K.written K.faults desk.old out.old)
+        (seen D.remaining D.faults K.written K.faults desk.new out.new)
+        result }
+    ensures others { (other : List ℕ) → IsNoInput (swapping slots.count script.now (map (λ word. word.now) files.now)).inputs other → Keeps (D.remaining desk.old other) (D.remaining desk.new other) }
+{
+    let tables = files.len() as u32;
     let script = match take(alloc, &ScriptText { tables }, script, desk) {
         Ok(script) => script,
         Err(ending) => return ending,
     };
     let mut tables = Vec::new(alloc);
-    if let Err(ending) = take_tables(alloc, table_files, desk, &mut tables) {
+    if let Err(ending) = take_tables(alloc, files, desk, &mut tables) {
         return ending;
     }
     let bank = match Bank::new(alloc, slots.count) {

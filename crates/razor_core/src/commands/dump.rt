@@ -5,7 +5,7 @@ ghost use Rattle.razor_core.specs.Ending.{Ends};
 ghost use Rattle.razor_core.specs.Outside.{seen};
 ghost use Rattle.razor_core.specs.Dump.{dumping};
 
-use crate::ending::{Ending, Summary};
+use crate::ending::{Ending, written};
 use crate::taking::take;
 use crate::texts::MemoryText;
 use memory_text::table_in;
@@ -34,8 +34,5 @@ pub fn dump_memory<'a, D: Desk, K: Sink>(
         Ok(table) => table,
         Err(_) => return Ending::Memory,
     };
-    match write_table(&table, out) {
-        Ok(()) => Ending::Done(Summary::Nothing),
-        Err(_) => Ending::WriteFault,
-    }
+    written(write_table(&table, out))
 }

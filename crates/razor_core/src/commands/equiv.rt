@@ -1,12 +1,14 @@
 //! `equiv`: whether two lists decide every header alike, or on which they first differ.
-ghost use Rattle.std.specs.Prelude.{◌≢◌, ℕ, List};
+ghost use Rattle.std.specs.Prelude.{◌≢◌, ℕ, List, [], ◌∷◌};
 ghost use Rattle.std.specs.Io.KnownBytes.{Keeps};
 ghost use Rattle.filter_reader.specs.Lists.{filter_list};
 ghost use Rattle.list_equiv.specs.Verdict.{IsListVerdict};
 ghost use Rattle.razor_base.specs.Output.{Writes};
+ghost use Rattle.razor_core.specs.Behind.{EndsOver};
 ghost use Rattle.razor_core.specs.Ending.{Ends};
 ghost use Rattle.razor_core.specs.Equiv.{verdict_text, IsAnswer, comparing};
 ghost use Rattle.razor_core.specs.Outside.{seen};
+ghost use Rattle.razor_core.specs.Taking.{value_of};
 
 use crate::commands::difference::write_difference;
 use crate::ending::{Ending, Summary};
@@ -39,11 +41,19 @@ pub fn compare_lists<'a, D: Desk, K: Sink>(
         Ok(list) => list,
         Err(ending) => return ending,
     };
-    let verdict = match equal(alloc, &left, &right) {
+    compare(alloc, &left, &right, out)
+}
+
+/// Writes what comparing the lists comes to, and says how the command ends.
+fn compare<'a, K: Sink>(alloc: Global, left: &RuleList, right: &RuleList, out: &mut K) -> Ending<'a>
+    ensures { (one two : List ℕ) → EndsOver (comparing one two) (value_of left.now ∷ value_of right.now ∷ [])
+        (K.written out.old) (K.written out.new) (K.faults out.old) (K.faults out.new) result }
+{
+    let verdict = match equal(alloc, left, right) {
         Ok(verdict) => verdict,
         Err(_) => return Ending::Memory,
     };
-    match write_verdict(verdict, &left, &right, out) {
+    match write_verdict(verdict, left, right, out) {
         Ok(()) => answered(verdict),
         Err(_) => Ending::WriteFault,
     }

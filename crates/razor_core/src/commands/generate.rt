@@ -3,7 +3,7 @@ ghost use Rattle.std.specs.Prelude.{ℕ, List, Option};
 ghost use Rattle.razor_core.specs.Ending.{Ends};
 ghost use Rattle.razor_core.specs.Gen.{generating};
 
-use crate::ending::{Ending, Summary};
+use crate::ending::{Ending, written};
 use command_words::Drawing;
 use filter_reader::write_list;
 use list_generator::generate;
@@ -21,8 +21,5 @@ pub fn draw_list<'a, K: Sink>(alloc: Global, drawing: Drawing, out: &mut K) -> E
         Ok(list) => list,
         Err(_) => return Ending::Memory,
     };
-    match write_list(&list, out) {
-        Ok(()) => Ending::Done(Summary::Nothing),
-        Err(_) => Ending::WriteFault,
-    }
+    written(write_list(&list, out))
 }

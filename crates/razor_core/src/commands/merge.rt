@@ -6,7 +6,7 @@ ghost use Rattle.razor_core.specs.Ending.{Ends};
 ghost use Rattle.razor_core.specs.Merge.{IsMergedTable, merging};
 ghost use Rattle.razor_core.specs.Outside.{seen};
 
-use crate::ending::{Ending, Summary};
+use crate::ending::{Ending, written};
 use crate::taking::take;
 use crate::texts::TableText;
 use bit_merge::merge;
@@ -35,10 +35,7 @@ pub fn merge_table<'a, D: Desk, K: Sink>(
         Ok(table) => table,
         Err(_) => return Ending::Memory,
     };
-    match write_table(&table, out) {
-        Ok(()) => Ending::Done(Summary::Nothing),
-        Err(_) => Ending::WriteFault,
-    }
+    written(write_table(&table, out))
 }
 
 /// The table with the merged entries in the place of its own.

@@ -5,7 +5,7 @@ ghost use Rattle.razor_core.specs.Ending.{Ends};
 ghost use Rattle.razor_core.specs.Outside.{seen};
 ghost use Rattle.razor_core.specs.Migrate.{migrating};
 
-use crate::ending::{Ending, Summary};
+use crate::ending::{Ending, written};
 use crate::taking::take;
 use crate::texts::TableText;
 use razor_base::{Desk, Sink};
@@ -29,8 +29,5 @@ pub fn migrate_table<'a, D: Desk, K: Sink>(
         Ok(table) => table,
         Err(ending) => return ending,
     };
-    match write_table(&table, out) {
-        Ok(()) => Ending::Done(Summary::Nothing),
-        Err(_) => Ending::WriteFault,
-    }
+    written(write_table(&table, out))
 }

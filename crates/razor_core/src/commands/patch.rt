@@ -1,18 +1,21 @@
 //! `patch`: a plan that leads from a memory to a table.
-ghost use Rattle.std.specs.Prelude.{◌≡◌, ◌≢◌, ℕ, List};
+ghost use Rattle.std.specs.Prelude.{◌≢◌, ℕ, List, [], ◌∷◌};
 ghost use Rattle.std.specs.Io.KnownBytes.{Keeps};
+ghost use Rattle.razor_core.specs.Behind.{EndsOver};
 ghost use Rattle.razor_core.specs.Ending.{Ends};
 ghost use Rattle.razor_core.specs.Outside.{seen};
 ghost use Rattle.razor_core.specs.Patch.{patching};
+ghost use Rattle.razor_core.specs.Taking.{memory_value_of, table_value_of};
 
-use crate::ending::{Ending, Summary};
+use crate::ending::{Ending, written};
 use crate::line_reason::LineReason;
 use crate::taking::take;
 use crate::texts::{MemoryText, TableText};
 use command_words::TwoFiles;
-use memory_text::{Patched, patch, write_plan};
+use memory_text::{Patched, SlotMemory, patch, write_plan};
 use razor_base::{Desk, Sink};
 use std::alloc::Global;
+use ternary_words::Table;
 
 /// Writes a plan that leads from a memory to a table, with each header answered as before or as behind between any two writes.
 pub fn plan_patch<'a, D: Desk, K: Sink>(
@@ -35,15 +38,29 @@ pub fn plan_patch<'a, D: Desk, K: Sink>(
         Ok(table) => table,
         Err(ending) => return ending,
     };
+    patch_over(alloc, memory, &table, files.second, out)
+}
+
+/// Writes a plan from the memory to the table of this file, and says how the command ends.
+fn patch_over<'a, K: Sink>(
+    alloc: Global,
+    memory: SlotMemory,
+    table: &Table,
+    file: &'a str,
+    out: &mut K,
+) -> Ending<'a>
+    ensures { (first : List ℕ) → EndsOver (patching first file.now) (memory_value_of memory ∷ table_value_of table.now ∷ [])
+        (K.written out.old) (K.written out.new) (K.faults out.old) (K.faults out.new) result }
+{
     if table.slot != memory.width {
         return Ending::BadLine {
-            file: files.second,
+            file,
             line: 1,
             reason: LineReason::SlotWidth,
         };
     }
     let limit = memory.slots.len() as u32;
-    let plan = match patch(alloc, memory, &table) {
+    let plan = match patch(alloc, memory, table) {
         Ok(Patched::Ready(plan)) => plan,
         Ok(Patched::NoRoom(needed)) => {
             return Ending::TooMany {
@@ -53,8 +70,5 @@ pub fn plan_patch<'a, D: Desk, K: Sink>(
         }
         Err(_) => return Ending::Memory,
     };
-    match write_plan(&plan, out) {
-        Ok(()) => Ending::Done(Summary::Nothing),
-        Err(_) => Ending::WriteFault,
-    }
+    written(write_plan(&plan, out))
 }

@@ -5,7 +5,7 @@ ghost use Rattle.razor_core.specs.Ending.{Ends};
 ghost use Rattle.razor_core.specs.Outside.{seen};
 ghost use Rattle.razor_core.specs.Place.{placing};
 
-use crate::ending::{Ending, Summary};
+use crate::ending::{Ending, written};
 use crate::taking::take;
 use crate::texts::TableText;
 use command_words::Slots;
@@ -41,8 +41,5 @@ pub fn place_table<'a, D: Desk, K: Sink>(
         Ok(memory) => memory,
         Err(_) => return Ending::Memory,
     };
-    match write_memory(&memory, out) {
-        Ok(()) => Ending::Done(Summary::Nothing),
-        Err(_) => Ending::WriteFault,
-    }
+    written(write_memory(&memory, out))
 }

@@ -4,7 +4,7 @@ ghost use Rattle.razor_base.specs.Output.{Writes};
 ghost use Rattle.razor_core.specs.Ending.{Ends};
 ghost use Rattle.razor_core.specs.Selfrun.{summary_line, running_load};
 
-use crate::ending::{Ending, Summary};
+use crate::ending::{Ending, written};
 use command_words::Drawing;
 use razor_base::{Failed, Part, Sink, write_parts};
 use self_run::self_run;
@@ -55,8 +55,5 @@ pub fn run_load<'a, K: Sink>(alloc: Global, drawing: Drawing, out: &mut K) -> En
         }
         Err(ComposeError::Memory) => return Ending::Memory,
     };
-    match write_summary(drawing.rules, &summary, out) {
-        Ok(()) => Ending::Done(Summary::Nothing),
-        Err(_) => Ending::WriteFault,
-    }
+    written(write_summary(drawing.rules, &summary, out))
 }

@@ -7,7 +7,7 @@ ghost use Rattle.razor_core.specs.Ending.{Ends};
 ghost use Rattle.razor_core.specs.Outside.{seen};
 ghost use Rattle.razor_core.specs.Trim.{IsTrimmedTable, trimming};
 
-use crate::ending::{Ending, Summary};
+use crate::ending::{Ending, written};
 use crate::line_reason::LineReason;
 use crate::taking::take;
 use crate::texts::TableText;
@@ -46,10 +46,7 @@ pub fn trim_table<'a, D: Desk, K: Sink>(
         Ok(table) => table,
         Err(_) => return Ending::Memory,
     };
-    match write_table(&table, out) {
-        Ok(()) => Ending::Done(Summary::Nothing),
-        Err(_) => Ending::WriteFault,
-    }
+    written(write_table(&table, out))
 }
 
 /// The table with the entries that are needed in the place of all.

@@ -1,7 +1,8 @@
 //! Certificates of a list and a table.
-use super::{ANY_TCP, ANY_TCP_TABLE, ROOM};
-use razor_base::{MemDesk, MemSink};
-use razor_core::{Words, razor};
+use super::{ANY_TCP, ANY_TCP_TABLE, ROOM, check_over};
+use crate::setting::{Setting, calm};
+use razor_base::MemDesk;
+use razor_core::Words;
 use std::process::Abort;
 use std::test::Fail;
 
@@ -61,15 +62,12 @@ fn check_at(
     desk.add("list", list)?;
     desk.add("table", table)?;
     desk.add("rows", rows)?;
-    desk.piece_limit(most.max(1));
-    desk.fail_at(failing_read)?;
-    let mut written = MemSink::new(rt.alloc(), ROOM)?;
-    let mut said = MemSink::new(rt.alloc(), ROOM)?;
-    let answer = razor(rt.alloc(), &words, &mut desk, &mut written, &mut said);
-    assert!(rt; answer == status);
-    assert!(rt; written.bytes() == out);
-    assert!(rt; said.bytes() == err);
-    Ok(())
+    let setting = Setting {
+        most,
+        failing_read,
+        ..calm(rows)
+    };
+    check_over(rt, &words, &mut desk, setting, ROOM, status, out, err)
 }
 
 /// Checks the certificate with reads of 1, 7 and 4,096 bytes.

@@ -1,8 +1,8 @@
 //! Scripts of updates over tables.
-use super::{ANY_TCP_TABLE, ROOM};
+use super::{ANY_TCP_TABLE, ROOM, check_over};
 use crate::setting::{Setting, calm};
-use razor_base::{MemDesk, MemSink};
-use razor_core::{Words, razor};
+use razor_base::MemDesk;
+use razor_core::Words;
 use std::process::Abort;
 use std::test::Fail;
 
@@ -43,16 +43,7 @@ fn check_drive(
     desk.add("s", setting.list)?;
     desk.add("t1", ANY_TCP_TABLE)?;
     desk.add("t2", UDP_TABLE)?;
-    desk.piece_limit(setting.most.max(1));
-    desk.fail_at(setting.failing_read)?;
-    let mut written = MemSink::new(rt.alloc(), room)?;
-    written.fail_at(setting.failing_write)?;
-    let mut said = MemSink::new(rt.alloc(), ROOM)?;
-    let answer = razor(rt.alloc(), &words, &mut desk, &mut written, &mut said);
-    assert!(rt; answer == status);
-    assert!(rt; written.bytes() == out);
-    assert!(rt; said.bytes() == err);
-    Ok(())
+    check_over(rt, &words, &mut desk, setting, room, status, out, err)
 }
 
 #[test]

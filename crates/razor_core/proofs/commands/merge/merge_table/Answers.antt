@@ -1,57 +1,32 @@
-use Rattle.std.proofs.Common.{[], ◌∷◌, inl, refl, subst, sym, true}
+use Rattle.std.proofs.Common.{List, refl, subst, sym, ℕ}
 use Rattle.ternary_words.specs.Headline.TableText.{table_text}
 use Rattle.ternary_words.specs.Views.{table_of}
 use Rattle.table_text.proofs.TableTexts.{table-read}
 use Rattle.razor_core.specs.Inputs.{table_input}
-use Rattle.razor_core.specs.Outcome.{IsTextOf, Outcome}
-use Rattle.razor_core.specs.Outside.{seen}
-use Rattle.razor_core.specs.Taking.{table_value_of}
-use Rattle.razor_core.proofs.Ended.{cut_off_ends, done_ends, turn_ends}
-use Rattle.razor_core.proofs.SpelledNames.{AreSpelled}
-use Rattle.razor_core.proofs.Turns.{kept, pass_behind, passed_taken, read_taken}
-use Rattle.razor_core.proofs.commands.merge.merge_table.Goals as goal
 use Rattle.razor_core.specs.Merge.{merging}
+use Rattle.razor_core.specs.Taking.{table_value_of}
+use Rattle.razor_core.proofs.Behind.{over_ends, written_over}
+use Rattle.razor_core.proofs.Ended.{IsPlain, only_turn_ends}
+use Rattle.razor_core.proofs.Passing.{one_passes}
+use Rattle.razor_core.proofs.SpelledNames.{AreSpelled}
+use Rattle.razor_core.proofs.Turns.{kept}
+use Rattle.razor_core.specs.declared.ending.Ending.TheVariants.{Memory}
+use Rattle.razor_core.proofs.commands.merge.merge_table.Goals as goal
+
+plain : (file : List ℕ) → IsPlain (merging file)
+plain file = record { unread = λ before after file. tt; pace = λ before after. tt; whole = λ e. cc; reads = refl }
 
 pub returns-in-Err-clause-ends : goal.returns-in-Err-clause-ends
-returns-in-Err-clause-ends g c =
-    let file = c.args.file.now in
-    let before = seen g.D.Desk.remaining g.D.Desk.faults g.K.Sink.written g.K.Sink.faults c.args.desk.now c.args.out.now in
-    let after = seen g.D.Desk.remaining g.D.Desk.faults g.K.Sink.written g.K.Sink.faults c.take.new.desk c.args.out.now in
-    let still = kept (g.K.Sink.written c.args.out.now) in
-    turn_ends (merging file) before after [] [] (table_input file) [] c.in-Err.ending (record { inputs_are = refl; passed = tt; kept = tt })
-    (record { keeps = still; calm = refl; unread = λ file e tells. tt; pace = λ tells. tt }) c.in-Err.ensures.turn
-
-pub returns-in-Ok-write_table-clause-ends : goal.returns-in-Ok-write_table-clause-ends
-returns-in-Ok-write_table-clause-ends g c =
-    let file = c.args.file.now in
-    let before = seen g.D.Desk.remaining g.D.Desk.faults g.K.Sink.written g.K.Sink.faults c.args.desk.now c.args.out.now in
-    let after = seen g.D.Desk.remaining g.D.Desk.faults g.K.Sink.written g.K.Sink.faults c.take.new.desk c.write_table.new.out in
-    let taken = c.in-Ok.ensures.turn in
-    let value = table_value_of c.in-Ok.table in
-    let table = table_of c.in-Ok-merged.table in
-    let text : IsTextOf table (table_text table) = record { written = refl; spells = table-read c.in-Ok-merged.table (subst AreSpelled (sym c.in-Ok-merged.ensures.names) c.in-Ok.ensures.holds) } in
-    let outcome : Outcome = record { yes = true; text = table_text table; line = [] } in (
-      refl,
-      λ tells. done_ends (merging file) before after (value ∷ []) outcome true (passed_taken (table_input file) (before.remaining file) (after.remaining file) value taken, tt) (λ stop later. later) (table, c.in-Ok-merged.ensures.merged, text, refl, refl) refl
-          c.in-Ok-write_table.ensures.ok (read_taken (table_input file) (before.remaining file) (after.remaining file) value taken tells.0, tt) tells,
-    )
+returns-in-Err-clause-ends g c = only_turn_ends (table_input c.args.file.now) (plain c.args.file.now) refl (kept (g.K.Sink.written c.args.out.now)) refl c.in-Err.ensures.turn
 
 pub returns-clause-ends : goal.returns-clause-ends
 returns-clause-ends g c =
-    let file = c.args.file.now in
-    let before = seen g.D.Desk.remaining g.D.Desk.faults g.K.Sink.written g.K.Sink.faults c.args.desk.now c.args.out.now in
-    let after = seen g.D.Desk.remaining g.D.Desk.faults g.K.Sink.written g.K.Sink.faults c.take.new.desk c.write_table.new.out in
-    let value = table_value_of c.in-Ok.table in
-    let table = table_of c.in-Ok-merged.table in
-    let text : IsTextOf table (table_text table) = record { written = refl; spells = table-read c.in-Ok-merged.table (subst AreSpelled (sym c.in-Ok-merged.ensures.names) c.in-Ok.ensures.holds) } in
-    let outcome : Outcome = record { yes = true; text = table_text table; line = [] } in
-    cut_off_ends (merging file) before after (λ tells. tt) (value ∷ []) outcome (passed_taken (table_input file) (before.remaining file) (after.remaining file) value c.in-Ok.ensures.turn, tt) (inl (λ stop later. later)) (table, c.in-Ok-merged.ensures.merged, text, refl, refl)
-    c.in-Err-write_table.ensures.failed c.in-Err-write_table.ensures.err
+    let made = c.in-Ok-merged.table in
+    over_ends (one_passes (table_input c.args.file.now) (table_value_of c.in-Ok.table) (plain c.args.file.now) refl c.in-Ok.ensures.turn) c.written.result
+    (written_over (table_text (table_of made)) (λ stop later. later)
+    (table_of made, c.in-Ok-merged.ensures.merged, record { written = refl; spells = table-read made (subst AreSpelled (sym c.in-Ok-merged.ensures.names) c.in-Ok.ensures.holds) }, refl, refl)
+    refl c.write_table.ensures.ok c.write_table.ensures.err c.write_table.ensures.failed c.written.ensures)
 
 pub returns-in-Err-merged-clause-ends : goal.returns-in-Err-merged-clause-ends
 returns-in-Err-merged-clause-ends g c =
-    let file = c.args.file.now in
-    let before = seen g.D.Desk.remaining g.D.Desk.faults g.K.Sink.written g.K.Sink.faults c.args.desk.now c.args.out.now in
-    let after = seen g.D.Desk.remaining g.D.Desk.faults g.K.Sink.written g.K.Sink.faults c.take.new.desk c.args.out.now in
-    let passed = passed_taken (table_input file) (before.remaining file) (after.remaining file) (table_value_of c.in-Ok.table) c.in-Ok.ensures.turn in
-    (refl, kept (g.K.Sink.written c.args.out.now), pass_behind before after (merging file).inputs (table_value_of c.in-Ok.table ∷ []) (passed, tt))
+    over_ends (one_passes (table_input c.args.file.now) (table_value_of c.in-Ok.table) (plain c.args.file.now) refl c.in-Ok.ensures.turn) Memory (refl, kept (g.K.Sink.written c.args.out.now))

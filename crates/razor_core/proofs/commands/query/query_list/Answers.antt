@@ -1,38 +1,22 @@
-use Rattle.std.proofs.Common.{[], ◌∷◌, refl}
-use Rattle.filter_reader.specs.Lists.{filter_list}
+use Rattle.std.proofs.Common.{List, refl, ℕ}
 use Rattle.command_words.specs.Questions.{name_in}
 use Rattle.field_boxes.specs.Spans.{intervals_of}
-use Rattle.razor_core.specs.Query.{AreAnswered, querying}
 use Rattle.razor_core.specs.Inputs.{list_input}
-use Rattle.razor_core.specs.Outside.{seen}
+use Rattle.razor_core.specs.Query.{querying}
 use Rattle.razor_core.specs.Taking.{value_of}
-use Rattle.razor_core.proofs.Ended.{turn_ends}
-use Rattle.razor_core.proofs.OneText.{text_ends}
-use Rattle.razor_core.proofs.Turns.{kept, passed_taken, read_taken}
+use Rattle.razor_core.proofs.Behind.{over_ends, text_over}
+use Rattle.razor_core.proofs.Ended.{IsPlain, only_turn_ends}
+use Rattle.razor_core.proofs.Passing.{one_passes}
+use Rattle.razor_core.proofs.Turns.{kept}
 use Rattle.razor_core.proofs.commands.query.query_list.Goals as goal
 
 pub returns-in-Err-clause-ends : goal.returns-in-Err-clause-ends
 returns-in-Err-clause-ends g c =
-    let file = c.args.question.list.now in
-    let before = seen g.D.Desk.remaining g.D.Desk.faults g.K.Sink.written g.K.Sink.faults c.args.desk.now c.args.out.now in
-    let after = seen g.D.Desk.remaining g.D.Desk.faults g.K.Sink.written g.K.Sink.faults c.take.new.desk c.args.out.now in
-    let still = kept (g.K.Sink.written c.args.out.now) in
-    turn_ends (querying file (intervals_of c.args.question.spans) (name_in c.args.question.decision.now)) before after [] [] (list_input file) [] c.in-Err.ending (record { inputs_are = refl; passed = tt; kept = tt })
-    (record { keeps = still; calm = refl; unread = λ file e tells. tt; pace = λ tells. tt }) c.in-Err.ensures.turn
+    only_turn_ends (list_input c.args.question.list.now) (record { unread = λ before after file. tt; pace = λ before after. tt; whole = λ e. cc; reads = refl }) refl (kept (g.K.Sink.written c.args.out.now)) refl c.in-Err.ensures.turn
 
 pub returns-clause-ends : goal.returns-clause-ends
 returns-clause-ends g c =
-    let file = c.args.question.list.now in
-    let before = seen g.D.Desk.remaining g.D.Desk.faults g.K.Sink.written g.K.Sink.faults c.args.desk.now c.args.out.now in
-    let after = seen g.D.Desk.remaining g.D.Desk.faults g.K.Sink.written g.K.Sink.faults c.take.new.desk c.answer_question.new.out in
-    let taken = c.in-Ok.ensures.turn in
-    let value = value_of c.in-Ok.list in
-    text_ends (querying file (intervals_of c.args.question.spans) (name_in c.args.question.decision.now)) before after (value ∷ []) (AreAnswered (intervals_of c.args.question.spans) (name_in c.args.question.decision.now) (filter_list c.in-Ok.list).rules)
-    (record {
-      passed = (passed_taken (list_input file) (before.remaining file) (after.remaining file) value taken, tt);
-      free = λ stop later. later;
-      gives = λ text right. record { text = right; yes = refl; line = refl };
-      read = λ tells. (read_taken (list_input file) (before.remaining file) (after.remaining file) value taken tells.0, tt);
-      line = refl;
-      pace = λ tells. tt;
-    }) c.answer_question.result c.answer_question.ensures
+    let question = c.args.question in
+    let plain : IsPlain (querying question.list.now (intervals_of question.spans) (name_in question.decision.now)) = record { unread = λ before after file. tt; pace = λ before after. tt; whole = λ e. cc; reads = refl } in
+    over_ends (one_passes (list_input question.list.now) (value_of c.in-Ok.list) plain refl c.in-Ok.ensures.turn) c.answer_question.result
+    (text_over plain (λ stop later. later) refl (λ text right. record { text = right; yes = refl; line = refl }) c.answer_question.result c.answer_question.ensures)
