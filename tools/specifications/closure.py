@@ -127,6 +127,11 @@ class Promise:
                 found[each.name.lower()] = {each, *constructor}
         return found
 
+    def beside(self, named):
+        """What these definitions of the promise's crate stand on, each named by its file and its name, without the promise."""
+        places = [Place(self.crate, file, name) for file, name in named]
+        return whole(self.cited, [place for place in places if place != self.top.place])
+
     def variants(self, of):
         """The constructors of such a type."""
         return [Place(of.crate, of.file, name) for name in self.cited.specifications.owners[of].constructors()]
