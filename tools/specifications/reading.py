@@ -13,7 +13,7 @@ For the literal words `compile`, `--`, FILE, whatever FILE is called: where the 
 - the table has at most as many entries as the field-by-field least cost of the list, and states that cost as `composed`;
 - its slots have 144 trits.
 
-The theorem is the clause `headline` of the function `razor`, the one call that `main` makes (`crates/razor_core/src/top.rt`). Files are read from `desk`, `out` is the output, `.old` and `.new` are before and after the call, and `result` is the status:
+The theorem is the clause `headline` of the function `razor`, the one call that `main` makes (`crates/razor_core/src/top.rt`). Files are read from `desk`, `out` is the output, `.old` and `.new` are before and after the call, `.now` is the value behind a shared reference, and `result` is the status:
 
 ```
 ensures headline {clause}
@@ -21,7 +21,7 @@ ensures headline {clause}
 
 `Appends` says: where the output tells its bytes, they are those of before and then `written`. Beside it stand the clauses `arranged` and `shortened`, which say the like of `arrange -- FILE` and `shorten -- FILE`, and `promise`, for every command and every status ([THEOREMS.md](THEOREMS.md)).
 
-**Assumed:** the toolchain (prover, compiler, C library), and that the desk and the output tell their bytes; of real files nothing is known of what they hold, so those of the system tell none. **Proved:** the clause, over every desk and every output, of the very code that runs over real files, whose streams are tied to the contracts of the standard library. **Tested:** the program over real files, as two compilers build it.
+**Assumed:** the toolchain (prover, compiler, C library), and that the desk and the output tell their bytes; of a real file no contract says what it holds. **Proved:** the clause, over every desk and every output, of the very code that runs over real files, whose streams are tied to the contracts of the standard library. **Tested:** the program over real files, as two compilers build it.
 
 ## What has to be read
 
@@ -29,8 +29,8 @@ ensures headline {clause}
 
 - A definition has its type and then its clauses; the first clause that fits holds. The words `abbrev`, `unfoldable` and `pub`, which say who may see into it, are left out here.
 - A byte is a number, and a text is a list of them. `[]` is the empty list, and `x ∷ xs` is x in front of xs. `(a, b)` is a pair, with the parts `.0` and `.1`. `λ x. e` is a function. A header is the list of its five values.
-- `(x : A) → P` says that P holds for every x, `(x : A) × P` that there is an x for which P holds, `P × Q` that both hold, `a ≡ b` that both are the same and `a ≢ b` that they aren't; `⊥` never holds, and `Unit` always does. A `record` is what holds of its fields together.
-- A block of `do` takes the steps in order, and the first that gives nothing, or a reason, is what it comes to.
+- `(x : A) → P` says that P holds for every x, `(x : A) × P` that there is an x for which P holds, `P × Q` that both hold, `a ≡ b` that both are the same and `a ≢ b` that they aren't; `⊥` never holds, and `Unit` always does. A `record` is what holds of its fields together. `Type 0` is the type of types and of statements; `{{A : Type 0}}` says that A may be any of them, and is left out where the definition is used.
+- A block of `do` takes the steps in order; `x ← e` calls x what the step e gives, and the first that gives nothing, or a reason, is what it comes to.
 
 The words of the library mean what one expects:
 
@@ -93,7 +93,7 @@ SECTIONS = [
     ),
     (
         "The field-by-field least cost",
-        "The multi-field composition of the Razor papers: one field at a time, the cheapest list of prefixes.",
+        "The multi-field composition of the Razor papers: one field at a time, the cheapest list of prefixes. They take lists that decide every header. Here a list may leave headers undecided, and where it does, that costs an entry (`miss`) as a decision does: a list without rules costs 1. An entry that isn't needed is left out later.",
         [("field_boxes", "prefix"), ("field_boxes", "Headline.Prefix"), ("table_compose", "Headline.LeastCost")],
     ),
     (
