@@ -38,7 +38,8 @@ class Switch:
         self.run("ovsdb-tool", "create", "conf.db", SCHEMA)
         self.begin("ovsdb-server", "--remote=punix:db.sock", "--unixctl=db.ctl", "conf.db")
         self.wait_for("db.sock")
-        self.run("ovs-vsctl", "--db=unix:db.sock", "--no-wait", "init")
+        # The socket is there a moment before anyone listens to it.
+        self.run("ovs-vsctl", "--db=unix:db.sock", "--retry", f"--timeout={SECONDS}", "--no-wait", "init")
         self.begin("ovs-vswitchd", "--enable-dummy=override", "--disable-system", f"--unixctl={self.folder}/switch.ctl", "unix:db.sock")
         self.wait_for("switch.ctl")
         bridge = ("set", "bridge", "br0", "datapath-type=dummy", "fail-mode=secure", "protocols=OpenFlow13")
