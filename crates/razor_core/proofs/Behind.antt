@@ -1,9 +1,8 @@
 -- A command ends as what stands behind its turns does.
 use Rattle.std.proofs.Common.{◌≡◌, ◌∙◌, ℕ, List, [], ◌∷◌, inl, inr, refl, subst, sym}
-use Rattle.std.specs.Prelude.{◌⊎◌, Bool, true, false, Ok, Err, OnErr, OnOk, Option, Result}
+use Rattle.std.specs.Prelude.{◌⊎◌, Bool, true, false, Ok, Err, Option, Result}
 use Rattle.std.specs.Io.KnownBytes.{Appends, Keeps}
-use Rattle.razor_base.specs.Faults.{Rose}
-use Rattle.razor_base.specs.Output.{AppendsFront}
+use Rattle.razor_base.specs.Output.{Writes}
 use Rattle.razor_base.specs.declared.failure.Failed.{Failed}
 use Rattle.razor_core.specs.Behind.{Defines, DefinesFront, EndsOver, IsEndOfWrite, IsLast, LeftBy}
 use Rattle.razor_core.specs.Deciding.{EndsInTurn, IsStopOf}
@@ -87,20 +86,19 @@ abbrev pub said : List ℕ → Outcome
 said text = record { yes = true; text = text; line = [] }
 
 -- the outcome is written so, of a command that says nothing
-pub written_over : {command : Meaning} {values : List Value} {before after : Option (List ℕ)} {old new : ℕ} {wrote : Result (Unit {0}) Failed} {ending : Ending} (text : List ℕ) → IsFree command values →
-    command.gives values (said text) → command.says [] → OnOk wrote (Appends before after text) → OnErr wrote (AppendsFront before after text) → OnErr wrote (Rose old new) → IsEndOfWrite wrote ending →
-    EndsOver command values before after old new ending
-written_over {command = command} {values = values} {before = before} {after = after} {old = old} {new = new} {wrote = Ok done} text free gives says ok err rose is =
-    subst (EndsOver command values before after old new) (sym is) (says, record { outcome = said text; free = inl free; gives = gives; answered = refl; lined = refl; has = ok })
-written_over {command = command} {values = values} {before = before} {after = after} {old = old} {new = new} {wrote = Err failed} text free gives says ok err rose is =
-    subst (EndsOver command values before after old new) (sym is) (rose, record { outcome = said text; free = inl free; gives = inl gives; written = err })
+pub written_over : {S : Type 0} {written : S → Option (List ℕ)} {faults : S → ℕ} {before after : S} {text : List ℕ} {wrote : Result (Unit {0}) Failed} (command : Meaning) (values : List Value) (ending : Ending) → Writes written faults before after text wrote →
+    IsFree command values → command.gives values (said text) → command.says [] → IsEndOfWrite wrote ending → EndsOver command values (written before) (written after) (faults before) (faults after) ending
+written_over {written = written} {faults = faults} {before = before} {after = after} {text = text} {wrote = Ok none} command values ending writes free gives says is =
+    subst (EndsOver command values (written before) (written after) (faults before) (faults after)) (sym is) (says, record { outcome = said text; free = inl free; gives = gives; answered = refl; lined = refl; has = writes.ok })
+written_over {written = written} {faults = faults} {before = before} {after = after} {text = text} {wrote = Err failed} command values ending writes free gives says is =
+    subst (EndsOver command values (written before) (written after) (faults before) (faults after)) (sym is) (writes.failed, record { outcome = said text; free = inl free; gives = inl gives; written = writes.err })
 
 left_still : (writes : Writing) (command : Meaning) (values : List Value) (before after : Option (List ℕ)) → ((writes ≡ in_turn) → ⊥) → Keeps before after → LeftBy writes command values before after
 left_still at_the_end command values before after whole keeps = keeps
 left_still by_lines command values before after whole keeps = inl keeps
 left_still in_turn command values before after whole keeps = absurd (whole refl)
 
-module _ {command : Meaning} {values : List Value} {before after : Option (List ℕ)} {old new : ℕ} {Is : List ℕ → Type 0} (plain : IsPlain command) (free : IsFree command values) (says : command.says [])
+module _ (command : Meaning) (values : List Value) (before after : Option (List ℕ)) (old new : ℕ) {Is : List ℕ → Type 0} (plain : IsPlain command) (free : IsFree command values) (says : command.says [])
     (gives : (text : List ℕ) → Is text → command.gives values (said text)) where
   text_done : (summary : Summary) → summary ≡ Nothing → (text : List ℕ) → Is text → Appends before after text → EndsOver command values before after old new (Done summary)
   text_done summary is text right written =

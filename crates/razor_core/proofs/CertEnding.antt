@@ -1,6 +1,6 @@
 -- How a command ends that writes the certificate of a list and a table, behind its turns.
 use Rattle.std.proofs.Common.{◌≡◌, ℕ, zero, suc, List, [], ◌∷◌, Some, None, inl, inr, refl, subst, sym}
-use Rattle.std.specs.Prelude.{true, false, Option, map, slice_get}
+use Rattle.std.specs.Prelude.{◌⊎◌, true, false, Option, map, slice_get}
 use Rattle.std.specs.Io.KnownBytes.{Appends, Keeps}
 use Rattle.razor_base.specs.Output.{AppendsFront}
 use Rattle.field_boxes.specs.Alike.{IsFirstDifference}
@@ -88,7 +88,7 @@ module _ (first second : List ℕ) (list : RuleList) (table : Table) where
   gives_certificate : (rows : List Statement) → IsCertificate list table rows → command.gives values (certificate_outcome (certificate_text rows))
   gives_certificate rows is = inl (certificate_text rows, record { checks = record { list = list; table = table; rules_are = refl; entries_are = refl }; rows = rows; certificate = is; spelled = refl }, refl)
 
-  module _ {before after : Option (List ℕ)} where
+  module _ (before after : Option (List ℕ)) where
     pub certified : (count : ℕ) → ArePrefixes table.entries.items → IsWritten list table before after count → Defines command values (Appends before after) true []
     certified count are w = record { outcome = certificate_outcome (certificate_text w.rows); free = inl (free are); gives = gives_certificate w.rows w.certificate; answered = refl; lined = refl; has = w.appended }
 
@@ -102,3 +102,7 @@ module _ (first second : List ℕ) (list : RuleList) (table : Table) where
     pub differs_so_far : (header : List ℕ) → ArePrefixes table.entries.items → IsFirstDifference (name_decided list) (name_answered table) header →
         AppendsFront before after (differ_line header (name_decided list header) (name_answered table header)) → DefinesFront command values before after
     differs_so_far header are is written = record { outcome = difference_outcome header; free = inl (free are); gives = inl (gives_difference header is); written = written }
+
+    pub certified_or_kept : ArePrefixes table.entries.items → Keeps before after ⊎ IsCut list table before after → Keeps before after ⊎ DefinesFront command values before after
+    certified_or_kept are (inl keeps) = inl keeps
+    certified_or_kept are (inr w) = inr (certified_so_far are w)

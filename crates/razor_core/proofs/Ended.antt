@@ -104,9 +104,9 @@ pub record IsPlain (command : Meaning) : Type 0 where
   pub reads : command.read_by_no ≡ command.inputs
 
 -- the turn of the only input is ended, and nothing was written
-pub only_turn_ends : {command : Meaning} {before after : Outside} {ending : Ending} (input : Input) → IsPlain command → command.inputs ≡ input ∷ [] → Keeps before.written after.written → after.write_faults ≡ before.write_faults →
+pub only_turn_ends : {command : Meaning} (before after : Outside) (ending : Ending) (input : Input) → IsPlain command → command.inputs ≡ input ∷ [] → Keeps before.written after.written → after.write_faults ≡ before.write_faults →
     EndsTurn input (before.remaining input.name) (after.remaining input.name) (before.read_faults input.name) (after.read_faults input.name) ending → Ends command before after ending
-only_turn_ends {command = command} {before = before} {after = after} {ending = ending} input plain is keeps calm h =
+only_turn_ends {command = command} before after ending input plain is keeps calm h =
     turn_ends command before after [] [] input [] ending (record { inputs_are = is; passed = tt; kept = tt })
     (record { keeps = keeps; calm = calm; unread = λ file e tells. plain.unread before after file; pace = λ tells. plain.pace before after }) h
 

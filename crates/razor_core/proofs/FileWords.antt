@@ -12,6 +12,7 @@ use Rattle.razor_core.specs.Headlines.{Adds}
 use Rattle.razor_core.specs.Outside.{Outside}
 use Rattle.razor_core.specs.Promise.{KeepsPromise, KeepsPromiseOf, Promise}
 use Rattle.razor_core.proofs.Headlines.{made}
+use Rattle.razor_core.proofs.WordLengths.{whole_words}
 use Rattle.razor_core.specs.Commands.{meaning}
 use Rattle.razor_core.specs.Make.{making}
 
@@ -40,7 +41,7 @@ module _ (words : List (List ℕ)) (before after : Outside) (Heard : List ℕ �
           table = h.2.2.2;
           spelled = h.1;
           text = h.2.2.4.written;
-          decides = record { slot = meets.slot; answers = meets.answers; tight = meets.tight };
+          decides = record { slot = meets.slot; words = whole_words h.2.2.2.entries meets.prefixes; answers = meets.answers; tight = meets.tight };
           few = meets.few;
           least = meets.composed;
         },
@@ -58,7 +59,7 @@ module _ (words : List (List ℕ)) (before after : Outside) (Heard : List ℕ �
           order = h.2.2.0;
           spelled = h.1;
           text = h.2.2.4.written;
-          decides = record { slot = meets.slot; answers = meets.answers; tight = meets.tight };
+          decides = record { slot = meets.slot; words = whole_words h.2.2.2.entries meets.prefixes; answers = meets.answers; tight = meets.tight };
           few = meets.few;
           least = meets.composed;
           best = h.2.2.1;
@@ -76,7 +77,7 @@ module _ (words : List (List ℕ)) (before after : Outside) (Heard : List ℕ �
           table = h.2.2.2;
           spelled = h.1;
           text = h.2.2.4.written;
-          decides = record { slot = meets.slot; answers = meets.answers; tight = meets.tight };
+          decides = record { slot = meets.slot; words = whole_words h.2.2.2.entries meets.prefixes; answers = meets.answers; tight = meets.tight };
           count = meets.composed;
           few = meets.within;
           prefixes = meets.prefixes;

@@ -127,9 +127,9 @@ module _ {command : Meaning} {before after : Outside} {line : List ℕ} (is : Ke
         b.1,
         record {
           outcome = done.outcome;
-          gives = subst (λ (vs : List Value). command.gives vs done.outcome) values done.gives;
+          gives = subst (λ (vs : List Value). command.gives vs done.outcome) {y = one_make a.0 ∷ two_make b.0 ∷ []} values done.gives;
           yes = done.answered;
-          free = subst (λ (vs : List Value). IsFree command vs ⊎ command.goes_on) values done.pass.free;
+          free = subst (λ (vs : List Value). IsFree command vs ⊎ command.goes_on) {y = one_make a.0 ∷ two_make b.0 ∷ []} values done.pass.free;
           written = done.written;
         },
       )

@@ -126,8 +126,8 @@ module _ (before after : Outside) (line : List ℕ) where
   pub equal : (left right first second : List ℕ) → KeepsPromise (comparing left right) before after line 0 → before.remaining left ≡ Some first → before.remaining right ≡ Some second → AreEqualLists first second
   equal left right first second is known also =
       let h = two_gave is (list_input left) (list_input right) refl (listed left first) (listed right second) known also in
-      let gave = h.2.2.2 in
-      record { left = h.0; right = h.2.0; left_spelled = h.1; right_spelled = h.2.1; alike = alike_by h.0.rules h.2.0.rules gave.outcome gave.gives gave.yes }
+      let gave = h.4 in
+      record { left = h.0; right = h.2; left_spelled = h.1; right_spelled = h.3; alike = alike_by h.0.rules h.2.rules gave.outcome gave.gives gave.yes }
 
   shown_by : (rules : FilterList) (entries : Table) (text : List ℕ) (outcome : Outcome) → Certifies rules entries text outcome → outcome.yes ≡ true → AreAlike (source_of rules.rules) (answer entries.entries)
   shown_by rules entries text outcome (inl h) agreed = h.1.alike
@@ -147,7 +147,7 @@ module _ (before after : Outside) (line : List ℕ) where
       let last_two = in_front one.rest two.rest (lines_value (bytes_at before certificate) ∷ three.rest) two.value (table_value also_read.0) two.values_are also_read.2
       (in_front two.rest three.rest three.rest three.value (lines_value (bytes_at before certificate)) three.values_are lines refl) in
       let values = in_front done.values one.rest (table_value also_read.0 ∷ lines_value (bytes_at before certificate) ∷ three.rest) one.value (list_value read.0) one.values_are read.2 last_two in
-      let gives = subst (λ (vs : List Value). (checking list table certificate).gives vs done.outcome) values done.gives in
+      let gives = subst (λ (vs : List Value). (checking list table certificate).gives vs done.outcome) {y = list_value read.0 ∷ table_value also_read.0 ∷ lines_value (bytes_at before certificate) ∷ three.rest} values done.gives in
       record { list = read.0; table = also_read.0; list_spelled = read.1; table_spelled = also_read.1; alike = shown_by read.0 also_read.0 (bytes_at before certificate) done.outcome gives done.answered }
 
   certificate_by : (rules : FilterList) (entries : Table) (outcome : Outcome) → Writes rules entries outcome → outcome.yes ≡ true → IsCertificateOf rules entries outcome.text
@@ -157,15 +157,15 @@ module _ (before after : Outside) (line : List ℕ) where
   pub certified : (list table first second : List ℕ) → KeepsPromise (certifying list table) before after line 0 → before.remaining list ≡ Some first → before.remaining table ≡ Some second → Adds before after (IsCertified first second)
   certified list table first second is known also =
       let h = two_gave is (list_input list) (table_input table) refl (listed list first) (tabled table second) known also in
-      let gave = h.2.2.2 in
-      (gave.outcome.text, gave.written, record { list = h.0; table = h.2.0; list_spelled = h.1; table_spelled = h.2.1; certificate = certificate_by h.0 h.2.0 gave.outcome gave.gives gave.yes })
+      let gave = h.4 in
+      (gave.outcome.text, gave.written, record { list = h.0; table = h.2; list_spelled = h.1; table_spelled = h.3; certificate = certificate_by h.0 h.2 gave.outcome gave.gives gave.yes })
 
   pub answered : (table trace first second : List ℕ) → KeepsPromise (tracing table trace) before after line 0 → before.remaining table ≡ Some first → before.remaining trace ≡ Some second → Adds before after (IsAnswered first second)
   answered table trace first second is known also =
       let taken : Result (List ℕ) Stop = Ok second in
       let h = two_gave is (table_input table) (trace_input trace) refl (tabled table first) (lines_of (trace_input trace) second taken refl refl) known also in
-      let gave = h.2.2.2 in
-      (gave.outcome.text, gave.written, record { table = h.0; table_spelled = h.1; answers = ap (λ (o : Outcome). o.text) gave.gives ∙ ap (λ (bytes : List ℕ). answers_text h.0 (taken_of bytes).headers) (same_text taken second h.2.0 refl h.2.1) })
+      let gave = h.4 in
+      (gave.outcome.text, gave.written, record { table = h.0; table_spelled = h.1; answers = ap (λ (o : Outcome). o.text) gave.gives ∙ ap (λ (bytes : List ℕ). answers_text h.0 (taken_of bytes).headers) (same_text taken second h.2 refl h.3) })
 
   pub migrated : (file text : List ℕ) → KeepsPromise (migrating file) before after line 0 → before.remaining file ≡ Some text → Adds before after (IsMigrated text)
   migrated file text is known =
@@ -243,5 +243,5 @@ module _ (before after : Outside) (line : List ℕ) where
       Adds before after (IsEdited slots sizes first second)
   edited slots sizes script list first second is known also =
       let h = two_gave is (session_input script) (list_input list) refl (sessioned script first) (listed list second) known also in
-      let gave = h.2.2.2 in
-      (gave.outcome.text, gave.written, record { events = h.0; list = h.2.0; outcome = gave.outcome; session_spelled = h.1; list_spelled = h.2.1; edits = gave.gives; lines = refl })
+      let gave = h.4 in
+      (gave.outcome.text, gave.written, record { events = h.0; list = h.2; outcome = gave.outcome; session_spelled = h.1; list_spelled = h.3; edits = gave.gives; lines = refl })

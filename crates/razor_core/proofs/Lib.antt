@@ -23,4 +23,5 @@ pub mod Gave
 pub mod Headlines
 pub mod StateLines
 pub mod AnsweredBoxes
+pub mod WordLengths
 pub mod FileWords

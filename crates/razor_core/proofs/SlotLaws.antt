@@ -79,17 +79,17 @@ module _ (before after : Outside) (line : List ℕ) where
       Adds before after (IsPatchText first second)
   patched memory table first second is known also =
       let h = two_gave is (memory_input memory) (table_input table) refl (remembered memory first) (tabled table second) known also in
-      let gave = h.2.2.2 in
+      let gave = h.4 in
       let gives = gave.gives in
-      let fits = patch_free memory table h.0 h.2.0 gave.free in (
+      let fits = patch_free memory table h.0 h.2 gave.free in (
         gave.outcome.text,
         gave.written,
         record {
           memory = h.0;
-          table = h.2.0;
+          table = h.2;
           plan = gives.0;
           memory_spelled = h.1;
-          table_spelled = h.2.1;
+          table_spelled = h.3;
           reads_back = gives.2.spells;
           leads = gives.1;
           width = fits.0;
@@ -101,15 +101,15 @@ module _ (before after : Outside) (line : List ℕ) where
       Adds before after (IsAppliedText first second)
   applied_by memory plan first second is known also =
       let h = two_gave is (memory_input memory) (plan_input plan) refl (remembered memory first) (planned plan second) known also in
-      let gave = h.2.2.2 in (
+      let gave = h.4 in (
         gave.outcome.text,
         gave.written,
         record {
           memory = h.0;
-          plan = h.2.0;
+          plan = h.2;
           memory_spelled = h.1;
-          plan_spelled = h.2.1;
+          plan_spelled = h.3;
           reads_back = gave.gives.0.spells;
-          fits = apply_free memory plan h.0 h.2.0 gave.free;
+          fits = apply_free memory plan h.0 h.2 gave.free;
         },
       )

@@ -1,6 +1,7 @@
 //! `patch`: a plan that leads from a memory to a table.
 ghost use Rattle.std.specs.Prelude.{◌≢◌, ℕ, List, [], ◌∷◌};
 ghost use Rattle.std.specs.Io.KnownBytes.{Keeps};
+ghost use Rattle.memory_text.specs.Kept.{AreSpelled};
 ghost use Rattle.razor_core.specs.Behind.{EndsOver};
 ghost use Rattle.razor_core.specs.Ending.{Ends};
 ghost use Rattle.razor_core.specs.Outside.{seen};
@@ -49,6 +50,7 @@ fn patch_over<'a, K: Sink>(
     file: &'a str,
     out: &mut K,
 ) -> Ending<'a>
+    requires { AreSpelled table.now.names }
     ensures { (first : List ℕ) → EndsOver (patching first file.now) (memory_value_of memory ∷ table_value_of table.now ∷ [])
         (K.written out.old) (K.written out.new) (K.faults out.old) (K.faults out.new) result }
 {

@@ -1,6 +1,7 @@
-use Rattle.std.proofs.Common.{List, refl, ℕ}
+use Rattle.std.proofs.Common.{List, [], refl, ℕ, ◌∷◌}
 use Rattle.razor_core.specs.Audit.{auditing}
 use Rattle.razor_core.specs.Inputs.{list_input}
+use Rattle.razor_core.specs.Outside.{seen}
 use Rattle.razor_core.specs.Taking.{value_of}
 use Rattle.razor_core.proofs.Behind.{over_ends, text_over}
 use Rattle.razor_core.proofs.Ended.{IsPlain, only_turn_ends}
@@ -12,10 +13,14 @@ plain : (file : List ℕ) → IsPlain (auditing file)
 plain file = record { unread = λ before after file. tt; pace = λ before after. tt; whole = λ e. cc; reads = refl }
 
 pub returns-in-Err-clause-ends : goal.returns-in-Err-clause-ends
-returns-in-Err-clause-ends g c = only_turn_ends (list_input c.args.file.now) (plain c.args.file.now) refl (kept (g.K.Sink.written c.args.out.now)) refl c.in-Err.ensures.turn
+returns-in-Err-clause-ends g c =
+    let before = seen g.D.Desk.remaining g.D.Desk.faults g.K.Sink.written g.K.Sink.faults c.args.desk.now c.args.out.now in
+    let after = seen g.D.Desk.remaining g.D.Desk.faults g.K.Sink.written g.K.Sink.faults c.take.new.desk c.args.out.now in
+    only_turn_ends before after c.in-Err.ending (list_input c.args.file.now) (plain c.args.file.now) refl (kept (g.K.Sink.written c.args.out.now)) refl c.in-Err.ensures.turn
 
 pub returns-clause-ends : goal.returns-clause-ends
 returns-clause-ends g c =
-    let file = c.args.file.now in
-    over_ends (one_passes (list_input file) (value_of c.in-Ok.list) (plain file) refl c.in-Ok.ensures.turn) c.answer_audit.result
-    (text_over (plain file) (λ stop later. later) refl (λ text right. record { text = right; yes = refl; line = refl }) c.answer_audit.result c.answer_audit.ensures)
+    let before = seen g.D.Desk.remaining g.D.Desk.faults g.K.Sink.written g.K.Sink.faults c.args.desk.now c.args.out.now in
+    let after = seen g.D.Desk.remaining g.D.Desk.faults g.K.Sink.written g.K.Sink.faults c.take.new.desk c.answer_audit.new.out in
+    over_ends (one_passes before after (list_input c.args.file.now) (value_of c.in-Ok.list) (plain c.args.file.now) refl c.in-Ok.ensures.turn) c.answer_audit.result
+    (text_over (auditing c.args.file.now) (value_of c.in-Ok.list ∷ []) before.written after.written before.write_faults after.write_faults (plain c.args.file.now) (λ stop later. later) refl (λ text right. record { text = right; yes = refl; line = refl }) c.answer_audit.result c.answer_audit.ensures)

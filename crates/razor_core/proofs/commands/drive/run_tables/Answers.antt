@@ -79,7 +79,7 @@ returns-in-Err-new-clause-ends g c =
     let taken = subst (λ (n : ℕ). TakesTurn (script_input n script) (start script) (between script) (script_value events)) (sym count_is) c.in-Ok.ensures.turn in
     let before = seen g.D.Desk.remaining g.D.Desk.faults g.K.Sink.written g.K.Sink.faults c.args.desk.now c.args.out.now in
     let after = seen g.D.Desk.remaining g.D.Desk.faults g.K.Sink.written g.K.Sink.faults c.take_tables.new.desk c.args.out.now in
-    let added = c.in_default-take_tables.ensures.taken in
+    let added = c.in_default.ensures.taken in
     let still = kept (g.K.Sink.written c.args.out.now) in (
       refl,
       (λ tells. (inl still, tt)),
@@ -99,7 +99,7 @@ pub drive_on-ended-requires : goal.drive_on-ended-requires
 drive_on-ended-requires g c =
     let rest = c.args.files.now in
     let files = texts rest in
-    let added = c.in_default-take_tables.ensures.taken in
+    let added = c.in_default.ensures.taken in
     let count = length-map rest (λ (word : Bor (List ℕ)). word.now) in
     let tables = ap length (c.deref.ensures.value ∙ added.2 ∙ ap (λ (ts : List Table). ts ++ added.0) c.new-tables.ensures.items) in
     let same : length rest ≡ length c.deref.result.now = sym count ∙ sym (taken_length files (g.D.Desk.remaining c.take.new.desk) (g.D.Desk.remaining c.take_tables.new.desk) added.0 added.1) ∙ sym tables in
@@ -120,7 +120,7 @@ returns-clause-ends g c =
     let events = c.in-Ok.script in
     let taken = subst (λ (n : ℕ). TakesTurn (script_input n script) (start script) (between script) (script_value events)) (sym count_is) c.in-Ok.ensures.turn in
     let after = seen g.D.Desk.remaining g.D.Desk.faults g.K.Sink.written g.K.Sink.faults c.take_tables.new.desk c.drive_on-ended.new.out in
-    let added = c.in_default-take_tables.ensures.taken in
+    let added = c.in_default.ensures.taken in
     let tables_are : c.deref.result.now ≡ added.0 = c.deref.ensures.value ∙ added.2 ∙ ap (λ (ts : List Table). ts ++ added.0) c.new-tables.ensures.items in
     let last = c.drive_on-ended.new.swapper.state in
     let state_is = c.new-swapper.ensures.state ∙ ap (λ slots_held. unsettled (length slots_held)) c.in-Ok-new.ensures.empty ∙ ap unsettled (length-replicate slots None) in

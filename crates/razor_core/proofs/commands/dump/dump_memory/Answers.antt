@@ -1,27 +1,34 @@
-use Rattle.std.proofs.Common.{List, refl, subst, ℕ}
+use Rattle.std.proofs.Common.{List, [], refl, subst, ℕ, ◌∷◌}
 use Rattle.ternary_words.specs.Headline.Table.{Table}
 use Rattle.ternary_words.specs.Headline.TableText.{table_text}
 use Rattle.ternary_words.specs.Views.{table_of}
 use Rattle.table_text.proofs.TableTexts.{table-read}
 use Rattle.razor_core.specs.Dump.{dumping}
 use Rattle.razor_core.specs.Inputs.{memory_input}
-use Rattle.razor_core.specs.Outcome.{IsTextOf}
+use Rattle.razor_core.specs.Outside.{seen}
 use Rattle.razor_core.specs.Taking.{memory_value_of}
 use Rattle.razor_core.proofs.Behind.{over_ends, written_over}
 use Rattle.razor_core.proofs.Ended.{IsPlain, only_turn_ends}
 use Rattle.razor_core.proofs.Passing.{one_passes}
 use Rattle.razor_core.proofs.Turns.{kept}
+use Rattle.razor_core.specs.Outcome.{IsTextOf}
 use Rattle.razor_core.proofs.commands.dump.dump_memory.Goals as goal
 
 plain : (file : List ℕ) → IsPlain (dumping file)
 plain file = record { unread = λ before after file. tt; pace = λ before after. tt; whole = λ e. cc; reads = refl }
 
 pub returns-in-Err-clause-ends : goal.returns-in-Err-clause-ends
-returns-in-Err-clause-ends g c = only_turn_ends (memory_input c.args.file.now) (plain c.args.file.now) refl (kept (g.K.Sink.written c.args.out.now)) refl c.in-Err.ensures.turn
+returns-in-Err-clause-ends g c =
+    let before = seen g.D.Desk.remaining g.D.Desk.faults g.K.Sink.written g.K.Sink.faults c.args.desk.now c.args.out.now in
+    let after = seen g.D.Desk.remaining g.D.Desk.faults g.K.Sink.written g.K.Sink.faults c.take.new.desk c.args.out.now in
+    only_turn_ends before after c.in-Err.ending (memory_input c.args.file.now) (plain c.args.file.now) refl (kept (g.K.Sink.written c.args.out.now)) refl c.in-Err.ensures.turn
 
 pub returns-clause-ends : goal.returns-clause-ends
 returns-clause-ends g c =
+    let before = seen g.D.Desk.remaining g.D.Desk.faults g.K.Sink.written g.K.Sink.faults c.args.desk.now c.args.out.now in
+    let after = seen g.D.Desk.remaining g.D.Desk.faults g.K.Sink.written g.K.Sink.faults c.take.new.desk c.write_table.new.out in
     let made = c.in-Ok-table_in.table in
     let text : IsTextOf (table_of made) (table_text (table_of made)) = record { written = refl; spells = table-read made c.in-Ok-table_in.ensures.spelled } in
-    over_ends (one_passes (memory_input c.args.file.now) (memory_value_of c.in-Ok.memory) (plain c.args.file.now) refl c.in-Ok.ensures.turn) c.written.result
-    (written_over (table_text (table_of made)) (λ stop later. later) (subst (λ (t : Table). IsTextOf t (table_text (table_of made))) c.in-Ok-table_in.ensures.table text, refl, refl) refl c.write_table.ensures.ok c.write_table.ensures.err c.write_table.ensures.failed c.written.ensures)
+    over_ends (one_passes before after (memory_input c.args.file.now) (memory_value_of c.in-Ok.memory) (plain c.args.file.now) refl c.in-Ok.ensures.turn) c.written.result
+    (written_over (dumping c.args.file.now) (memory_value_of c.in-Ok.memory ∷ []) c.written.result c.write_table.ensures (λ stop later. later)
+    (subst (λ (t : Table). IsTextOf t (table_text (table_of made))) c.in-Ok-table_in.ensures.table text, refl, refl) refl c.written.ensures)

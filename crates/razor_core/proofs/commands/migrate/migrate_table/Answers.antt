@@ -1,9 +1,8 @@
-use Rattle.std.proofs.Common.{List, refl, ℕ}
-use Rattle.ternary_words.specs.Headline.TableText.{table_text}
-use Rattle.ternary_words.specs.Views.{table_of}
+use Rattle.std.proofs.Common.{List, [], refl, ℕ, ◌∷◌}
 use Rattle.table_text.proofs.TableTexts.{table-read}
-use Rattle.razor_core.specs.Inputs.{table_input}
 use Rattle.razor_core.specs.Migrate.{migrating}
+use Rattle.razor_core.specs.Inputs.{table_input}
+use Rattle.razor_core.specs.Outside.{seen}
 use Rattle.razor_core.specs.Taking.{table_value_of}
 use Rattle.razor_core.proofs.Behind.{over_ends, written_over}
 use Rattle.razor_core.proofs.Ended.{IsPlain, only_turn_ends}
@@ -15,10 +14,15 @@ plain : (file : List ℕ) → IsPlain (migrating file)
 plain file = record { unread = λ before after file. tt; pace = λ before after. tt; whole = λ e. cc; reads = refl }
 
 pub returns-in-Err-clause-ends : goal.returns-in-Err-clause-ends
-returns-in-Err-clause-ends g c = only_turn_ends (table_input c.args.file.now) (plain c.args.file.now) refl (kept (g.K.Sink.written c.args.out.now)) refl c.in-Err.ensures.turn
+returns-in-Err-clause-ends g c =
+    let before = seen g.D.Desk.remaining g.D.Desk.faults g.K.Sink.written g.K.Sink.faults c.args.desk.now c.args.out.now in
+    let after = seen g.D.Desk.remaining g.D.Desk.faults g.K.Sink.written g.K.Sink.faults c.take.new.desk c.args.out.now in
+    only_turn_ends before after c.in-Err.ending (table_input c.args.file.now) (plain c.args.file.now) refl (kept (g.K.Sink.written c.args.out.now)) refl c.in-Err.ensures.turn
 
 pub returns-clause-ends : goal.returns-clause-ends
 returns-clause-ends g c =
+    let before = seen g.D.Desk.remaining g.D.Desk.faults g.K.Sink.written g.K.Sink.faults c.args.desk.now c.args.out.now in
+    let after = seen g.D.Desk.remaining g.D.Desk.faults g.K.Sink.written g.K.Sink.faults c.take.new.desk c.write_table.new.out in
     let table = c.in-Ok.table in
-    over_ends (one_passes (table_input c.args.file.now) (table_value_of table) (plain c.args.file.now) refl c.in-Ok.ensures.turn) c.written.result
-    (written_over (table_text (table_of table)) (λ stop later. later) (record { written = refl; spells = table-read table c.in-Ok.ensures.holds }, refl, refl) refl c.write_table.ensures.ok c.write_table.ensures.err c.write_table.ensures.failed c.written.ensures)
+    over_ends (one_passes before after (table_input c.args.file.now) (table_value_of table) (plain c.args.file.now) refl c.in-Ok.ensures.turn) c.written.result
+    (written_over (migrating c.args.file.now) (table_value_of table ∷ []) c.written.result c.write_table.ensures (λ stop later. later) (record { written = refl; spells = table-read table c.in-Ok.ensures.holds }, refl, refl) refl c.written.ensures)

@@ -1,11 +1,12 @@
-use Rattle.std.proofs.Common.{◌≡◌, ◌<◌, ◌≤◌, ◌∙◌, arith, length, refl, rules, subst, sym}
+use Rattle.std.proofs.Common.{[], ◌∷◌, ◌≡◌, ◌<◌, ◌≤◌, ◌∙◌, arith, length, refl, rules, subst, sym}
 use Rattle.std.proofs.lemmas.List.{length-map}
 use Rattle.ternary_words.specs.Views.{table_of}
-use Rattle.memory_text.specs.MemoryText.{plan_text}
 use Rattle.memory_text.specs.Patched.{IsPatched}
 use Rattle.memory_text.specs.Views.{memory_of, plan_of}
 use Rattle.memory_text.specs.declared.patching.Patched.TheVariants.{NoRoom, Ready}
 use Rattle.memory_text.proofs.Texts.{plan-read}
+use Rattle.razor_core.specs.Patch.{patching}
+use Rattle.razor_core.specs.Taking.{memory_value_of, table_value_of}
 use Rattle.razor_core.proofs.Behind.{written_over}
 use Rattle.razor_core.proofs.SlotEnding.{leads_free}
 use Rattle.razor_core.proofs.Turns.{kept}
@@ -30,8 +31,8 @@ returns g c = λ first.
     let table = c.args.table.now in
     let plan = c.in-Ok-Ready.plan in
     let planned : IsPatched (memory_of m) (table_of table) (Ready plan) = subst (IsPatched (memory_of m) (table_of table)) c.in-Ok-Ready.field-0-is c.in-Ok-Ready.ensures in
-    written_over (plan_text (plan_of plan)) (leads_free first c.args.file.now m table (search rules) planned.1) (plan_of plan, planned.0, record { written = refl; spells = plan-read plan }, refl, refl)
-    refl c.write_plan.ensures.ok c.write_plan.ensures.err c.write_plan.ensures.failed c.written.ensures
+    written_over (patching first c.args.file.now) (memory_value_of m ∷ table_value_of table ∷ []) c.written.result c.write_plan.ensures (leads_free first c.args.file.now m table (search rules) planned.1) (plan_of plan, planned.0, record { written = refl; spells = plan-read plan }, refl, refl)
+    refl c.written.ensures
 
 pub returns-in-Err : goal.returns-in-Err
 returns-in-Err g c = λ first. (refl, kept (g.K.Sink.written c.args.out.now))

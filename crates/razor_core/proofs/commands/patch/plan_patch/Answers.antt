@@ -1,6 +1,7 @@
 use Rattle.std.proofs.Common.{List, refl, sym, ℕ}
 use Rattle.razor_core.specs.Patch.{patching}
 use Rattle.razor_core.specs.Inputs.{memory_input, table_input}
+use Rattle.razor_core.specs.Outside.{seen}
 use Rattle.razor_core.specs.Taking.{memory_value_of, table_value_of}
 use Rattle.razor_core.proofs.Behind.{over_ends}
 use Rattle.razor_core.proofs.Ended.{IsPlain}
@@ -15,19 +16,25 @@ pub returns-in-Err-clause-ends : goal.returns-in-Err-clause-ends
 returns-in-Err-clause-ends g c =
     let first = c.args.files.first.now in
     let second = c.args.files.second.now in
-    first_turn_ends (memory_input first) (table_input second) (plain first second) refl (kept (g.K.Sink.written c.args.out.now)) refl (c.in-Err.ensures.others second (λ e. c.args.files.apart (sym e))) c.in-Err.ensures.turn
+    let before = seen g.D.Desk.remaining g.D.Desk.faults g.K.Sink.written g.K.Sink.faults c.args.desk.now c.args.out.now in
+    let after = seen g.D.Desk.remaining g.D.Desk.faults g.K.Sink.written g.K.Sink.faults c.take.new.desk c.args.out.now in
+    first_turn_ends before after (memory_input first) (table_input second) (plain first second) refl c.in-Err.ending (kept before.written) refl (c.in-Err.ensures.others second (λ e. c.args.files.apart (sym e))) c.in-Err.ensures.turn
 
 pub returns-in-Err-take-clause-ends : goal.returns-in-Err-take-clause-ends
 returns-in-Err-take-clause-ends g c =
     let first = c.args.files.first.now in
     let second = c.args.files.second.now in
-    second_turn_ends (memory_input first) (table_input second) (plain first second) refl (memory_value_of c.in-Ok.memory) (kept (g.K.Sink.written c.args.out.now)) refl
+    let before = seen g.D.Desk.remaining g.D.Desk.faults g.K.Sink.written g.K.Sink.faults c.args.desk.now c.args.out.now in
+    let after = seen g.D.Desk.remaining g.D.Desk.faults g.K.Sink.written g.K.Sink.faults c.take-2.new.desk c.args.out.now in
+    second_turn_ends before after (memory_input first) (table_input second) (plain first second) refl c.in-Err-take.ending (g.D.Desk.remaining c.take.new.desk) (g.D.Desk.faults c.take.new.desk) (memory_value_of c.in-Ok.memory) (kept before.written) refl
     c.in-Ok.ensures.turn (c.in-Ok.ensures.others second (λ e. c.args.files.apart (sym e))) (c.in-Ok.ensures.counts second) c.in-Err-take.ensures.turn
 
 pub returns-clause-ends : goal.returns-clause-ends
 returns-clause-ends g c =
     let first = c.args.files.first.now in
     let second = c.args.files.second.now in
-    over_ends (both_pass (memory_input first) (table_input second) (plain first second) refl (memory_value_of c.in-Ok.memory) (table_value_of c.in-Ok-take.table)
+    let before = seen g.D.Desk.remaining g.D.Desk.faults g.K.Sink.written g.K.Sink.faults c.args.desk.now c.args.out.now in
+    let after = seen g.D.Desk.remaining g.D.Desk.faults g.K.Sink.written g.K.Sink.faults c.take-2.new.desk c.patch_over.new.out in
+    over_ends (both_pass before after (memory_input first) (table_input second) (plain first second) refl (g.D.Desk.remaining c.take.new.desk) (memory_value_of c.in-Ok.memory) (table_value_of c.in-Ok-take.table)
     c.in-Ok.ensures.turn (c.in-Ok-take.ensures.others first c.args.files.apart) (c.in-Ok.ensures.others second (λ e. c.args.files.apart (sym e))) c.in-Ok-take.ensures.turn)
     c.patch_over.result (c.patch_over.ensures first)

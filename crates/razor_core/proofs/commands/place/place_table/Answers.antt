@@ -1,35 +1,47 @@
-use Rattle.std.proofs.Common.{◌≡◌, ◌≤◌, ◌∙◌, List, length, refl, rules, subst, sym, ℕ}
+use Rattle.std.proofs.Common.{List, [], length, refl, rules, subst, sym, ℕ, ◌∙◌, ◌∷◌, ◌≡◌, ◌≤◌}
 use Rattle.std.proofs.lemmas.List.{length-map}
 use Rattle.memory_text.specs.Memory.{Memory}
 use Rattle.memory_text.specs.MemoryText.{memory_text}
 use Rattle.memory_text.specs.Views.{memory_of}
 use Rattle.memory_text.proofs.Texts.{memory-read}
+use Rattle.razor_core.specs.Place.{placing}
 use Rattle.razor_core.specs.Inputs.{table_input}
-use Rattle.razor_core.specs.Place.{IsTextOfMemory, placing}
+use Rattle.razor_core.specs.Outside.{seen}
 use Rattle.razor_core.specs.Taking.{table_value_of}
-use Rattle.razor_core.specs.declared.ending.Ending.TheVariants.{Memory as Short, TooMany}
 use Rattle.razor_core.proofs.Behind.{over_ends, written_over}
 use Rattle.razor_core.proofs.Ended.{IsPlain, only_turn_ends}
 use Rattle.razor_core.proofs.Passing.{one_passes}
-use Rattle.razor_core.proofs.SlotEnding.{room_free}
 use Rattle.razor_core.proofs.Turns.{kept}
+use Rattle.razor_core.specs.Place.{IsTextOfMemory}
+use Rattle.razor_core.specs.declared.ending.Ending.TheVariants.{TooMany}
+use Rattle.razor_core.proofs.SlotEnding.{room_free}
 use Rattle.razor_core.proofs.commands.place.place_table.Goals as goal
 
 plain : (slots : ℕ) (file : List ℕ) → IsPlain (placing slots file)
 plain slots file = record { unread = λ before after file. tt; pace = λ before after. tt; whole = λ e. cc; reads = refl }
 
+pub returns-in-Err-clause-ends : goal.returns-in-Err-clause-ends
+returns-in-Err-clause-ends g c =
+    let before = seen g.D.Desk.remaining g.D.Desk.faults g.K.Sink.written g.K.Sink.faults c.args.desk.now c.args.out.now in
+    let after = seen g.D.Desk.remaining g.D.Desk.faults g.K.Sink.written g.K.Sink.faults c.take.new.desk c.args.out.now in
+    only_turn_ends before after c.in-Err.ending (table_input c.args.file.now) (plain c.args.slots.count c.args.file.now) refl (kept (g.K.Sink.written c.args.out.now)) refl c.in-Err.ensures.turn
+
 pub returns-then-len-slots-clause-ends : goal.returns-then-len-slots-clause-ends
 returns-then-len-slots-clause-ends g c =
+    let before = seen g.D.Desk.remaining g.D.Desk.faults g.K.Sink.written g.K.Sink.faults c.args.desk.now c.args.out.now in
+    let after = seen g.D.Desk.remaining g.D.Desk.faults g.K.Sink.written g.K.Sink.faults c.take.new.desk c.args.out.now in
     let entries = c.in-Ok.table.entries.items in
     let same : c.len-then-len-slots.result ≡ length entries = search rules in
-    over_ends (one_passes (table_input c.args.file.now) (table_value_of c.in-Ok.table) (plain c.args.slots.count c.args.file.now) refl c.in-Ok.ensures.turn) (TooMany c.len-then-len-slots.result c.args.slots.count)
+    over_ends (one_passes before after (table_input c.args.file.now) (table_value_of c.in-Ok.table) (plain c.args.slots.count c.args.file.now) refl c.in-Ok.ensures.turn) (TooMany c.len-then-len-slots.result c.args.slots.count)
     ((same ∙ sym (length-map entries _), refl, search rules), (refl, search rules), kept (g.K.Sink.written c.args.out.now))
 
 pub returns-clause-ends : goal.returns-clause-ends
 returns-clause-ends g c =
+    let before = seen g.D.Desk.remaining g.D.Desk.faults g.K.Sink.written g.K.Sink.faults c.args.desk.now c.args.out.now in
+    let after = seen g.D.Desk.remaining g.D.Desk.faults g.K.Sink.written g.K.Sink.faults c.take.new.desk c.write_memory.new.out in
     let made = memory_of c.in-Ok-spread.memory in
     let entries = c.in-Ok.table.entries.items in
     let read : IsTextOfMemory made (memory_text made) = record { written = refl; spells = memory-read c.in-Ok-spread.memory } in
-    over_ends (one_passes (table_input c.args.file.now) (table_value_of c.in-Ok.table) (plain c.args.slots.count c.args.file.now) refl c.in-Ok.ensures.turn) c.written.result
-    (written_over (memory_text made) (room_free c.args.slots.count c.args.file.now c.in-Ok.table (subst (λ n. n ≤ c.args.slots.count) (sym (length-map entries _)) (search rules)))
-    (subst (λ (m : Memory). IsTextOfMemory m (memory_text made)) c.in-Ok-spread.ensures read, refl, refl) refl c.write_memory.ensures.ok c.write_memory.ensures.err c.write_memory.ensures.failed c.written.ensures)
+    over_ends (one_passes before after (table_input c.args.file.now) (table_value_of c.in-Ok.table) (plain c.args.slots.count c.args.file.now) refl c.in-Ok.ensures.turn) c.written.result
+    (written_over (placing c.args.slots.count c.args.file.now) (table_value_of c.in-Ok.table ∷ []) c.written.result c.write_memory.ensures (room_free c.args.slots.count c.args.file.now c.in-Ok.table (subst (λ n. n ≤ c.args.slots.count) (sym (length-map entries _)) (search rules)))
+    (subst (λ (m : Memory). IsTextOfMemory m (memory_text made)) c.in-Ok-spread.ensures read, refl, refl) refl c.written.ensures)

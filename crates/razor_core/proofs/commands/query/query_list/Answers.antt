@@ -1,8 +1,11 @@
-use Rattle.std.proofs.Common.{List, refl, ℕ}
+use Rattle.std.proofs.Common.{List, [], refl, ℕ, ◌∷◌}
+use Rattle.std.specs.Prelude.{Option}
 use Rattle.command_words.specs.Questions.{name_in}
+use Rattle.field_boxes.specs.Headline.Classifier.{Interval}
 use Rattle.field_boxes.specs.Spans.{intervals_of}
-use Rattle.razor_core.specs.Inputs.{list_input}
 use Rattle.razor_core.specs.Query.{querying}
+use Rattle.razor_core.specs.Inputs.{list_input}
+use Rattle.razor_core.specs.Outside.{seen}
 use Rattle.razor_core.specs.Taking.{value_of}
 use Rattle.razor_core.proofs.Behind.{over_ends, text_over}
 use Rattle.razor_core.proofs.Ended.{IsPlain, only_turn_ends}
@@ -10,13 +13,19 @@ use Rattle.razor_core.proofs.Passing.{one_passes}
 use Rattle.razor_core.proofs.Turns.{kept}
 use Rattle.razor_core.proofs.commands.query.query_list.Goals as goal
 
+plain : (file : List ℕ) (box : List Interval) (name : Option (List ℕ)) → IsPlain (querying file box name)
+plain file box name = record { unread = λ before after file. tt; pace = λ before after. tt; whole = λ e. cc; reads = refl }
+
 pub returns-in-Err-clause-ends : goal.returns-in-Err-clause-ends
 returns-in-Err-clause-ends g c =
-    only_turn_ends (list_input c.args.question.list.now) (record { unread = λ before after file. tt; pace = λ before after. tt; whole = λ e. cc; reads = refl }) refl (kept (g.K.Sink.written c.args.out.now)) refl c.in-Err.ensures.turn
+    let before = seen g.D.Desk.remaining g.D.Desk.faults g.K.Sink.written g.K.Sink.faults c.args.desk.now c.args.out.now in
+    let after = seen g.D.Desk.remaining g.D.Desk.faults g.K.Sink.written g.K.Sink.faults c.take.new.desk c.args.out.now in
+    only_turn_ends before after c.in-Err.ending (list_input c.args.question.list.now) (plain c.args.question.list.now (intervals_of c.args.question.spans) (name_in c.args.question.decision.now)) refl (kept (g.K.Sink.written c.args.out.now)) refl c.in-Err.ensures.turn
 
 pub returns-clause-ends : goal.returns-clause-ends
 returns-clause-ends g c =
-    let question = c.args.question in
-    let plain : IsPlain (querying question.list.now (intervals_of question.spans) (name_in question.decision.now)) = record { unread = λ before after file. tt; pace = λ before after. tt; whole = λ e. cc; reads = refl } in
-    over_ends (one_passes (list_input question.list.now) (value_of c.in-Ok.list) plain refl c.in-Ok.ensures.turn) c.answer_question.result
-    (text_over plain (λ stop later. later) refl (λ text right. record { text = right; yes = refl; line = refl }) c.answer_question.result c.answer_question.ensures)
+    let before = seen g.D.Desk.remaining g.D.Desk.faults g.K.Sink.written g.K.Sink.faults c.args.desk.now c.args.out.now in
+    let after = seen g.D.Desk.remaining g.D.Desk.faults g.K.Sink.written g.K.Sink.faults c.take.new.desk c.answer_question.new.out in
+    let asked = plain c.args.question.list.now (intervals_of c.args.question.spans) (name_in c.args.question.decision.now) in
+    over_ends (one_passes before after (list_input c.args.question.list.now) (value_of c.in-Ok.list) asked refl c.in-Ok.ensures.turn) c.answer_question.result
+    (text_over (querying c.args.question.list.now (intervals_of c.args.question.spans) (name_in c.args.question.decision.now)) (value_of c.in-Ok.list ∷ []) before.written after.written before.write_faults after.write_faults asked (λ stop later. later) refl (λ text right. record { text = right; yes = refl; line = refl }) c.answer_question.result c.answer_question.ensures)

@@ -1,29 +1,35 @@
-use Rattle.std.proofs.Common.{List, refl, subst, sym, ℕ}
-use Rattle.ternary_words.specs.Headline.TableText.{table_text}
+use Rattle.std.proofs.Common.{List, [], refl, subst, sym, ℕ, ◌∷◌}
 use Rattle.ternary_words.specs.Views.{table_of}
 use Rattle.table_text.proofs.TableTexts.{table-read}
-use Rattle.razor_core.specs.Inputs.{table_input}
-use Rattle.razor_core.specs.Taking.{table_value_of}
 use Rattle.razor_core.specs.Trim.{trimming}
-use Rattle.razor_core.specs.declared.ending.Ending.TheVariants.{BadLine, Memory}
+use Rattle.razor_core.specs.Inputs.{table_input}
+use Rattle.razor_core.specs.Outside.{seen}
+use Rattle.razor_core.specs.Taking.{table_value_of}
 use Rattle.razor_core.proofs.Behind.{over_ends, written_over}
-use Rattle.razor_core.proofs.CertEnding.{first_other}
 use Rattle.razor_core.proofs.Ended.{IsPlain, only_turn_ends}
 use Rattle.razor_core.proofs.Passing.{one_passes}
+use Rattle.razor_core.proofs.Turns.{kept}
+use Rattle.razor_core.specs.declared.ending.Ending.TheVariants.{BadLine, Memory}
+use Rattle.razor_core.specs.declared.line_reason.LineReason.TheVariants.{NotPrefix}
+use Rattle.razor_core.proofs.CertEnding.{first_other}
 use Rattle.razor_core.proofs.SpelledNames.{AreSpelled}
 use Rattle.razor_core.proofs.TrimEnding.{free}
-use Rattle.razor_core.proofs.Turns.{kept}
 use Rattle.razor_core.proofs.commands.trim.trim_table.Goals as goal
 
 plain : (file : List ℕ) → IsPlain (trimming file)
 plain file = record { unread = λ before after file. tt; pace = λ before after. tt; whole = λ e. cc; reads = refl }
 
 pub returns-in-Err-clause-ends : goal.returns-in-Err-clause-ends
-returns-in-Err-clause-ends g c = only_turn_ends (table_input c.args.file.now) (plain c.args.file.now) refl (kept (g.K.Sink.written c.args.out.now)) refl c.in-Err.ensures.turn
+returns-in-Err-clause-ends g c =
+    let before = seen g.D.Desk.remaining g.D.Desk.faults g.K.Sink.written g.K.Sink.faults c.args.desk.now c.args.out.now in
+    let after = seen g.D.Desk.remaining g.D.Desk.faults g.K.Sink.written g.K.Sink.faults c.take.new.desk c.args.out.now in
+    only_turn_ends before after c.in-Err.ending (table_input c.args.file.now) (plain c.args.file.now) refl (kept (g.K.Sink.written c.args.out.now)) refl c.in-Err.ensures.turn
 
 pub returns-in-Some-clause-ends : goal.returns-in-Some-clause-ends
 returns-in-Some-clause-ends g c =
-    over_ends (one_passes (table_input c.args.file.now) (table_value_of c.in-Ok.table) (plain c.args.file.now) refl c.in-Ok.ensures.turn) (BadLine _ _ _)
+    let before = seen g.D.Desk.remaining g.D.Desk.faults g.K.Sink.written g.K.Sink.faults c.args.desk.now c.args.out.now in
+    let after = seen g.D.Desk.remaining g.D.Desk.faults g.K.Sink.written g.K.Sink.faults c.take.new.desk c.args.out.now in
+    over_ends (one_passes before after (table_input c.args.file.now) (table_value_of c.in-Ok.table) (plain c.args.file.now) refl c.in-Ok.ensures.turn) (BadLine c.args.file _ NotPrefix)
     ((refl, (c.in-Some.place, first_other c.in-Ok.table c.in-Some.place (rw c.deref.ensures.value at c.in-Some.ensures), refl)), refl, kept (g.K.Sink.written c.args.out.now))
 
 pub trimmed-requires : goal.trimmed-requires
@@ -31,12 +37,16 @@ trimmed-requires g c = rw c.deref.ensures.value at c.in_default.ensures
 
 pub returns-clause-ends : goal.returns-clause-ends
 returns-clause-ends g c =
+    let before = seen g.D.Desk.remaining g.D.Desk.faults g.K.Sink.written g.K.Sink.faults c.args.desk.now c.args.out.now in
+    let after = seen g.D.Desk.remaining g.D.Desk.faults g.K.Sink.written g.K.Sink.faults c.take.new.desk c.write_table.new.out in
     let made = c.in-Ok-trimmed.table in
-    over_ends (one_passes (table_input c.args.file.now) (table_value_of c.in-Ok.table) (plain c.args.file.now) refl c.in-Ok.ensures.turn) c.written.result
-    (written_over (table_text (table_of made)) (free c.args.file.now c.in-Ok.table (rw c.deref.ensures.value at c.in_default.ensures))
+    over_ends (one_passes before after (table_input c.args.file.now) (table_value_of c.in-Ok.table) (plain c.args.file.now) refl c.in-Ok.ensures.turn) c.written.result
+    (written_over (trimming c.args.file.now) (table_value_of c.in-Ok.table ∷ []) c.written.result c.write_table.ensures (free c.args.file.now c.in-Ok.table (rw c.deref.ensures.value at c.in_default.ensures))
     (table_of made, c.in-Ok-trimmed.ensures.trimmed, record { written = refl; spells = table-read made (subst AreSpelled (sym c.in-Ok-trimmed.ensures.names) c.in-Ok.ensures.holds) }, refl, refl)
-    refl c.write_table.ensures.ok c.write_table.ensures.err c.write_table.ensures.failed c.written.ensures)
+    refl c.written.ensures)
 
 pub returns-in-Err-trimmed-clause-ends : goal.returns-in-Err-trimmed-clause-ends
 returns-in-Err-trimmed-clause-ends g c =
-    over_ends (one_passes (table_input c.args.file.now) (table_value_of c.in-Ok.table) (plain c.args.file.now) refl c.in-Ok.ensures.turn) Memory (refl, kept (g.K.Sink.written c.args.out.now))
+    let before = seen g.D.Desk.remaining g.D.Desk.faults g.K.Sink.written g.K.Sink.faults c.args.desk.now c.args.out.now in
+    let after = seen g.D.Desk.remaining g.D.Desk.faults g.K.Sink.written g.K.Sink.faults c.take.new.desk c.args.out.now in
+    over_ends (one_passes before after (table_input c.args.file.now) (table_value_of c.in-Ok.table) (plain c.args.file.now) refl c.in-Ok.ensures.turn) Memory (refl, kept (g.K.Sink.written c.args.out.now))
