@@ -54,6 +54,10 @@ def best(command, given=None, status=0, kept=True):
     return min(run[0] for run in runs), min(run[1] for run in runs), texts.pop()
 
 
+# A line of `razor_bench phases`.
+STEP = re.compile(r"(\w+) \d+ nanoseconds (\d+)")
+
+
 class Builds:
     """Times of one diagram of a list, and what every command takes that reads the list."""
 
@@ -64,10 +68,12 @@ class Builds:
         self.bench = bench
         self.start, _, _ = best([razor, "audit", "/dev/null"])
 
-    def timed(self, path, step="diagram"):
-        """The milliseconds of a step of `razor_bench` alone, and those of a process that reads the list and does nothing."""
-        read, both = (best([self.bench, each, self.TIMES], path)[0] / self.TIMES for each in ("read", step))
-        return both - read, self.start + read
+    def timed(self, path, steps=("nodes",)):
+        """The milliseconds of steps of `razor_bench phases`, and those of a process that reads the list and does nothing."""
+        runs = (once([self.bench, "phases", self.TIMES], path)[2] for _ in range(RUNS))
+        found = [line for text in runs for line in STEP.findall(text)]
+        least = {step: min(int(time) for name, time in found if name == step) / 1e6 for step in ("rules", *steps)}
+        return sum(least[step] for step in steps), self.start + least["rules"]
 
 
 def plain(folder, name):

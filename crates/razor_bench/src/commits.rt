@@ -23,8 +23,6 @@ use ternary_words::Table;
 pub enum Way {
     /// The session, which may keep what it worked out.
     Session,
-    /// `compile`, each time anew.
-    Anew,
     /// `compile` and a compiler that keeps what it worked out, one after the other: both must give the same table.
     Both,
 }
@@ -67,14 +65,26 @@ fn commit_often(
     commits: u32,
 ) -> Result<()> {
     let mut compiler = Compiler::new(rt.alloc());
+    commit_over(rt, way, &mut compiler, editor, edits, commits)
+}
+
+/// The same, over a compiler that keeps what it worked out.
+fn commit_over(
+    rt: &(impl Print + CpuClock + AllocGlobal),
+    way: Way,
+    compiler: &mut Compiler,
+    editor: &mut Editor<Bank>,
+    edits: u32,
+    commits: u32,
+) -> Result<()> {
     let mut drawn = Edits {
         numbers: Numbers::new(20),
         turn: 0,
     };
-    commit(rt, way, &mut compiler, editor)?;
+    commit(rt, way, compiler, editor)?;
     for _commit in 0..commits {
         edit_often(editor, &mut drawn, edits)?;
-        commit(rt, way, &mut compiler, editor)?;
+        commit(rt, way, compiler, editor)?;
     }
     Ok(())
 }
@@ -96,7 +106,6 @@ fn commit(
 ) -> Result<()> {
     match way {
         Way::Session => commit_kept(rt, editor),
-        Way::Anew => compile_anew(rt, editor),
         Way::Both => compile_both(rt, compiler, editor),
     }
 }
@@ -118,22 +127,8 @@ fn commit_kept(
     Ok(())
 }
 
-/// Compiles the list anew, and prints how many entries its table has and how long it took.
-fn compile_anew(rt: &(impl Print + CpuClock + AllocGlobal), editor: &Editor<Bank>) -> Result<()> {
-    let start = rt.thread_cpu_time()?;
-    let table = table_of(rt.alloc(), editor)?;
-    let time = rt.thread_cpu_time()?.saturating_sub(start);
-    println!(rt;
-        "rules {} entries {} nanoseconds {}",
-        editor.rules().len(),
-        table.entries.len(),
-        time.as_nanos()
-    )?;
-    Ok(())
-}
-
-/// Compiles the list over what the compiler kept, and right before that anew, which must give the same table. Prints
-/// how many entries it has and how long either took.
+/// Compiles the list anew and right after that over what the compiler kept, which must give the same table. Prints how
+/// many entries it has and how long either took.
 fn compile_both(
     rt: &(impl Print + CpuClock + AllocGlobal),
     compiler: &mut Compiler,
@@ -144,11 +139,7 @@ fn compile_both(
     let middle = rt.thread_cpu_time()?;
     let kept = kept_table(compiler, editor)?;
     let end = rt.thread_cpu_time()?;
-    ensure!(anew.composed == kept.composed, "the costs differ");
-    ensure!(
-        checksum(&anew.entries) == checksum(&kept.entries),
-        "the entries differ"
-    );
+    compare(&anew, &kept)?;
     println!(rt;
         "rules {} entries {} nanoseconds {} anew {}",
         editor.rules().len(),
@@ -156,6 +147,16 @@ fn compile_both(
         end.saturating_sub(middle).as_nanos(),
         middle.saturating_sub(start).as_nanos()
     )?;
+    Ok(())
+}
+
+/// The tables are the same.
+fn compare(anew: &Table, kept: &Table) -> Result<()> {
+    ensure!(anew.composed == kept.composed, "the costs differ");
+    ensure!(
+        checksum(&anew.entries) == checksum(&kept.entries),
+        "the entries differ"
+    );
     Ok(())
 }
 

@@ -10,12 +10,9 @@
 //! razor_bench unions 1000 20
 //! razor_bench crossed 256 20
 //! razor_bench read 20 < LIST
-//! razor_bench diagram 20 < LIST
-//! razor_bench cost 20 < LIST
 //! razor_bench phases 20 < LIST
 //! razor_bench tables 20 < TABLE
 //! razor_bench session 1 1000 < LIST
-//! razor_bench anew 1 100 < LIST
 //! razor_bench both 1 100 < LIST
 //! ```
 //!
@@ -25,13 +22,12 @@
 //! | `nodes`, `plan`, `tally` | diagram nodes, made and asked for |
 //! | `minimise`, `pieces` | cheapest prefix lists |
 //! | `build`, `lists`, `rules`, `access`, `crossed` | diagrams of generated lists |
-//! | `read`, `tables`, `compile`, `phases`, `commits` | lists and tables read, compiled, and committed |
+//! | `read`, `tables`, `phases`, `commits` | lists and tables read, compiled, and committed |
 #![tactic(auto)]
 
 mod access;
 mod build;
 mod commits;
-mod compile;
 mod crossed;
 mod input;
 mod lists;
@@ -56,7 +52,6 @@ fn main(rt: HostRuntime) -> anyhow::Result<()> {
         Work::Build { list, times } => build::run(&rt, list, times),
         Work::Read(times) => read::run(&rt, times),
         Work::Tables(times) => tables::run(&rt, times),
-        Work::Compile { step, times } => compile::run(&rt, step, times),
         Work::Phases(times) => phases::run(&rt, times),
         Work::Commits {
             way,

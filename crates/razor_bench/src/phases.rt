@@ -7,6 +7,7 @@ ghost use Rattle.table_compose.specs.Plans.{ArePlansOf};
 use crate::input::{input, list_of};
 use anyhow::{Result, bail};
 use fdd_build::build;
+use field_boxes::Rule;
 use node_store::{NodeId, Store, stated_order};
 use razor_base::limits::{MOST_ENTRIES, MOST_LIST_BYTES};
 use redundancy::{Removal, TightTable};
@@ -26,19 +27,26 @@ pub fn run(rt: &(impl Files + Input + Print + CpuClock + AllocGlobal), times: u3
     Ok(())
 }
 
-/// Reads the list, builds its diagram, and goes on from there.
+/// Reads the list, and goes on from there.
 fn compile(rt: &(impl Print + CpuClock + AllocGlobal), bytes: &[u8]) -> Result<()> {
     let start = rt.thread_cpu_time()?;
     let list = list_of(rt.alloc(), bytes)?;
-    let time = since(rt, start)?;
-    println!(rt; "rules {} nanoseconds {time}", list.rules.len())?;
-    let start = rt.thread_cpu_time()?;
+    tell(rt, "rules", list.rules.len() as u128, start)?;
     let mut store = Store::new(rt.alloc());
-    let root = build(rt.alloc(), &mut store, &stated_order(), &list.rules)?;
-    let time = since(rt, start)?;
-    println!(rt; "nodes {} nanoseconds {time}", store.count())?;
-    if costed(rt, &store, root)? <= u128::from(MOST_ENTRIES) {
-        tight(rt, &store, root)?;
+    diagram(rt, &mut store, &list.rules)
+}
+
+/// Builds the diagram of the rules, and goes on from there.
+fn diagram(
+    rt: &(impl Print + CpuClock + AllocGlobal),
+    store: &mut Store,
+    rules: &[Rule],
+) -> Result<()> {
+    let start = rt.thread_cpu_time()?;
+    let root = build(rt.alloc(), store, &stated_order(), rules)?;
+    tell(rt, "nodes", store.count() as u128, start)?;
+    if costed(rt, store, root)? <= u128::from(MOST_ENTRIES) {
+        tight(rt, store, root)?;
     }
     Ok(())
 }
@@ -49,8 +57,7 @@ fn costed(rt: &(impl Print + CpuClock + AllocGlobal), store: &Store, root: NodeI
 {
     let start = rt.thread_cpu_time()?;
     let cost = cost(rt.alloc(), store, root)?;
-    let time = since(rt, start)?;
-    println!(rt; "cost {cost} nanoseconds {time}")?;
+    tell(rt, "cost", cost, start)?;
     Ok(cost)
 }
 
@@ -60,13 +67,26 @@ fn tight(rt: &(impl Print + CpuClock + AllocGlobal), store: &Store, root: NodeId
 {
     let start = rt.thread_cpu_time()?;
     let mut plans = planned(rt.alloc(), store, root)?;
-    let time = since(rt, start)?;
-    let RowTally { rows, sum } = RowTally::of(&plans);
-    println!(rt; "rows {rows} checksum {sum} nanoseconds {time}")?;
+    tell_rows(rt, RowTally::of(&plans), start)?;
     let start = rt.thread_cpu_time()?;
     let table = removed(rt.alloc(), store, &mut plans, root)?;
+    tell(rt, "entries", table.entries.len() as u128, start)
+}
+
+/// Prints what came of a step, and its nanoseconds.
+fn tell(rt: &(impl Print + CpuClock), what: &str, number: u128, start: Duration) -> Result<()> {
     let time = since(rt, start)?;
-    println!(rt; "entries {} nanoseconds {time}", table.entries.len())?;
+    println!(rt; "{what} {number} nanoseconds {time}")?;
+    Ok(())
+}
+
+/// Prints the numbers of the prefix lists, and their nanoseconds.
+fn tell_rows(rt: &(impl Print + CpuClock), tally: RowTally, start: Duration) -> Result<()> {
+    let time = since(rt, start)?;
+    println!(rt;
+        "rows {} checksum {} nanoseconds {time}",
+        tally.rows, tally.sum
+    )?;
     Ok(())
 }
 

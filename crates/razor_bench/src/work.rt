@@ -1,7 +1,6 @@
 //! What the words ask for.
 
 use crate::commits::Way;
-use crate::compile::Step;
 use crate::lists::RuleList;
 use anyhow::{Context, Result, bail};
 use std::env;
@@ -20,8 +19,6 @@ pub enum Work {
     Read(u32),
     /// Read the table on standard input, so often.
     Tables(u32),
-    /// Compile the filter list on standard input so far, so often.
-    Compile { step: Step, times: u32 },
     /// Compile the filter list on standard input, so often, and time each step.
     Phases(u32),
     /// Edit the filter list on standard input and commit it, so many edits a commit, so often.
@@ -48,18 +45,11 @@ impl Work {
             }),
             "read" => Ok(Work::Read(size)),
             "tables" => Ok(Work::Tables(size)),
-            "diagram" => Ok(Work::compile(Step::Diagram, size)),
-            "cost" => Ok(Work::compile(Step::Cost, size)),
             "phases" => Ok(Work::Phases(size)),
             "session" => Ok(Work::commits(Way::Session, size, times)),
-            "anew" => Ok(Work::commits(Way::Anew, size, times)),
             "both" => Ok(Work::commits(Way::Both, size, times)),
             _ => bail!("no work is named {name:?}"),
         }
-    }
-
-    fn compile(step: Step, times: u32) -> Work {
-        Work::Compile { step, times }
     }
 
     fn commits(way: Way, edits: u32, commits: u32) -> Work {
@@ -74,7 +64,7 @@ impl Work {
     pub fn of_words(rt: &(impl Env + AllocGlobal)) -> Result<Work> {
         let mut words = env::args(rt)?.skip(1);
         let name = words.next().context(
-            "nodes, minimise, build, unions, crossed, read, tables, diagram, cost, phases, session, anew or both, and a size",
+            "nodes, minimise, build, unions, crossed, read, tables, phases, session or both, and a size",
         )?;
         let size = words.next().context("a size")?;
         let times = match words.next() {
