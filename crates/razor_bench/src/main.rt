@@ -6,9 +6,7 @@
 //! ```text
 //! razor_bench nodes 1000000
 //! razor_bench minimise 100000
-//! razor_bench build 1000 20
-//! razor_bench unions 1000 20
-//! razor_bench crossed 256 20
+//! razor_bench build 20 < LIST
 //! razor_bench read 20 < LIST
 //! razor_bench phases 20 < LIST
 //! razor_bench tables 20 < TABLE
@@ -21,16 +19,13 @@
 //! | `work`, `input`, `numbers` | what the words ask for, the list on standard input, and random numbers |
 //! | `nodes`, `plan`, `tally` | diagram nodes, made and asked for |
 //! | `minimise`, `pieces` | cheapest prefix lists |
-//! | `build`, `lists`, `rules`, `access`, `crossed` | diagrams of generated lists |
+//! | `build` | diagrams of lists |
 //! | `read`, `tables`, `phases`, `commits` | lists and tables read, compiled, and committed |
 #![tactic(auto)]
 
-mod access;
 mod build;
 mod commits;
-mod crossed;
 mod input;
-mod lists;
 mod minimise;
 mod nodes;
 mod numbers;
@@ -38,7 +33,6 @@ mod phases;
 mod pieces;
 mod plan;
 mod read;
-mod rules;
 mod tables;
 mod tally;
 mod work;
@@ -49,7 +43,7 @@ fn main(rt: HostRuntime) -> anyhow::Result<()> {
     match Work::of_words(&rt)? {
         Work::Nodes(count) => nodes::run(&rt, count),
         Work::Minimise(count) => minimise::run(&rt, count),
-        Work::Build { list, times } => build::run(&rt, list, times),
+        Work::Build(times) => build::run(&rt, times),
         Work::Read(times) => read::run(&rt, times),
         Work::Tables(times) => tables::run(&rt, times),
         Work::Phases(times) => phases::run(&rt, times),

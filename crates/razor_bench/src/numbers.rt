@@ -1,7 +1,7 @@
 //! Numbers that look random and are the same each time: the generator splitmix64.
 ghost use Rattle.std.specs.Prelude.{◌<◌};
 
-/// The generator, by Steele, Lea and Flood. `bench/plain/build.rs` has it too.
+/// The generator, by Steele, Lea and Flood.
 #[derive(Clone, Copy, Debug)]
 pub struct Numbers {
     state: u64,

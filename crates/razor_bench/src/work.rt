@@ -1,7 +1,6 @@
 //! What the words ask for.
 
 use crate::commits::Way;
-use crate::lists::RuleList;
 use anyhow::{Context, Result, bail};
 use std::env;
 use std::rt::Env;
@@ -13,8 +12,8 @@ pub enum Work {
     Nodes(u32),
     /// Find the cheapest prefix list of so many pieces.
     Minimise(u32),
-    /// Build the diagram of a list, so often.
-    Build { list: RuleList, times: u32 },
+    /// Build the diagram of the filter list on standard input, so often.
+    Build(u32),
     /// Read the filter list on standard input, so often.
     Read(u32),
     /// Read the table on standard input, so often.
@@ -26,23 +25,12 @@ pub enum Work {
 }
 
 impl Work {
-    /// The work with the name and the size; how often it is done counts for diagrams and commits alone.
+    /// The work with the name and the size; how often it is done counts for commits alone.
     pub fn of(name: &str, size: u32, times: u32) -> Result<Work> {
         match name {
             "nodes" => Ok(Work::Nodes(size)),
             "minimise" => Ok(Work::Minimise(size)),
-            "build" => Ok(Work::Build {
-                list: RuleList::Access(size),
-                times,
-            }),
-            "unions" => Ok(Work::Build {
-                list: RuleList::Unions(size),
-                times,
-            }),
-            "crossed" => Ok(Work::Build {
-                list: RuleList::Crossed(size),
-                times,
-            }),
+            "build" => Ok(Work::Build(size)),
             "read" => Ok(Work::Read(size)),
             "tables" => Ok(Work::Tables(size)),
             "phases" => Ok(Work::Phases(size)),
@@ -64,7 +52,7 @@ impl Work {
     pub fn of_words(rt: &(impl Env + AllocGlobal)) -> Result<Work> {
         let mut words = env::args(rt)?.skip(1);
         let name = words.next().context(
-            "nodes, minimise, build, unions, crossed, read, tables, phases, session or both, and a size",
+            "nodes, minimise, build, read, tables, phases, session or both, and a size",
         )?;
         let size = words.next().context("a size")?;
         let times = match words.next() {
