@@ -16,10 +16,7 @@ RUNS = 3
 
 sys.path.append(str(ROOT / "tools"))
 from building.programs import program
-
-
-def fail(words):
-    sys.exit(f"{pathlib.Path(sys.argv[0]).name}: {words}")
+from calling.script import fail
 
 
 def time_tool():

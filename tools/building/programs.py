@@ -20,7 +20,7 @@ def program(crate, given=None):
 def found(name):
     path = shutil.which(name)
     if path is None:
-        sys.exit(f"there is no program {shown(name)}")
+        raise ValueError(f"there is no program {shown(name)}")
     return os.path.abspath(path)
 
 

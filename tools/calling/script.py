@@ -1,5 +1,7 @@
 """How a script reads its words, and how it ends where it can't go on."""
 import argparse
+import contextlib
+import errno
 import os
 import pathlib
 import re
@@ -8,6 +10,9 @@ import subprocess
 import sys
 
 UNSEEN = re.compile(r"[\x00-\x1f\x7f-\x9f\u2028-\u202e\u2066-\u2069\udc80-\udcff]")
+
+# Signals that end a script, behind what it does at its end.
+STOPPING = (signal.SIGTERM, signal.SIGHUP)
 
 
 def shown(name):
@@ -22,38 +27,98 @@ def escape(code):
     return f"\\x{code:02x}" if code < 0x100 else f"\\u{code:04x}"
 
 
+class Words(argparse.ArgumentParser):
+    """A parser of words, which says of one that is none what is seen of it, and doesn't hide that its help wasn't written."""
+
+    def error(self, message):
+        super().error(shown(message))
+
+    def print_help(self, file=None):
+        print(self.format_help(), end="", file=file)
+
+
 def words(says):
     """A parser of the script's words, which shows what the script says of itself."""
-    return argparse.ArgumentParser(description=says, formatter_class=argparse.RawDescriptionHelpFormatter)
+    return Words(description=says, formatter_class=argparse.RawDescriptionHelpFormatter)
+
+
+class Stopped(BaseException):
+    """A signal came that ends the script, behind what is to be done at its end."""
+
+
+def stop(number, _frame):
+    raise Stopped(number)
 
 
 def run(main):
     """Runs the script. It ends quietly where nobody reads it any more, and says in a line what it couldn't do."""
+    for number in STOPPING:
+        # A call behind `nohup` goes on.
+        if signal.getsignal(number) == signal.SIG_DFL:
+            signal.signal(number, stop)
     try:
         try:
+            expect_open(sys.stdout, "standard output")
             main()
         finally:
-            sys.stdout.flush()
+            if sys.stdout:
+                sys.stdout.flush()
     except BrokenPipeError:
         end_by(signal.SIGPIPE)
     except KeyboardInterrupt:
         end_by(signal.SIGINT)
+    except Stopped as stopped:
+        end_by(*stopped.args)
     except (OSError, ValueError) as fault:
-        fail(said(fault))
+        end(said(fault))
     except subprocess.CalledProcessError as fault:
-        fail(f"{pathlib.Path(fault.cmd[0]).name} ended with {fault.returncode}: {str(fault.stderr or '').strip()}")
+        end(f"{pathlib.Path(fault.cmd[0]).name} ended with {fault.returncode}: {str(fault.stderr or '').strip()}")
+    except SystemExit as ended:
+        if not isinstance(ended.code, str):
+            raise
+        end(ended.code)
+
+
+@contextlib.contextmanager
+def unstopped():
+    """Lets signals that would end the script wait until what is done here is done."""
+    before = signal.pthread_sigmask(signal.SIG_BLOCK, (*STOPPING, signal.SIGINT))
+    try:
+        yield
+    finally:
+        signal.pthread_sigmask(signal.SIG_SETMASK, before)
+
+
+def given():
+    """The standard input, as text."""
+    expect_open(sys.stdin, "standard input")
+    sys.stdin.reconfigure(encoding="ascii", errors="replace")
+    return sys.stdin
+
+
+def expect_open(stream, name):
+    if stream is None:
+        raise OSError(errno.EBADF, os.strerror(errno.EBADF), name)
 
 
 def said(fault):
     """What a fault says: what the system couldn't do, and with which file."""
     if isinstance(fault, OSError) and fault.strerror:
-        return ": ".join([*(shown(name) for name in [fault.filename] if name is not None), fault.strerror])
+        names = [fault.filename] if fault.filename is not None else []
+        return ": ".join([*(shown(os.fsdecode(name) if isinstance(name, bytes) else name) for name in names), fault.strerror])
     return str(fault)
 
 
 def fail(why):
+    """Ends the script, which says why."""
+    raise SystemExit(why)
+
+
+def end(why):
+    """Ends with what is wrong, of which nothing is obeyed by a terminal."""
     drop_output()
-    sys.exit(f"{pathlib.Path(sys.argv[0]).name}: {why}")
+    lines = map(shown, f"{pathlib.Path(sys.argv[0]).name}: {why}".rstrip("\n").split("\n"))
+    sys.exit("\n".join(lines))
 
 
 def end_by(number):
@@ -65,4 +130,4 @@ def end_by(number):
 
 def drop_output():
     """Gives up what wasn't written yet: it can't be."""
-    os.dup2(os.open(os.devnull, os.O_WRONLY), sys.stdout.fileno())
+    os.dup2(os.open(os.devnull, os.O_WRONLY), 1)

@@ -8,7 +8,6 @@ import re
 import shutil
 import socket
 import subprocess
-import sys
 import time
 
 from packets.headers import WITH_PORTS
@@ -54,13 +53,13 @@ class Switch:
         until = time.monotonic() + SECONDS
         while not os.path.exists(f"{self.folder}/{name}"):
             if time.monotonic() > until or self.running[-1].poll() is not None:
-                sys.exit(f"the switch doesn't start:\n{pathlib.Path(self.folder, 'log').read_text()}")
+                raise ValueError(f"the switch doesn't start:\n{pathlib.Path(self.folder, 'log').read_text()}")
             time.sleep(0.05)
 
     def run(self, *words, given=None):
         ended = subprocess.run(words, cwd=self.folder, env=self.environment, input=given, capture_output=True, text=True)
         if ended.returncode != 0:
-            sys.exit(f"{' '.join(words)} ended with {ended.returncode}: {ended.stderr}")
+            raise ValueError(f"{' '.join(words)} ended with {ended.returncode}: {ended.stderr}")
         return ended.stdout
 
     def clear(self):
@@ -82,7 +81,7 @@ class Switch:
         said = self.asked("ofproto/trace", "br0", packet)
         found = FLOW.search(said)
         if found is None and not NO_FLOW.search(said):
-            sys.exit(f"ofproto/trace says no flow:\n{said}")
+            raise ValueError(f"ofproto/trace says no flow:\n{said}")
         return int(found[1], 16) if found else 0
 
     def asked(self, method, *words):
@@ -97,7 +96,7 @@ class Switch:
                     answer = json.loads(text)
                     break
         if answer["error"]:
-            sys.exit(f"{method} {' '.join(words)}: {answer['error']}")
+            raise ValueError(f"{method} {' '.join(words)}: {answer['error']}")
         return answer["result"]
 
     def stop(self):

@@ -5,7 +5,6 @@ built by what has been gone through; of the type of commands only the constructo
 """
 import collections
 import functools
-import sys
 
 from specifications.antt import Place
 
@@ -108,7 +107,7 @@ class Promise:
         for place in self.cited.all(definition):
             if place in owners and is_it(owners[place]):
                 return owners[place]
-        sys.exit(f"{definition.place.name} cites no definition of {what}")
+        raise ValueError(f"{definition.place.name} cites no definition of {what}")
 
     @functools.cached_property
     def methods(self):

@@ -1,12 +1,11 @@
 """Tries the built program on random cases, one after another, each drawn from a seed and its number alone."""
 import collections
 import random
-import sys
 import tempfile
 
 from building import programs
 from calling.razor import Razor
-from calling.script import words
+from calling.script import fail, words
 
 
 class Wrong(Exception):
@@ -36,5 +35,5 @@ def try_all(given, trial):
             try:
                 trial(Razor(program, folder), random.Random(f"{given.seed}/{case}"), seen)
             except Wrong as wrong:
-                sys.exit(f"{wrong}\nThis is case {case} of seed {given.seed}: --seed {given.seed} --case {case}")
+                fail(f"{wrong}\nThis is case {case} of seed {given.seed}: --seed {given.seed} --case {case}")
     return len(cases), seen
