@@ -5,7 +5,9 @@ proves and builds.
 """
 import pathlib
 import re
+import resource
 import shutil
+import signal
 import subprocess
 import sys
 import tempfile
@@ -14,9 +16,12 @@ import time
 ROOT = pathlib.Path(__file__).resolve().parent.parent
 RUNS = 3
 
+# The statuses of runs that gave what was asked for, or said how many entries that needs.
+ANSWERS = (0, 4)
+
 sys.path.append(str(ROOT / "tools"))
 from building.programs import program
-from calling.script import fail
+from calling.script import fail, shown
 
 
 def time_tool():
@@ -36,7 +41,7 @@ def once(command, given=None, status=0, kept=True):
         ended = subprocess.run(whole, stdin=text, stdout=out, stderr=subprocess.PIPE)
         milliseconds = (time.perf_counter() - start) * 1000
         if ended.returncode != status:
-            fail(f"{command} ends with {ended.returncode}: {ended.stderr.decode()}")
+            script.fail(f"{command} ends with {ended.returncode}: {ended.stderr.decode()}")
         peak = re.search(r"Maximum resident set size \(kbytes\): (\d+)", report.read())
         out.seek(0)
         return milliseconds, int(peak.group(1)) * 1024, out.read().decode()
@@ -53,6 +58,20 @@ def best(command, given=None, status=0, kept=True):
 
 # A line of `razor_bench phases`.
 STEP = re.compile(r"(\w+) \d+ nanoseconds (\d+)")
+
+
+def limited(command, seconds):
+    """The seconds of the processor and the peak memory in bytes of one run that ends well; none where it takes more seconds than these."""
+    with tempfile.NamedTemporaryFile("r") as report:
+        whole = [time_tool(), "-f", "%U %M", "-o", report.name, *map(str, command)]
+        limit = lambda: resource.setrlimit(resource.RLIMIT_CPU, (seconds, seconds + 1))
+        ended = subprocess.run(whole, stdin=subprocess.DEVNULL, stdout=subprocess.DEVNULL, stderr=subprocess.PIPE, preexec_fn=limit)
+        if ended.returncode in (128 + signal.SIGXCPU, 128 + signal.SIGKILL):
+            return None
+        if ended.returncode not in ANSWERS:
+            script.fail(f"{command} ends with {ended.returncode}: {ended.stderr.decode()}")
+        used, peak = report.read().splitlines()[-1].split()
+        return float(used), int(peak) * 1024
 
 
 class Builds:
@@ -82,9 +101,14 @@ def plain(folder, name):
     return path
 
 
+def output(command):
+    """What a script of bench/ writes."""
+    return subprocess.run(list(map(str, command)), capture_output=True, check=True, text=True).stdout
+
+
 def list_text(kind, count):
     """The text of a list of bench/lists."""
-    return subprocess.run([ROOT / "bench/lists", kind, str(count)], capture_output=True, check=True, text=True).stdout
+    return output([ROOT / "bench/lists", kind, count])
 
 
 def drawn_list(folder, kind, count):
@@ -99,7 +123,7 @@ def table(head, rows):
     print("| " + " | ".join(head) + " |")
     print("|" + "---|" * len(head))
     for row in rows:
-        print("| " + " | ".join(row) + " |")
+        print("| " + " | ".join(map(shown, row)) + " |")
 
 
 def megabytes(count):
