@@ -26,7 +26,7 @@ def drawn_hosts(numbers, count):
 def drawn_ranges(numbers):
     """Sixteen ranges that don't touch."""
     ends = sorted(numbers.sample(range(1, 65_535), 32))
-    return " , ".join(f"{low} : {high}" for low, high in zip(ends[::2], ends[1::2]))
+    return ",".join(f"{low}:{high}" for low, high in zip(ends[::2], ends[1::2]))
 
 
 def ranged(count):
