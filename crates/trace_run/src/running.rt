@@ -14,10 +14,14 @@ ghost use Rattle.trace_run.specs.declared.error.TraceError.TheVariants.{ReadFaul
 use crate::error::TraceError;
 use crate::progress::Progress;
 use field_boxes::Decisions;
-use razor_base::limits::{MOST_TRACE_BYTES, PIECE_BYTES};
+use razor_base::limits::MOST_TRACE_BYTES;
 use razor_base::{Desk, Pending, Sink};
 use std::alloc::Global;
 use tcam_sim::Device;
+
+/// The bytes that are asked for at once: fewer than a piece may have, since they lie on the stack beside
+/// the answers that wait.
+const BUFFER_BYTES: usize = 16_384;
 
 /// Puts the answers to the headers of a trace, and answers how many there are.
 #[inline(never)]
@@ -45,7 +49,7 @@ fn put_answers<V: Device, D: Desk, K: Sink>(
     ensures counts { (other : List ℕ) → D.faults desk.old other ≤ D.faults desk.new other }
 {
     let mut progress = Progress::new(alloc);
-    let mut piece = [0; PIECE_BYTES];
+    let mut piece = [0; BUFFER_BYTES];
     let mut room = MOST_TRACE_BYTES as usize;
     'pieces: loop {
         let Ok(count) = desk.read(name, &mut piece) else {
