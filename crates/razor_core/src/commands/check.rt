@@ -14,10 +14,13 @@ use command_words::ThreeFiles;
 use filter_reader::RuleList;
 use partition_check::laws::equal_lists_have_one_verdict;
 use partition_check::{Checker, Stop, Why, Wrong, check_stream};
-use razor_base::limits::{MOST_CERTIFICATE_BYTES, PIECE_BYTES};
+use razor_base::limits::MOST_CERTIFICATE_BYTES;
 use razor_base::{Desk, Failed, Part, Sink, write_parts};
 use std::alloc::Global;
 use ternary_words::Table;
+
+/// The bytes of the buffer through which a certificate is read: it lies on the stack beside the checker.
+const BUFFER_BYTES: usize = 16_384;
 
 /// Writes how many rows a valid certificate has.
 fn write_valid<K: Sink>(rows: u64, out: &mut K) -> Result<(), Failed>
@@ -108,7 +111,7 @@ fn check_rows<'a, D: Desk, K: Sink>(
         result }
     ensures others { (other : List ℕ) → other ≢ file.now → Keeps (D.remaining desk.old other) (D.remaining desk.new other) }
 {
-    let mut buffer = [0; PIECE_BYTES];
+    let mut buffer = [0; BUFFER_BYTES];
     let checker = Checker::any(list, table);
     match check_stream(checker, desk, file, &mut buffer) {
         Ok(rows) => match write_valid(rows, out) {
