@@ -40,6 +40,8 @@ try: ## try the program PROGRAM on random inputs
 	tools/try-patches $(PROGRAM)
 	tools/try-orders $(PROGRAM)
 	tools/try-report $(PROGRAM)
+	tools/try-stack $(PROGRAM)
+	tools/try-tools $(PROGRAM)
 
 gate: ## the merge gate: all proofs, edits, tests and programs, and the documents
 	.ci/run
