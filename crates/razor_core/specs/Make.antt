@@ -49,7 +49,7 @@ MayBeOrderOf (Shorten None) order = order ≡ stated
 MayBeOrderOf (Shorten (Some wanted)) order = MayBeWanted wanted order
 
 -- the method makes so many entries of the rules: those of the expansion, or their field-by-field least cost in its order; a search
--- makes fewer than the expansion, and with an order no more than the lesser of both
+-- makes at most those of the expansion, and with an order at most the lesser of both
 abbrev pub IsNeeded : Method → List (Rule (List ℕ)) → ℕ → Type 0
 IsNeeded Expand rules needed = needed ≡ expanded_count rules
 IsNeeded Compile rules needed = IsLeastCost stated rules needed
