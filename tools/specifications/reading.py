@@ -2,11 +2,11 @@
 
 INTRODUCTION = """# The headline
 
-`tools/headline` writes this page from the sources. The gate fails where it isn't current, where the headline stands on more than 100 definitions, or where one of them stands outside the folders `specs/Headline`.
+`tools/headline` writes this page from the sources. The gate fails where it isn't current, where the headline stands on more than 100 definitions, or where one of the specifications' stands outside the folders `specs/Headline`.
 
 ## What is claimed
 
-For the literal words `compile`, `--`, FILE, whatever FILE is called: where the call ends with status 0, the bytes of FILE spell a filter list, and what was written is the text of a table such that
+For the literal words `compile`, `--`, FILE alone, whatever FILE is called: where the call ends with status 0, the bytes of FILE spell a filter list, and what was written is the text of a table such that
 
 - for every header, the first entry that matches decides what the first rule that matches decides, or nothing where no rule matches;
 - no entry can be left out: without it some header is decided otherwise;
@@ -19,9 +19,9 @@ The theorem is the clause `headline` of the function `razor`, the one call that 
 ensures headline {clause}
 ```
 
-`Appends` says: where the output tells its bytes, they are those of before and then `written`. Beside it stand the clauses `arranged` and `shortened`, which say the like of `arrange -- FILE` and `shorten -- FILE`, and `promise`, for every command and every status ([THEOREMS.md](THEOREMS.md)).
+`Appends`, of the library, says: where the output tells its bytes, they are those of before and then `written`. Beside it stand `arranged` and `shortened`, for `arrange -- FILE` and `shorten -- FILE`, and `promise`, for every command, status and spelling, as `shorten FILE` ([THEOREMS.md](THEOREMS.md)); their definitions aren't on this page.
 
-**Assumed:** the toolchain (prover, compiler, C library), and that the desk and the output tell their bytes; of a real file no contract says what it holds. **Proved:** the clause, over every desk and every output, of the very code that runs over real files, whose streams are tied to the contracts of the standard library. **Tested:** the program over real files, as two compilers build it.
+**Assumed:** the toolchain (prover, compiler, C library), and that the desk and the output tell their bytes. Real files don't, so of them the clause says nothing; THEOREMS has the argument that takes its place. **Proved:** the clause, over every desk and output, of the code that runs over real files. **Tested:** the program over real files.
 
 ## What has to be read
 
@@ -29,7 +29,7 @@ ensures headline {clause}
 
 - A definition has its type and then its clauses; the first clause that fits holds. The words `abbrev`, `unfoldable` and `pub`, which say who may see into it, are left out here.
 - A byte is a number, and a text is a list of them. `[]` is the empty list, and `x ∷ xs` is x in front of xs. `(a, b)` is a pair, with the parts `.0` and `.1`. `λ x. e` is a function. A header is the list of its five values.
-- `(x : A) → P` says that P holds for every x, `(x : A) × P` that there is an x for which P holds, `P × Q` that both hold, `a ≡ b` that both are the same and `a ≢ b` that they aren't; `⊥` never holds, and `Unit` always does. A `record` is what holds of its fields together. `Type 0` is the type of types and of statements; `{{A : Type 0}}` says that A may be any of them, and is left out where the definition is used.
+- `(x : A) → P` says that P holds for every x, `(x : A) × P` that there is an x for which P holds, `P × Q` that both hold, `a ≡ b` that both are the same and `a ≢ b` that they aren't; `⊥` never holds, and `Unit` always does. A `record` is its fields together: data, and what holds of them. To say that it is met is to say that there are such fields. `Type 0` is the type of types and of statements; `{{A : Type 0}}` says that A may be any of them, and is left out where the definition is used.
 - A block of `do` takes the steps in order; `x ← e` calls x what the step e gives, and the first that gives nothing, or a reason, is what it comes to.
 
 The words of the library mean what one expects:
