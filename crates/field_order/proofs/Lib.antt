@@ -10,6 +10,7 @@ pub mod Kept
 pub mod Stays
 pub mod Zipped
 pub mod Rows
+pub mod Blocks
 pub mod Fronted
 pub mod Steps
 pub mod Weighed

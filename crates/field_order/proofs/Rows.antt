@@ -54,19 +54,19 @@ pub edges_kept : (old new : List Node) (id : ℕ) → Grows old new → id < len
 edges_kept old new id g used = ap node_edges (ap (λ nodes. slice_get nodes id) g.gained.1 ∙ growth.kept_place old g.gained.0 id used)
 
 -- a value below those that are filled leads to a node of the level
-child_in : (nodes : List Node) (level : List ℕ) (low v : ℕ) (es : List Edge) → FillBelow low es → LeadTo nodes level es → v < low → level_of nodes (child_of es v) ≡ level
+pub child_in : (nodes : List Node) (level : List ℕ) (low v : ℕ) (es : List Edge) → FillBelow low es → LeadTo nodes level es → v < low → level_of nodes (child_of es v) ≡ level
 child_in nodes level zero v es fill lead h = absurd (omega (arith, h))
 child_in nodes level (suc top) v es fill lead h = chosen (λ n. level_of nodes n ≡ level) top 0 es v (rise_of top es fill) (omega (arith, h)) lead
 
-module _ (first old new : List Node) (level : List ℕ) (f : ℕ) (es : List Edge) (has : HasField level) (field : HasField (f ∷ next_level level)) (s : IsStore first)
-    (full : AreFull (top_of level) es) (nodes : LeadTo first (f ∷ next_level level) es) (g : Grows first old) (k : Grows old new) where
+module _ (first old new : List Node) (level : List ℕ) (f : ℕ) (side : List ℕ) (asked : ℕ → List ℕ → List ℕ) (es : List Edge) (has : HasField level) (field : HasField (f ∷ side)) (s : IsStore first)
+    (full : AreFull (top_of level) es) (nodes : LeadTo first (f ∷ side) es) (g : Grows first old) (k : Grows old new) where
   -- what the rows so far answer, those up to one more value answer
   pub answers_more : (low hi n to : ℕ) (rows more cells : List Edge) → FillBelow low rows → LeadTo old level rows →
-      ((v u : ℕ) (values : List ℕ) → v < low → u ≤ top_of level → answer old (child_of rows v) (u ∷ values) ≡ answer first (child_of (edges_of first (child_of es u)) v) values) →
+      ((v u : ℕ) (values : List ℕ) → v < low → u ≤ top_of level → answer old (child_of rows v) (u ∷ values) ≡ answer first (child_of (edges_of first (child_of es u)) v) (asked u values)) →
       hi ≤ greatest_of f → AllZip (IsCell old low hi) es cells →
-      ((v : ℕ) (values : List ℕ) → v ≤ top_of level → answer new to (v ∷ values) ≡ answer old (child_of cells v) values) →
+      ((u : ℕ) (values : List ℕ) → u ≤ top_of level → answer new to (u ∷ values) ≡ answer old (child_of cells u) (asked u values)) →
       n ≡ suc hi → more ≡ rows ++ record { hi = hi; to = record { 0 = to } } ∷ [] →
-      (v u : ℕ) (values : List ℕ) → v < n → u ≤ top_of level → answer new (child_of more v) (u ∷ values) ≡ answer first (child_of (edges_of first (child_of es u)) v) values
+      (v u : ℕ) (values : List ℕ) → v < n → u ≤ top_of level → answer new (child_of more v) (u ∷ values) ≡ answer first (child_of (edges_of first (child_of es u)) v) (asked u values)
   answers_more low hi n to rows more cells fill lead before high cell made count pushed v u values less inside =
       let e : Edge = record { hi = hi; to = record { 0 = to } } in
       let at = leads_after_push low v rows more e fill (omega (arith, less, count)) pushed in
@@ -79,12 +79,12 @@ module _ (first old new : List Node) (level : List ℕ) (f : ℕ) (es : List Edg
         | inr late ↦
             let here : child_of more v ≡ to = at ∙ ap (λ b. cond b (child_of rows v) to) (le-ltb v low late) in
             let node = child_of es u in
-            let there : level_of first node ≡ f ∷ next_level level = chosen (λ m. level_of first m ≡ f ∷ next_level level) (top_of level) 0 es u (rise_of (top_of level) es full) inside nodes in
-            let used = in_use first node (f ∷ next_level level) (is_level (f ∷ next_level level) field) there in
+            let there : level_of first node ≡ f ∷ side = chosen (λ m. level_of first m ≡ f ∷ side) (top_of level) 0 es u (rise_of (top_of level) es full) inside nodes in
+            let used = in_use first node (f ∷ side) (is_level (f ∷ side) field) there in
             let low_v : v ≤ greatest_of f = omega (arith, less, count, high) in
             let older = (leads_on first node v s (subst HasField (sym there) field) (subst (λ l. v ≤ top_of l) (sym there) low_v)).0 in
             ap (λ c. answer new c (u ∷ values)) here
             ∙ made u values inside
-            ∙ ap (λ c. answer old c values) (sym (row_leads old low hi (top_of level) u v es cells full cell inside late (omega (arith, less, count))) ∙ ap (λ ds. child_of ds v) (edges_kept first old node g used))
-            ∙ g.answers (child_of (edges_of first node) v) values (omega (arith, older, used))
+            ∙ ap (λ c. answer old c (asked u values)) (sym (row_leads old low hi (top_of level) u v es cells full cell inside late (omega (arith, less, count))) ∙ ap (λ ds. child_of ds v) (edges_kept first old node g used))
+            ∙ g.answers (child_of (edges_of first node) v) (asked u values) (omega (arith, older, used))
       ]

@@ -1,17 +1,15 @@
 //! A node with another field of its level in front.
-ghost use Rattle.std.specs.Prelude.{◌≡◌, ◌≢◌, ◌≤◌, ◌∷◌, ℕ, List, IfOk, slice_index_or};
+ghost use Rattle.std.specs.Prelude.{◌≡◌, ◌∷◌, IfOk};
 ghost use Rattle.std.specs.List.{AllZip};
-ghost use Rattle.field_boxes.specs.Fields.{greatest_of};
-ghost use Rattle.node_store.specs.Levels.{HasField, IsLevel, next, top_of};
-ghost use Rattle.node_store.specs.Edges.{AreFull, child_of};
-ghost use Rattle.node_store.specs.Diagram.{level_of, edges_of, answer};
-ghost use Rattle.node_store.specs.Store.{Grows, LeadTo};
+ghost use Rattle.node_store.specs.Levels.{HasField, IsLevel, next};
+ghost use Rattle.node_store.specs.Diagram.{level_of, edges_of};
+ghost use Rattle.node_store.specs.Store.{Grows};
 ghost use Rattle.field_boxes.specs.Orders.{AreDistinct, Has};
 ghost use Rattle.field_order.specs.Fronts.{without, IsFront, IsFrontEdge, AreFronts};
 
 use crate::fronts::{Asked, Fronts};
-use crate::row::{Edges, fill_row};
-use field_boxes::greatest;
+use crate::row::Edges;
+use crate::turning::rows;
 use node_store::{Edge, NodeId, Store};
 use razor_base::Memory;
 use smallvec::SmallVec;
@@ -136,7 +134,7 @@ pub(crate) fn without(alloc: Global, level: &[u8], field: u8) -> Result<Fields, 
 }
 
 /// The field, and these behind it.
-fn before(alloc: Global, field: u8, level: &[u8]) -> Result<Fields, Memory>
+pub(crate) fn before(alloc: Global, field: u8, level: &[u8]) -> Result<Fields, Memory>
     ensures { IfOk result (λ fields. fields.items ≡ field ∷ level.now) }
 {
     let mut fields = SmallVec::new(alloc);
@@ -145,38 +143,4 @@ fn before(alloc: Global, field: u8, level: &[u8]) -> Result<Fields, Memory>
         fields.push(*other)?;
     }
     Ok(fields)
-}
-
-/// The edges of the field to nodes of the level, which lead from each value of its own field where the edges'
-/// node leads from the value of the field.
-fn rows(
-    alloc: Global,
-    store: &mut Store,
-    level: &[u8],
-    field: u8,
-    edges: &[Edge],
-) -> Result<Edges, Memory>
-    requires level { HasField level.now }
-    requires field { HasField (field ∷ next level.now) }
-    requires full { AreFull (top_of level.now) edges.now }
-    requires nodes { LeadTo store.old (field ∷ next level.now) edges.now }
-    ensures full { IfOk result (λ rows. AreFull (greatest_of field) rows.items) }
-    ensures nodes { IfOk result (λ rows. LeadTo store.new level.now rows.items) }
-    ensures answers { IfOk result (λ rows. (v u : ℕ) (values : List ℕ) → v ≤ greatest_of field → u ≤ top_of level.now →
-        answer store.new (child_of rows.items v) (u ∷ values) ≡ answer store.old (child_of (edges_of store.old (child_of edges.now u)) v) values) }
-    ensures grows { Grows store.old store.new }
-{
-    store.same_answers();
-    let top = u64::from(greatest(usize::from(field)));
-    let mut places = vec![in alloc; 0; edges.len()]?;
-    let mut cells = SmallVec::with_capacity(alloc, edges.len())?;
-    let mut rows = SmallVec::new(alloc);
-    let mut filled = 0u64;
-    while filled <= top {
-        let hi = fill_row(store, field, edges, &mut places, &mut cells, filled as u32)?;
-        let to = store.make(level, cells.as_slice())?;
-        rows.push(Edge { hi, to })?;
-        filled = u64::from(hi) + 1;
-    }
-    Ok(rows)
 }

@@ -20,7 +20,7 @@
 //! |---|---|
 //! | `best`, `costing` | the best order, and the cost in one |
 //! | `search`, `worth` | what nodes cost in any order of their fields |
-//! | `front`, `fronts`, `row`, `labels` | a node with another field of its level in front |
+//! | `front`, `fronts`, `turning`, `row`, `labels` | a node with another field of its level in front |
 //! | `order` | orders by their places |
 #![tactic(auto)]
 
@@ -32,6 +32,7 @@ mod labels;
 mod order;
 mod row;
 mod search;
+mod turning;
 mod worth;
 
 pub use best::best_order;

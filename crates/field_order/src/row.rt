@@ -2,13 +2,14 @@
 ghost use Rattle.std.specs.Prelude.{◌≡◌, ◌≤◌, ◌<◌, ◌∷◌, ℕ, List, IfOk, OnOk};
 ghost use Rattle.std.specs.List.{AllZip};
 ghost use Rattle.field_boxes.specs.Fields.{greatest_of};
-ghost use Rattle.node_store.specs.Levels.{HasField};
-ghost use Rattle.node_store.specs.Edges.{AreFull};
+ghost use Rattle.node_store.specs.Levels.{HasField, next, top_of};
+ghost use Rattle.node_store.specs.Edges.{AreFull, child_of};
+ghost use Rattle.node_store.specs.Diagram.{edges_of};
 ghost use Rattle.node_store.specs.Store.{LeadTo};
 ghost use Rattle.field_order.specs.Fronts.{ArePassed, ArePlaces, IsCell, IsEdgeAt};
 
 use field_boxes::greatest;
-use node_store::{Edge, Store};
+use node_store::{Edge, Store, edge_at};
 use razor_base::Memory;
 use smallvec::SmallVec;
 
@@ -67,4 +68,45 @@ fn place_from(edges: &[Edge], from: usize, value: u32) -> usize
         place += 1;
     }
     place
+}
+
+/// Puts edges in place of the row, which lead from each value where the value's cell leads from it.
+pub(crate) fn splice_row(
+    store: &Store,
+    level: &[u8],
+    cells: &[Edge],
+    row: &mut Edges,
+) -> Result<(), Memory>
+    requires level { HasField level.now }
+    requires full { AreFull (top_of level.now) cells.now }
+    requires nodes { LeadTo store.now level.now cells.now }
+    ensures full { OnOk result (AreFull (top_of level.now) row.new.items) }
+    ensures nodes { OnOk result (LeadTo store.now (next level.now) row.new.items) }
+    ensures leads { OnOk result ((u : ℕ) → u ≤ top_of level.now → child_of row.new.items u ≡ child_of (edges_of store.now (child_of cells.now u)) u) }
+{
+    store.same_answers();
+    let top = u64::from(greatest_in(level));
+    row.clear();
+    let mut place = 0;
+    let mut filled = 0u64;
+    while filled <= top {
+        let value = filled as u32;
+        let next = place_from(cells, place, value);
+        let cell = cells[next];
+        let under = store.edges(cell.to);
+        let edge = edge_at(under, value);
+        let hi = cell.hi.min(edge.hi);
+        row.push(Edge { hi, to: edge.to })?;
+        place = next;
+        filled = u64::from(hi) + 1;
+    }
+    Ok(())
+}
+
+/// The greatest value of the level's first field.
+pub(crate) fn greatest_in(level: &[u8]) -> u32
+    requires { HasField level.now }
+    ensures { result ≡ top_of level.now }
+{
+    greatest(usize::from(level[0]))
 }

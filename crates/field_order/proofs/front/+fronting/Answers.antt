@@ -65,7 +65,7 @@ pub crossed-rows-requires : goal.crossed-rows-requires
 crossed-rows-requires t c =
     let r = ready c.args.store.now c.front_edges.new.store c.args.level.now c.as_slice-2.result.now c.args.id.0 c.args.field c.in_ok-edges.edges.items c.as_slice-3.result.now c.same_answers.ensures.store c.requires.at c.requires.level c.requires.apart
     c.requires.other c.requires.has c.in_ok-edges.ensures.grows c.in_ok-edges.ensures.edges (c.as_slice-2.ensures ∙ c.in_ok-lower.ensures) c.as_slice-3.ensures in
-    record { level = r.field; field = r.side; full = r.full; nodes = r.nodes }
+    record { level = r.field; upper = r.upper; field = r.side; full = r.full; nodes = r.nodes }
 
 pub crossed-make-requires : goal.crossed-make-requires
 crossed-make-requires t c =

@@ -12,7 +12,7 @@ use Rattle.fdd_build.proofs.Fills.{full_after}
 use Rattle.field_order.specs.Fronts.{ArePlaces}
 use Rattle.field_order.proofs.Passed.{later, lent}
 use Rattle.field_order.proofs.Rows.{answers_more, lead_later, row_full}
-use Rattle.field_order.proofs.front.rows.Goals as goal
+use Rattle.field_order.proofs.turning.few_rows.Goals as goal
 
 pub fill_row-requires-clause-nodes : goal.fill_row-requires-clause-nodes
 fill_row-requires-clause-nodes c = (
@@ -44,7 +44,7 @@ loop-filled-preserved c =
           (later l.store c.args.edges.now c.fill_row.new.places l.filled c.in_ok-hi.ensures.places new (c.from-filled.result + 1) (omega (arith, low, count)) c.make.ensures.grows
           (λ k d less. in_use l.store (get_or c.args.edges.now k d).to.0 (c.args.field ∷ rest) (is_level (c.args.field ∷ rest) c.requires.field)
           (lead_later first l.store (c.args.field ∷ rest) c.args.edges.now l.invariant.grows (is_level (c.args.field ∷ rest) c.requires.field) c.requires.nodes k d less)));
-      answers = answers_more first l.store new level c.args.field c.args.edges.now c.requires.level c.requires.field c.same_answers.ensures.store c.requires.full c.requires.nodes l.invariant.grows c.make.ensures.grows
+      answers = answers_more first l.store new level c.args.field rest (λ u values. values) c.args.edges.now c.requires.level c.requires.field c.same_answers.ensures.store c.requires.full c.requires.nodes l.invariant.grows c.make.ensures.grows
           l.filled c.in_ok-hi.hi (c.from-filled.result + 1) c.in_ok-to.to.0 l.rows.items c.push.new.self.items c.fill_row.new.cells.items l.invariant.full l.invariant.nodes l.invariant.answers high c.in_ok-hi.ensures.cells
           (subst (λ ds. (v : ℕ) (values : List ℕ) → v ≤ top_of level → answer new c.in_ok-to.to.0 (v ∷ values) ≡ answer l.store (child_of ds v) values) c.as_slice.ensures made.answers) count c.in_ok-push.ensures.ok;
     }

@@ -6,7 +6,7 @@ use Rattle.node_store.specs.Diagram.{edges_of, answer}
 use Rattle.node_store.specs.Store.{Grows, LeadTo}
 use Rattle.fdd_build.specs.Sets.{FillBelow}
 use Rattle.field_order.specs.Fronts.{ArePlaces}
-use Rattle.field_order.proofs.front.rows.Given as goal
+use Rattle.field_order.proofs.turning.few_rows.Given as goal
 
 abbrev pub invariant-loop-filled : goal.invariant-loop-filled
 invariant-loop-filled l = record {
