@@ -1,64 +1,47 @@
--- The answers of the pending table stay.
-use Rattle.std.proofs.Common.{◌≡◌, ◌≢◌, ℕ, ◌+◌, ◌≤◌, ◌==◌, Bool, true, false, cond, List, Option, Some, None, if◌then◌else◌, refl, ap, sym, ◌∙◌, arith, subst, true≢false}
+-- The answers of the new table stay.
+use Rattle.std.proofs.Common.{◌≡◌, ◌≢◌, ℕ, ◌+◌, ◌≤◌, ◌==◌, Bool, true, false, List, Option, Some, None, if◌then◌else◌, refl, ap, sym, ◌∙◌, arith, subst, true≢false}
 use Rattle.std.specs.Prelude.{IfSome}
-use Rattle.bank_update.specs.Machine.{Block, Swap, State, answer, has_turned, is_below, layout, looked, matches, old_or_new, reached_by, moved, settle, stepped, total, with_swap}
-use Rattle.bank_update.specs.Writes.{IsBeside}
-use Rattle.bank_update.specs.Sound.{IsSound, IsUnderway}
+use Rattle.bank_update.specs.Machine.{State, Update, looked, moved, reached_by, settle, stepped, total, with_update}
+use Rattle.bank_update.specs.Plans.{answer_after}
+use Rattle.bank_update.specs.Sound.{IsSound}
+use Rattle.bank_update.specs.Standing.{answer}
 use Rattle.bank_update.specs.Swapping.{KeepsNew, at_stage}
 use Rattle.bank_update.proofs.NextWrites.{underway}
-use Rattle.bank_update.proofs.OldOrNew.{looked-answer, settled_answer, stage_answer}
-use Rattle.bank_update.proofs.Turns.{turned-stays}
+use Rattle.bank_update.proofs.OldOrNew.{looked_with, table-answer}
 
-turned_of : {X : Type 0} (t : Bool) (a b : X) → a ≢ b → cond t a b ≡ a → t ≡ true
-turned_of true a b apart h = refl
-turned_of false a b apart h = absurd (apart (sym h))
+-- what is looked up at a stage
+at_now : (s : State) (u : Update) (values : List ℕ) → s.pending ≡ Some u → looked s values ≡ answer_after s.settled u.plan u.done values
+at_now s u values pending = ap (λ p. looked_with s p values) pending
 
--- where the pending table answers at a stage, it does at a later one
-stays_turned : (s : State) (swap : Swap) (done : ℕ) (back : Bool) (values : List ℕ) → IsBeside (is_below (layout s swap)) (layout s swap) →
-    swap.done ≤ done → done ≤ total s swap → has_turned s swap values ≡ true → looked (at_stage s swap done back) values ≡ answer swap.block values
-stays_turned s swap done back values beside later small turned =
-    stage_answer (at_stage s swap done back) (record { block = swap.block; done = done; back = back }) values beside small
-    ∙ ap (λ t. cond t (answer swap.block values) (answer s.settled values))
-    (turned-stays (is_below (layout s swap)) (layout s swap) (matches values) swap.done done later turned)
-
--- a header that has the pending table's answer, where the settled one's is another
-has_new : (s : State) (swap : Swap) (values : List ℕ) → s.pending ≡ Some swap → IsSound s → answer swap.block values ≢ answer s.settled values →
-    looked s values ≡ answer swap.block values → has_turned s swap values ≡ true
-has_new s swap values pending sound apart h =
-    turned_of (has_turned s swap values) (answer swap.block values) (answer s.settled values) apart
-    (sym (looked-answer s values sound ∙ ap (λ p. old_or_new s p values) pending) ∙ h)
-
-pub stays-new : (s : State) (swap : Swap) (done : ℕ) (back : Bool) (values : List ℕ) → IsSound s → s.pending ≡ Some swap → swap.done ≤ done → done ≤ total s swap →
-    answer swap.block values ≢ answer s.settled values → looked s values ≡ answer swap.block values → looked (at_stage s swap done back) values ≡ answer swap.block values
-stays-new s swap done back values sound pending later small apart h =
-    stays_turned s swap done back values (underway s swap pending sound).beside later small (has_new s swap values pending sound apart h)
+pub stays-new : (s : State) (u : Update) (done : ℕ) (back : Bool) (values : List ℕ) → IsSound s → s.pending ≡ Some u → u.done ≤ done → done ≤ total u →
+    answer u.plan.new values ≢ answer s.settled values → looked s values ≡ answer u.plan.new values → looked (at_stage s u done back) values ≡ answer u.plan.new values
+stays-new s u done back values sound pending later small apart h =
+    (underway s u pending sound).plan.good.stays u.done done values later small apart (sym (at_now s u values pending) ∙ h)
 
 -- when it has settled
-pub settled-new : (s : State) (block : Block) (values : List ℕ) → looked (settle s block) values ≡ answer block values
-settled-new s block values = settled_answer (settle s block) values
+pub settled-new : (u : Update) (values : List ℕ) → looked (settle u) values ≡ answer u.plan.new values
+settled-new u values = table-answer u.plan.new values
 
-keeps_case : (t : Bool) (s : State) (block : Block) (done : ℕ) (values : List ℕ) →
-    let swap : Swap = record { block = block; done = done; back = false } in
-    IsUnderway s swap → has_turned s swap values ≡ true →
-    looked (if t then settle s block else with_swap s (Some (record { block = block; done = done + 1; back = false }))) values ≡ answer block values
-keeps_case true s block done values u turned = settled-new s block values
-keeps_case false s block done values u turned =
-    stays_turned s (record { block = block; done = done; back = false }) (done + 1) false values u.beside (omega arith) (omega (arith, u.left)) turned
+keeps_case : (t : Bool) (s : State) (u : Update) (values : List ℕ) → answer_after s.settled u.plan u.done values ≡ answer u.plan.new values →
+    looked (if t then settle u else with_update s (Some u)) values ≡ answer u.plan.new values
+keeps_case true s u values h = settled-new u values
+keeps_case false s u values h = h
 
-keeps_back : (back : Bool) (s : State) (block : Block) (done : ℕ) (values : List ℕ) →
-    let swap : Swap = record { block = block; done = done; back = back } in
-    s.pending ≡ Some swap → IsSound s → back ≡ false → answer block values ≢ answer s.settled values →
-    looked s values ≡ answer block values → looked (reached_by moved s (Some swap)) values ≡ answer block values
-keeps_back true s block done values pending sound back apart h = absurd (true≢false back)
-keeps_back false s block done values pending sound back apart h =
-    let swap : Swap = record { block = block; done = done; back = false } in
-    keeps_case (done + 1 == total s swap) s block done values (underway s swap pending sound) (has_new s swap values pending sound apart h)
+keeps_back : (back : Bool) (s : State) (u : Update) (values : List ℕ) → u.back ≡ back → s.pending ≡ Some u → IsSound s → back ≡ false →
+    answer u.plan.new values ≢ answer s.settled values → looked s values ≡ answer u.plan.new values → looked (reached_by moved s (Some u)) values ≡ answer u.plan.new values
+keeps_back true s u values is pending sound back apart h = absurd (true≢false back)
+keeps_back false s u values is pending sound back apart h =
+    let next : Update = record { plan = u.plan; done = u.done + 1; back = false } in
+    let way = underway s u pending sound in
+    ap (λ b. looked (reached_by moved s (Some (record { plan = u.plan; done = u.done; back = b }))) values) is
+    ∙ keeps_case (u.done + 1 == total u) s next values
+    (way.plan.good.stays u.done (u.done + 1) values (omega arith) (omega (arith, way.left)) apart (sym (at_now s u values pending) ∙ h))
 
-keeps_new : (s : State) (pending : Option Swap) (values : List ℕ) → s.pending ≡ pending → IsSound s →
-    IfSome pending (λ swap. swap.back ≡ false → answer swap.block values ≢ answer s.settled values →
-    looked s values ≡ answer swap.block values → looked (reached_by moved s pending) values ≡ answer swap.block values)
+keeps_new : (s : State) (pending : Option Update) (values : List ℕ) → s.pending ≡ pending → IsSound s →
+    IfSome pending (λ u. u.back ≡ false → answer u.plan.new values ≢ answer s.settled values →
+    looked s values ≡ answer u.plan.new values → looked (reached_by moved s pending) values ≡ answer u.plan.new values)
 keeps_new s None values is sound = tt
-keeps_new s (Some swap) values is sound = keeps_back swap.back s swap.block swap.done values is sound
+keeps_new s (Some u) values is sound = λ back. keeps_back u.back s u values refl is sound back
 
 pub keeps-new : (s later : State) (values : List ℕ) → IsSound s → later ≡ stepped s → KeepsNew s later values
 keeps-new s later values sound is = subst (λ x. KeepsNew s x values) (sym is) (keeps_new s s.pending values refl sound)

@@ -5,10 +5,13 @@ pub mod Looks
 pub mod Turns
 pub mod Names
 pub mod Found
-pub mod HeldStages
-pub mod NextWrites
 pub mod LookUps
+pub mod Afterwards
+pub mod NextWrites
 pub mod OldOrNew
+pub mod Standings
+pub mod Together
+pub mod WholeSwaps
 pub mod Keeping
 pub mod Ending
 pub mod Driving

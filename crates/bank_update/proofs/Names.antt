@@ -48,7 +48,7 @@ new_named below s p q m h =
     first_named (name_in s p q) q m s.new s.b (s.b + length s.new) refl
     (λ k e low high. ap (λ t. cond t (p e) (q e)) (apart below s k h low high))
 
-named_case : {X Y : Type 0} (f : X → Y) (t : Bool) (x y : X) (v w : Y) → f x ≡ v → f y ≡ w → f (cond t x y) ≡ cond t v w
+pub named_case : {X Y : Type 0} (f : X → Y) (t : Bool) (x y : X) (v w : Y) → f x ≡ v → f y ≡ w → f (cond t x y) ≡ cond t v w
 named_case f true x y v w h k = h
 named_case f false x y v w h k = k
 

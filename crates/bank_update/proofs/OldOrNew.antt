@@ -1,121 +1,107 @@
 -- What a lookup in the slots of a state answers.
-use Rattle.std.proofs.Common.{◌≡◌, ℕ, ◌+◌, ◌-◌, ◌≤◌, ◌<◌, Bool, true, false, cond, List, Option, Some, None, option_map, length, map, refl, ap, sym, ◌∙◌, arith, subst}
-use Rattle.std.specs.Prelude.{option_and_then, IfSome}
-use Rattle.std.proofs.lemmas.List.{length-map}
+use Rattle.std.proofs.Common.{◌≡◌, ◌⊎◌, ◌∷◌, ℕ, suc, ◌≤◌, Bool, true, false, cond, List, [], Option, Some, None, option_map, length, refl, ap, sym, ◌∙◌, arith, subst, inl, inr, true≢false}
+use Rattle.std.specs.Prelude.{option_and_then, find, IfSome}
+use Rattle.std.proofs.lemmas.Slice.Eq.{bytes_eq-Decides}
 use Rattle.field_boxes.specs.Names.{name_at}
+use Rattle.ternary_words.specs.Headline.Table as words
+use Rattle.ternary_words.specs.Limits.{AreNumbered}
+use Rattle.ternary_words.specs.Views.{entry_of}
+use Rattle.ternary_words.specs.declared.entry.Entry.{Entry}
 use Rattle.tcam_sim.specs.Slots.{Stored, look_up, stored}
-use Rattle.bank_update.specs.Banks.{first_from, least_match}
-use Rattle.bank_update.specs.Writes.{IsBeside, bank_after, in_block, turned}
-use Rattle.bank_update.specs.Machine.{Block, Swap, State, answer, has_turned, held, held_with, is_below, layout, looked, matches, names_with, old_or_new, total}
-use Rattle.bank_update.specs.Sound.{IsNamed, IsSound, IsUnderway}
-use Rattle.bank_update.proofs.Found.{first-within, look-alone}
-use Rattle.bank_update.proofs.HeldStages.{write-count}
-use Rattle.bank_update.proofs.LookUps.{answers-as, decided, looked-up, name_of, numbered-entry}
-use Rattle.bank_update.proofs.Names.{answered, apart, first_named, inside, name_in, named_answer}
-use Rattle.bank_update.proofs.Turns.{old-or-new}
+use Rattle.bank_update.specs.Banks.{least_match, matches}
+use Rattle.bank_update.specs.Machine.{State, Update, held, held_with, looked, names_with, old_or_new, same_answer}
+use Rattle.bank_update.specs.Plans.{answer_after}
+use Rattle.bank_update.specs.Sound.{IsSound, IsUnderway}
+use Rattle.bank_update.specs.Standing.{Standing, answer, bank_of, entries_in, table_in}
+use Rattle.bank_update.proofs.LookUps.{answer_step, decided, looked-up, name_of}
 
--- the name of what was found, in the table of its slot
-abbrev pub naming : State → Option Swap → ℕ × ℕ → Option (List ℕ)
+-- the name of what was found, in the table whose entry stands in the slot
+abbrev pub naming : State → Option Update → ℕ × ℕ → Option (List ℕ)
 naming s pending found = name_at (names_with s pending found.0) found.1
 
-then_map : {X Y Z : Type 0} (f : X → Y) (g : Y → Option Z) (o : Option X) → option_and_then g (option_map f o) ≡ option_and_then (λ x. g (f x)) o
+pub then_map : {X Y Z : Type 0} (f : X → Y) (g : Y → Option Z) (o : Option X) → option_and_then g (option_map f o) ≡ option_and_then (λ x. g (f x)) o
 then_map f g None = refl
 then_map f g (Some x) = refl
 
-then_same : {X Z : Type 0} (f g : X → Option Z) (o : Option X) → ((x : X) → f x ≡ g x) → option_and_then f o ≡ option_and_then g o
-then_same f g None h = refl
-then_same f g (Some x) h = h x
+named_from : (names : List (List ℕ)) (values : List ℕ) (slots : List (Option Entry)) (from : ℕ) →
+    option_and_then (λ (r : ℕ × Stored). name_of names r.1) (least_match (matches values) (bank_of slots) from) ≡ words.answer (table_in names slots) values
+named_from names values [] from = refl
+named_from names values (None ∷ slots) from = named_from names values slots (suc from)
+named_from names values (Some e ∷ slots) from =
+    answer_step (λ (r : ℕ × Stored). name_of names r.1) (λ (x : words.Entry). x.decision) (matches values (stored e)) (from, stored e) (entry_of names e)
+    (least_match (matches values) (bank_of slots) (suc from)) (find (words.entry_matches values) (table_in names slots)) refl (named_from names values slots (suc from))
 
-name_cond : (t : Bool) (a b : List (List ℕ)) (d : ℕ) → name_at (cond t a b) d ≡ cond t (name_at a d) (name_at b d)
-name_cond true a b d = refl
-name_cond false a b d = refl
+-- a table's slots answer, by name, as the table
+pub table-answer : (table : Standing) (values : List ℕ) → option_and_then (λ (f : ℕ × ℕ). name_at table.names f.1) (look_up (bank_of table.slots) values) ≡ answer table values
+table-answer table values =
+    ap (option_and_then (λ (f : ℕ × ℕ). name_at table.names f.1)) (looked-up (bank_of table.slots) values)
+    ∙ then_map decided (λ (f : ℕ × ℕ). name_at table.names f.1) (least_match (matches values) (bank_of table.slots) 0)
+    ∙ named_from table.names values table.slots 0
 
--- with no swap pending
-pub settled_answer : (s : State) (values : List ℕ) → option_and_then (naming s None) (look_up (held_with s None) values) ≡ answer s.settled values
-settled_answer s values =
-    let m = matches values in
-    let entries = map stored s.settled.entries in
-    ap (option_and_then (naming s None)) (looked-up (held_with s None) values)
-    ∙ then_map decided (naming s None) (least_match m (held_with s None) 0)
-    ∙ ap (option_and_then (λ (r : ℕ × Stored). name_of s.settled.names r.1)) (look-alone m s.slots s.settled.start entries)
-    ∙ first_named (λ (r : ℕ × Stored). name_of s.settled.names r.1) (name_of s.settled.names) m entries s.settled.start (s.settled.start + length entries) refl (λ k e low high. refl)
-    ∙ answers-as s.settled values
+-- an answer that is one of two, by whether it is the first of them
 
-named_as : (s : State) (swap : Swap) (r : ℕ × Stored) → naming s (Some swap) (decided r) ≡ name_in (layout s swap) (name_of s.settled.names) (name_of swap.block.names) r
-named_as s swap r =
-    name_cond (in_block s.settled.start (length s.settled.entries) r.0) s.settled.names swap.block.names r.1.decision
-    ∙ ap (λ n. cond (in_block s.settled.start n r.0) (name_of s.settled.names r.1) (name_of swap.block.names r.1)) (sym (length-map s.settled.entries stored))
+same_true : (a b : Option (List ℕ)) → same_answer a b ≡ true → a ≡ b
+same_true None None h = refl
+same_true None (Some b) h = absurd (true≢false (sym h))
+same_true (Some a) None h = absurd (true≢false (sym h))
+same_true (Some a) (Some b) h = ap (λ (x : List ℕ). Some x) ((bytes_eq-Decides a b).0 h)
 
--- at a stage of a swap
-pub stage_answer : (s : State) (swap : Swap) (values : List ℕ) → IsBeside (is_below (layout s swap)) (layout s swap) → swap.done ≤ total s swap →
-    option_and_then (naming s (Some swap)) (look_up (held_with s (Some swap)) values) ≡ old_or_new s (Some swap) values
-stage_answer s swap values beside small =
-    let m = matches values in
-    let l = layout s swap in
-    let bank = bank_after l swap.done in
-    let count = write-count s swap in
-    ap (option_and_then (naming s (Some swap))) (looked-up bank values)
-    ∙ then_map decided (naming s (Some swap)) (least_match m bank 0)
-    ∙ then_same (λ r. naming s (Some swap) (decided r)) (name_in l (name_of s.settled.names) (name_of swap.block.names)) (least_match m bank 0) (named_as s swap)
-    ∙ answered (is_below l) l (name_of s.settled.names) (name_of swap.block.names) m swap.done beside (omega (arith, small, count))
-    ∙ ap (cond (has_turned s swap values) (named_answer (name_of swap.block.names) m l.new)) (answers-as s.settled values)
-    ∙ ap (λ v. cond (has_turned s swap values) v (answer s.settled values)) (answers-as swap.block values)
+same_own : (a : Option (List ℕ)) → same_answer a a ≡ true
+same_own None = refl
+same_own (Some a) = (bytes_eq-Decides a a).1 refl
 
--- while it is pending
-pub pending_answer : (s : State) (swap : Swap) (values : List ℕ) → IsUnderway s swap →
-    option_and_then (naming s (Some swap)) (look_up (held_with s (Some swap)) values) ≡ old_or_new s (Some swap) values
-pending_answer s swap values u = stage_answer s swap values u.beside (omega (arith, u.left))
+chosen_case : (t : Bool) (x new old : Option (List ℕ)) → same_answer x new ≡ t → (x ≡ old) ⊎ (x ≡ new) → x ≡ cond t new old
+chosen_case true x new old is h = same_true x new is
+chosen_case false x new old is (inl h) = h
+chosen_case false x new old is (inr h) = absurd (true≢false (sym (ap (λ y. same_answer y new) h ∙ same_own new) ∙ is))
 
-answer_case : (s : State) (pending : Option Swap) (values : List ℕ) → IfSome pending (IsUnderway s) →
-    option_and_then (naming s pending) (look_up (held_with s pending) values) ≡ old_or_new s pending values
-answer_case s None values u = settled_answer s values
-answer_case s (Some swap) values u = pending_answer s swap values u
+pub chosen : (x new old : Option (List ℕ)) → (x ≡ old) ⊎ (x ≡ new) → x ≡ cond (same_answer x new) new old
+chosen x new old h = chosen_case (same_answer x new) x new old refl h
+
+-- what is looked up while this is pending
+abbrev pub looked_with : State → Option Update → List ℕ → Option (List ℕ)
+looked_with s pending values = option_and_then (naming s pending) (look_up (held_with s pending) values)
+
+answer_case : (s : State) (pending : Option Update) (values : List ℕ) → s.pending ≡ pending → IfSome pending (IsUnderway s) → looked s values ≡ old_or_new s pending values
+answer_case s None values is u = ap (λ p. looked_with s p values) is ∙ table-answer s.settled values
+answer_case s (Some u) values is way =
+    let e : looked s values ≡ answer_after s.settled u.plan u.done values = ap (λ p. looked_with s p values) is in
+    chosen (looked s values) (answer u.plan.new values) (answer s.settled values)
+    (subst (λ (x : Option (List ℕ)). (x ≡ answer s.settled values) ⊎ (x ≡ answer u.plan.new values)) (sym e) (way.plan.good.old_or_new u.done values (omega (arith, way.left))))
 
 pub looked-answer : (s : State) (values : List ℕ) → IsSound s → looked s values ≡ old_or_new s s.pending values
-looked-answer s values sound = answer_case s s.pending values sound.swap
+looked-answer s values sound = answer_case s s.pending values refl sound.update
 
 -- a found decision is the number of a name
 
-found_of : {X Y : Type 0} (f : X → Y) (o : Option X) (y : Y) → option_map f o ≡ Some y → (x : X) × (o ≡ Some x) × (f x ≡ y)
+found_step : (t : Bool) (names : List (List ℕ)) (e : Entry) (from : ℕ) (r : ℕ × Stored) (o : Option (ℕ × Stored)) → e.decision ≤ length names →
+    (o ≡ Some r → r.1.decision ≤ length names) → cond t (Some (from, stored e)) o ≡ Some r → r.1.decision ≤ length names
+found_step true names e from r o here there h = subst (λ (v : ℕ × Stored). v.1.decision ≤ length names) (let s : (from, stored e) ≡ r = cc in s) here
+found_step false names e from r o here there h = there h
+
+found_in : (names : List (List ℕ)) (values : List ℕ) (slots : List (Option Entry)) (from : ℕ) (r : ℕ × Stored) → AreNumbered (length names) (entries_in slots) →
+    least_match (matches values) (bank_of slots) from ≡ Some r → r.1.decision ≤ length names
+found_in names values [] from r all h = absurd (cc)
+found_in names values (None ∷ slots) from r all h = found_in names values slots (suc from) r all h
+found_in names values (Some e ∷ slots) from r all h =
+    found_step (matches values (stored e)) names e from r (least_match (matches values) (bank_of slots) (suc from)) (all 0 e (omega arith))
+    (λ k. found_in names values slots (suc from) r (λ j d small. all (suc j) d (omega (arith, small))) k) h
+
+pub found_of : {X Y : Type 0} (f : X → Y) (o : Option X) (y : Y) → option_map f o ≡ Some y → (x : X) × (o ≡ Some x) × (f x ≡ y)
 found_of f None y h = absurd (cc)
 found_of f (Some x) y h = (x, refl, cc)
 
-in_table : (block : Block) (m : Stored → Bool) (r : ℕ × Stored) → IsNamed block → first_from m (map stored block.entries) block.start ≡ Some r →
-    (r.1.decision ≤ length block.names) × (block.start ≤ r.0) × (r.0 < block.start + length (map stored block.entries))
-in_table block m r named h =
-    let w = first-within m (map stored block.entries) block.start r h in
-    (numbered-entry (length block.names) block.entries (r.0 - block.start) r.1 named.numbered w.2, w.0, w.1)
+pub settled_found : (table : Standing) (values : List ℕ) (slot decision : ℕ) → AreNumbered (length table.names) (entries_in table.slots) →
+    look_up (bank_of table.slots) values ≡ Some (slot, decision) → decision ≤ length table.names
+settled_found table values slot decision all h =
+    let f = found_of decided (least_match (matches values) (bank_of table.slots) 0) (slot, decision) (sym (looked-up (bank_of table.slots) values) ∙ h) in
+    subst (λ (v : ℕ × ℕ). v.1 ≤ length table.names) f.2 (found_in table.names values table.slots 0 f.0 all f.1)
 
-settled_found : (s : State) (m : Stored → Bool) (r : ℕ × Stored) → IsNamed s.settled → least_match m (held_with s None) 0 ≡ Some r → r.1.decision ≤ length (names_with s None r.0)
-settled_found s m r named h =
-    (in_table s.settled m r named (sym (look-alone m s.slots s.settled.start (map stored s.settled.entries)) ∙ h)).0
-
-pending_case : (t : Bool) (s : State) (swap : Swap) (m : Stored → Bool) (r : ℕ × Stored) → IsNamed s.settled → IsUnderway s swap →
-    cond t (first_from m (layout s swap).new swap.block.start) (first_from m (layout s swap).old s.settled.start) ≡ Some r →
-    r.1.decision ≤ length (names_with s (Some swap) r.0)
-pending_case true s swap m r named u h =
-    let w = in_table swap.block m r u.named h in
-    let l = layout s swap in
-    let out : in_block s.settled.start (length s.settled.entries) r.0 ≡ false =
-    ap (λ n. in_block s.settled.start n r.0) (sym (length-map s.settled.entries stored)) ∙ apart (is_below l) l r.0 u.beside w.1 w.2 in
-    subst (λ (t : Bool). r.1.decision ≤ length (cond t s.settled.names swap.block.names)) (sym out) w.0
-pending_case false s swap m r named u h =
-    let w = in_table s.settled m r named h in
-    let is : in_block s.settled.start (length s.settled.entries) r.0 ≡ true =
-    ap (λ n. in_block s.settled.start n r.0) (sym (length-map s.settled.entries stored)) ∙ inside s.settled.start (length (map stored s.settled.entries)) r.0 w.1 w.2 in
-    subst (λ (t : Bool). r.1.decision ≤ length (cond t s.settled.names swap.block.names)) (sym is) w.0
-
-match_found : (s : State) (pending : Option Swap) (m : Stored → Bool) (r : ℕ × Stored) → IsNamed s.settled → IfSome pending (IsUnderway s) →
-    least_match m (held_with s pending) 0 ≡ Some r → r.1.decision ≤ length (names_with s pending r.0)
-match_found s None m r named u h = settled_found s m r named h
-match_found s (Some swap) m r named u h =
-    let l = layout s swap in
-    let count = write-count s swap in
-    pending_case (turned (is_below l) m l swap.done) s swap m r named u (sym (old-or-new (is_below l) l m swap.done u.beside (omega (arith, u.left, count))) ∙ h)
+named_case : (s : State) (pending : Option Update) (values : List ℕ) (slot decision : ℕ) → AreNumbered (length s.settled.names) (entries_in s.settled.slots) →
+    IfSome pending (IsUnderway s) → look_up (held_with s pending) values ≡ Some (slot, decision) → decision ≤ length (names_with s pending slot)
+named_case s None values slot decision all u h = settled_found s.settled values slot decision all h
+named_case s (Some u) values slot decision all way h = way.plan.finds u.done values slot decision (omega (arith, way.left)) h
 
 pub found-named : (s : State) (values : List ℕ) (slot decision : ℕ) → IsSound s → look_up (held s) values ≡ Some (slot, decision) →
     decision ≤ length (names_with s s.pending slot)
-found-named s values slot decision sound h =
-    let f = found_of decided (least_match (matches values) (held s) 0) (slot, decision) (sym (looked-up (held s) values) ∙ h) in
-    subst (λ (v : ℕ × ℕ). v.1 ≤ length (names_with s s.pending v.0)) f.2
-    (match_found s s.pending (matches values) f.0 sound.named sound.swap f.1)
+found-named s values slot decision sound h = named_case s s.pending values slot decision sound.numbered sound.update h

@@ -15,7 +15,8 @@ use Rattle.bank_update.specs.declared.refusal.Idle.{Idle}
 use Rattle.bank_update.specs.declared.refusal.StepRefusal.{StepRefusal}
 use Rattle.bank_update.specs.declared.refusal.StepRefusal.TheVariants as refusals
 use Rattle.bank_update.specs.Lines.{begin_line, fault_line, stage_or_idle, step_line}
-use Rattle.bank_update.specs.Machine.{State, begin_answer, begun, moved, reached_by, stage_of, step_answer, stepped}
+use Rattle.bank_update.specs.Machine.{State, moved, reached_by, stage_of, step_answer, stepped}
+use Rattle.bank_update.specs.Whole.{begin_answer, begun}
 use Rattle.bank_update.specs.Script as script
 use Rattle.bank_update.specs.Runs.{RoseBy, begun_to_table, faults_of, line_of, next, table_line, table_of_number, tries_of}
 use Rattle.bank_update.specs.Turns.{TakesTurn, without_table}
@@ -67,7 +68,7 @@ takes-step {old = old} {p = p} {q = q} (Err refusals.Idle) answer is idle same f
       counted = inl (omega (arith, le));
       counts = le;
       once = tried-by old.pending p q once quiet;
-      line = writes-is writes (ap (λ o. stage_or_idle (option_map (λ swap. stage_of old (moved swap)) o)) (sym none));
+      line = writes-is writes (ap (λ o. stage_or_idle (option_map (λ swap. stage_of (moved swap)) o)) (sym none));
     }
 takes-step {old = old} {m = m} {n = n} {p = p} {q = q} (Err refusals.DeviceFault) answer is idle same fault le once none writes =
     let some = some_of old.pending (λ none. absurd (let e = idle.1 none in cc)) in

@@ -1,5 +1,7 @@
 -- Banks, and what a lookup in one gives.
 use Rattle.std.specs.Prelude.{ℕ, suc, ◌-◌, Bool, false, cond, List, [], ◌∷◌, ◌++◌, map, length, replicate, Option, Some, None}
+use Rattle.ternary_words.specs.Headline.Word.{agrees, header_bits}
+use Rattle.tcam_sim.specs.Slots.{Stored}
 
 -- the least slot whose entry passes, with the entry; the slots are counted from a number on
 abbrev pub least_match : {E : Type 0} → (E → Bool) → List (Option E) → ℕ → Option (ℕ × E)
@@ -20,3 +22,7 @@ alone slots from entries = replicate from None ++ (map (λ e. Some e) entries ++
 abbrev pub passes : {E : Type 0} → (E → Bool) → Option E → Bool
 passes m None = false
 passes m (Some e) = m e
+
+-- whether an entry as a slot holds it matches the header
+abbrev pub matches : List ℕ → Stored → Bool
+matches values s = agrees s.word (header_bits values)

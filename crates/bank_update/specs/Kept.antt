@@ -1,28 +1,21 @@
--- The state of a swap as the code keeps it.
-use Rattle.std.specs.Prelude.{ℕ, Option, Some, None, option_map}
-use Rattle.ternary_words.specs.declared.table.Table.{Table}
-use Rattle.bank_update.specs.Machine.{Block, Swap, State, nothing}
-use Rattle.bank_update.specs.declared.placed.PlacedTable.{PlacedTable}
-use Rattle.bank_update.specs.declared.placed.Underway.{Underway}
-use Rattle.bank_update.specs.declared.progress.Progress.TheInside.{Inside}
+-- Tables and updates as the code keeps them.
+use Rattle.std.specs.Prelude.{ℕ, [], Option, Some, None}
+use Rattle.bank_update.specs.Machine.{Update}
+use Rattle.bank_update.specs.Plans.{Plan}
+use Rattle.bank_update.specs.Standing.{Standing}
+use Rattle.bank_update.specs.Whole.{block, whole}
+use Rattle.bank_update.specs.declared.block.Placed.{Placed}
+use Rattle.bank_update.specs.declared.underway.Underway.{Underway}
 
--- a table whose entries stand from a slot on
-abbrev pub block_from : ℕ → Table → Block
-block_from start table = record { start = start; entries = table.entries.items; names = table.names }
+-- a table that stands in so many slots; where there is none, all are empty
+abbrev pub block_of : ℕ → Option Placed → Standing
+block_of slots None = block slots 0 [] []
+block_of slots (Some p) = block slots p.start p.table.entries.items p.table.names
 
--- the same of a placed table
-abbrev pub block_of : PlacedTable → Block
-block_of p = block_from p.start p.table
+-- the swap to a table
+abbrev pub swap_to : Standing → Placed → Plan
+swap_to old p = whole old p.start p.table.entries.items p.table.names
 
--- the settled table, of no entries where there is none
-abbrev pub settled_block : Option PlacedTable → Block
-settled_block None = nothing
-settled_block (Some p) = block_of p
-
--- a swap as the code keeps it
-abbrev pub swap_of : Underway → Swap
-swap_of u = record { block = block_of u.placed; done = u.done; back = u.back }
-
--- the state as the code keeps it
-abbrev pub state_of : Inside → State
-state_of p = record { slots = p.slots; settled = settled_block p.settled; pending = option_map swap_of p.pending }
+-- an update as the code keeps it
+abbrev pub update_of : {P : Type 0} → (P → Plan) → Underway P → Update
+update_of plan u = record { plan = plan u.plan; done = u.done; back = u.back }

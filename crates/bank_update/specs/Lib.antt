@@ -1,7 +1,10 @@
 pub mod Reasons
 pub mod Banks
 pub mod Writes
+pub mod Standing
+pub mod Plans
 pub mod Machine
+pub mod Whole
 pub mod Sound
 pub mod Kept
 pub mod Next

@@ -1,20 +1,18 @@
--- The next write of a swap, and the stages that a swap may reach.
-use Rattle.std.specs.Prelude.{◌≡◌, ◌≢◌, ◌<◌, ◌≤◌, true, None, option_map, set}
+-- The next write of an update, and the stages that may be reached.
+use Rattle.std.specs.Prelude.{◌≡◌, ◌≢◌, ◌<◌, ◌≤◌, true, None, length, option_map, set}
 use Rattle.tcam_sim.specs.Slots.{stored}
-use Rattle.bank_update.specs.Machine.{State, Swap, held, is_below, layout, stepped, total}
-use Rattle.bank_update.specs.Writes.{IsBeside}
-use Rattle.bank_update.specs.Sound.{IsNamed}
-use Rattle.bank_update.specs.declared.placed.Write.{Write}
+use Rattle.bank_update.specs.Machine.{State, Update, held, stepped, total}
+use Rattle.bank_update.specs.Sound.{MayBegin}
+use Rattle.bank_update.specs.declared.write.Put.{Put}
 
--- a swap is pending, and with this write the bank holds what the next state holds
-pub record IsNextWrite (s : State) (w : Write) : Type 0 where
+-- an update is pending, and with this write the slots hold what the next state holds
+pub record IsNextWrite (s : State) (w : Put) : Type 0 where
   pub pending : s.pending ≢ None
-  pub within : w.slot < s.slots
-  pub held : set (held s) w.slot (option_map stored w.entry) ≡ held (stepped s)
+  pub within : w.slot < length (held s)
+  pub leads : set (held s) w.slot (option_map stored w.entry) ≡ held (stepped s)
 
--- the pending table lies beside the settled one, and going back not all writes are done
-pub record MayReach (s : State) (swap : Swap) : Type 0 where
-  pub beside : IsBeside (is_below (layout s swap)) (layout s swap)
-  pub within : swap.done ≤ total s swap
-  pub back : swap.back ≡ true → swap.done < total s swap
-  pub named : IsNamed swap.block
+-- going back not all writes are done
+pub record MayReach (s : State) (u : Update) : Type 0 where
+  pub plan : MayBegin s.settled u.plan
+  pub within : u.done ≤ total u
+  pub back : u.back ≡ true → u.done < total u

@@ -3,7 +3,8 @@ use Rattle.std.specs.Prelude.{◌≡◌, ℕ, ◌+◌, ◌-◌, ◌≤◌, ◌^�
 use Rattle.ternary_words.specs.declared.table.Table.{Table}
 use Rattle.tcam_sim.specs.Tries.{counted_times}
 use Rattle.bank_update.specs.Lines.{begin_line, fault_line, look_line, stage_or_idle}
-use Rattle.bank_update.specs.Machine.{State, abort_answer, aborted, begin_answer, begun, looked, stage, step_answer, stepped}
+use Rattle.bank_update.specs.Machine.{State, abort_answer, aborted, looked, stage, step_answer, stepped}
+use Rattle.bank_update.specs.Whole.{begin_answer, begun}
 use Rattle.bank_update.specs.Script.{Event, Begin, Step, Abort, Look, Stage}
 
 -- a command in its turn, and whether the device fails where the command writes to it

@@ -3,8 +3,14 @@ ghost use Rattle.std.specs.Prelude.{map, ◌≡◌, ◌≢◌, ◌+◌, ◌-◌,
 ghost use Rattle.std.specs.List.{position_from};
 ghost use Rattle.std.specs.Option.{option_or};
 ghost use Rattle.tcam_sim.specs.Slots.{Stored, stored};
-ghost use Rattle.bank_update.specs.Machine.{Block, State, Swap, after_steps, answer, held, layout, looked, old_or_new, settle, stepped, total, with_swap};
-ghost use Rattle.bank_update.specs.Sound.{IsSound};
+ghost use Rattle.ternary_words.specs.Limits.{AreNumbered};
+ghost use Rattle.ternary_words.specs.declared.entry.Entry.{Entry};
+ghost use Rattle.bank_update.specs.Machine.{State, Update, after_steps, held, looked, old_or_new, settle, stepped, total, with_update};
+ghost use Rattle.bank_update.specs.Plans.{bank_after_writes};
+ghost use Rattle.bank_update.specs.Standing.{Standing, answer, bank_of, entries_in};
+ghost use Rattle.bank_update.specs.Whole.{IsRoomAt, IsTogether, layout, whole};
+ghost use Rattle.bank_update.specs.declared.write.Write.{Write};
+ghost use Rattle.bank_update.specs.Sound.{IsSound, MayBegin};
 ghost use Rattle.bank_update.specs.Swapping.{at_stage};
 ghost use Rattle.bank_update.specs.Banks.{alone, first_from, least_match, passes};
 ghost use Rattle.ternary_words.specs.declared.table.Table.{Table};
@@ -27,30 +33,43 @@ pub fn a_look_up_is_old_or_new()
         least_match m (bank_after s d) 0 ≡ cond (turned below m s d) (first_from m s.new s.b) (first_from m s.old s.a) }
 {}
 
-/// A lookup answers by name as the new table does, or as the old one does; with no swap pending as the settled one.
+/// A lookup answers by name as the new table does, or as the old one does; with no update pending as the settled one.
 pub fn an_answer_is_old_or_new()
     ensures { (s : State) (values : List ℕ) → IsSound s → looked s values ≡ old_or_new s s.pending values }
 {}
 
-/// Where the tables answer apart, a header that has the new answer at one stage of a swap keeps it at each later
+/// Where the tables answer apart, a header that has the new answer at one stage of an update keeps it at each later
 /// stage, forward or back, and once the new table has settled.
 pub fn a_new_answer_stays()
-    ensures stays { (s : State) (swap : Swap) (done : ℕ) (back : Bool) (values : List ℕ) →
-        IsSound s → s.pending ≡ Some swap → swap.done ≤ done → done ≤ total s swap →
-        answer swap.block values ≢ answer s.settled values → looked s values ≡ answer swap.block values →
-        looked (at_stage s swap done back) values ≡ answer swap.block values }
-    ensures settled { (s : State) (block : Block) (values : List ℕ) → looked (settle s block) values ≡ answer block values }
+    ensures stays { (s : State) (u : Update) (done : ℕ) (back : Bool) (values : List ℕ) →
+        IsSound s → s.pending ≡ Some u → u.done ≤ done → done ≤ total u →
+        answer u.plan.new values ≢ answer s.settled values → looked s values ≡ answer u.plan.new values →
+        looked (at_stage s u done back) values ≡ answer u.plan.new values }
+    ensures settled { (u : Update) (values : List ℕ) → looked (settle u) values ≡ answer u.plan.new values }
 {}
 
-/// Before the first write the old table stands alone, after the last one the new table; and undoing a write
+/// Before the first write the settled table stands alone, after the last one the new table; and undoing a write
 /// gives the slots before it.
-pub fn a_swap_begins_and_ends_whole()
-    ensures begin { (s : State) (swap : Swap) → bank_after (layout s swap) 0 ≡ alone s.slots s.settled.start (map stored s.settled.entries) }
-    ensures end { (s : State) (swap : Swap) → IsSound s → s.pending ≡ Some swap →
-        bank_after (layout s swap) (total s swap) ≡ alone s.slots swap.block.start (map stored swap.block.entries) }
-    ensures undo { (s : State) (swap : Swap) (d : ℕ) → IsSound s → s.pending ≡ Some swap → d < total s swap →
-        set (bank_after (layout s swap) (suc d)) (target (layout s swap) d) (erased (layout s swap) d) ≡ bank_after (layout s swap) d }
+pub fn an_update_begins_and_ends_whole()
+    ensures begin { (s : State) (u : Update) → bank_after_writes s.settled u.plan 0 ≡ bank_of s.settled.slots }
+    ensures end { (s : State) (u : Update) → IsSound s → s.pending ≡ Some u →
+        bank_after_writes s.settled u.plan (total u) ≡ bank_of u.plan.new.slots }
+    ensures undo { (s : State) (u : Update) (d : ℕ) (w : Write) → IsSound s → s.pending ≡ Some u → slice_get u.plan.writes d ≡ Some w →
+        set (bank_after_writes s.settled u.plan (suc d)) w.slot (option_map stored w.before) ≡ bank_after_writes s.settled u.plan d }
     ensures empty { (slots from : ℕ) → from ≤ slots → alone {E = Stored} slots from [] ≡ replicate slots None }
+{}
+
+/// The slots of a whole swap, after any number of its writes, hold the new entries that are put and the old ones that
+/// are left; it has as many writes as both tables have entries; and its plan is good.
+pub fn a_whole_swap_is_a_good_plan()
+    ensures held { (old : Standing) (start : ℕ) (entries : List Entry) (names : List (List ℕ)) (d : ℕ) →
+        IsTogether old.slots → d ≤ write_count (layout old start entries) →
+        bank_after_writes old (whole old start entries names) d ≡ bank_of (bank_after (layout old start entries) d) }
+    ensures count { (old : Standing) (start : ℕ) (entries : List Entry) (names : List (List ℕ)) →
+        length (whole old start entries names).writes ≡ length (entries_in old.slots) + length entries }
+    ensures good { (old : Standing) (start : ℕ) (entries : List Entry) (names : List (List ℕ)) →
+        IsTogether old.slots → IsRoomAt old start entries → AreNumbered (length old.names) (entries_in old.slots) → AreNumbered (length names) entries →
+        MayBegin old (whole old start entries names) }
 {}
 
 /// A lookup gives the least slot that passes; a first match is the table's, stands in the table's block,
@@ -65,25 +84,23 @@ pub fn a_look_up_finds_the_least_slot()
     ensures settled { (m : Stored → Bool) (slots from : ℕ) (entries : List Stored) → least_match m (alone slots from entries) 0 ≡ first_from m entries from }
 {}
 
-/// A swap that goes forward ends after exactly as many steps as writes are left, with the new table alone in the
+/// An update that goes forward ends after exactly as many steps as writes are left, with the new table alone in the
 /// slots; until then it stays pending.
-pub fn a_swap_ends_with_the_new_table()
-    ensures settles { (s : State) (swap : Swap) (n : ℕ) → s.pending ≡ Some swap → swap.back ≡ false → swap.done + suc n ≡ total s swap →
-        after_steps (suc n) s ≡ settle s swap.block }
-    ensures pending { (s : State) (swap : Swap) (n : ℕ) → s.pending ≡ Some swap → swap.back ≡ false → swap.done + n < total s swap →
-        after_steps n s ≡ at_stage s swap (swap.done + n) false }
-    ensures alone { (s : State) (block : Block) → block.start + length block.entries ≤ s.slots →
-        held (settle s block) ≡ alone s.slots block.start (map stored block.entries) }
+pub fn an_update_ends_with_the_new_table()
+    ensures settles { (s : State) (u : Update) (n : ℕ) → s.pending ≡ Some u → u.back ≡ false → u.done + suc n ≡ total u →
+        after_steps (suc n) s ≡ settle u }
+    ensures pending { (s : State) (u : Update) (n : ℕ) → s.pending ≡ Some u → u.back ≡ false → u.done + n < total u →
+        after_steps n s ≡ at_stage s u (u.done + n) false }
+    ensures alone { (u : Update) → held (settle u) ≡ bank_of u.plan.new.slots }
 {}
 
-/// A swap that goes back: each step leaves the slots that stood before the write that it undoes, and when no
+/// An update that goes back: each step leaves the slots that stood before the write that it undoes, and when no
 /// write is left the old table is alone in them.
-pub fn a_swap_that_goes_back_ends_with_the_old_table()
-    ensures restores { (s : State) (swap : Swap) → s.pending ≡ Some swap → swap.back ≡ true →
-        held (stepped s) ≡ bank_after (layout s swap) (swap.done - 1) }
-    ensures over { (s : State) (swap : Swap) → s.pending ≡ Some swap → swap.back ≡ true → swap.done ≡ 1 →
-        stepped s ≡ with_swap s None }
-    ensures alone { (s : State) → held (with_swap s None) ≡ alone s.slots s.settled.start (map stored s.settled.entries) }
+pub fn an_update_that_goes_back_ends_with_the_old_table()
+    ensures restores { (s : State) (u : Update) → s.pending ≡ Some u → u.back ≡ true →
+        held (stepped s) ≡ bank_after_writes s.settled u.plan (u.done - 1) }
+    ensures over { (s : State) (u : Update) → s.pending ≡ Some u → u.back ≡ true → u.done ≡ 1 → stepped s ≡ with_update s None }
+    ensures alone { (s : State) → held (with_update s None) ≡ bank_of s.settled.slots }
 {}
 
 /// A run prints one line a command. One over a device whose count of faults stays 0 prints what the commands

@@ -1,5 +1,6 @@
 pub mod Numbers
 pub mod Orders
+pub mod Swaps
 pub mod Settings
 pub mod Options
 pub mod Items

@@ -2,13 +2,14 @@
 use Rattle.std.specs.Prelude.{ℕ, List, [], ◌∷◌, length, nat_le, find, Option, Some, None, if◌then◌else◌}
 use Rattle.std.specs.Str.{bytes_eq}
 use Rattle.razor_base.specs.declared.limits.TheConstants.{MOST_ENTRIES}
-use Rattle.command_words.specs.declared.option.OptionName.TheVariants.{Limit, Slot, Slots, Order}
+use Rattle.command_words.specs.declared.option.OptionName.TheVariants.{Limit, Slot, Slots, Order, Swap}
 use Rattle.command_words.specs.Commands.{Command, command_named, forms}
 use Rattle.command_words.specs.Forms.{Form}
 use Rattle.command_words.specs.Items.{Item, items_of, plain_of, values_of}
 use Rattle.command_words.specs.Options.{given, need_of, optional, or_usual, size_in, width_in}
 use Rattle.command_words.specs.Orders.{order_wanted}
 use Rattle.command_words.specs.Settings.{Settings}
+use Rattle.command_words.specs.Swaps.{Whole, swap_written}
 use Rattle.text_lines.specs.Headline.Steps.{◌>>=◌}
 
 -- the value of each option, where one is given, and the other words
@@ -17,6 +18,7 @@ pub record Found : Type 0 where
   pub slot : Option (List ℕ)
   pub slots : Option (List ℕ)
   pub order : Option (List ℕ)
+  pub swap : Option (List ℕ)
   pub plain : List (List ℕ)
 
 -- at most one value is given to an option
@@ -36,18 +38,20 @@ found_among items = do
   slot ← one_value (values_of Slot items)
   slots ← one_value (values_of Slots items)
   order ← one_value (values_of Order items)
+  swap ← one_value (values_of Swap items)
   plain ← few_words (plain_of items)
-  Some (record { limit = limit; slot = slot; slots = slots; order = order; plain = plain })
+  Some (record { limit = limit; slot = slot; slots = slots; order = order; swap = swap; plain = plain })
 
--- what the options of the form come to, each that is left out to its usual value: the greatest number, 144 bits, and no
--- order
+-- what the options of the form come to, each that is left out to its usual value: the greatest number, 144 bits, no
+-- order, and tables that are replaced whole
 abbrev pub settings_of : Form → Found → Option Settings
 settings_of form found = do
   limit ← given (need_of form.options Limit) found.limit >>= or_usual MOST_ENTRIES size_in
   slot ← given (need_of form.options Slot) found.slot >>= or_usual 144 width_in
   slots ← given (need_of form.options Slots) found.slots >>= or_usual MOST_ENTRIES size_in
   order ← given (need_of form.options Order) found.order >>= optional order_wanted
-  Some (record { sizes = record { limit = limit; slot = slot }; slots = slots; order = order })
+  swap ← given (need_of form.options Swap) found.swap >>= or_usual Whole swap_written
+  Some (record { sizes = record { limit = limit; slot = slot }; slots = slots; order = order; swap = swap })
 
 -- the command that the words spell, or none
 unfoldable pub command_of : List (List ℕ) → Option Command

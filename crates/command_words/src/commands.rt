@@ -12,11 +12,12 @@ use crate::drawing::seed_and_rules;
 use crate::files::{is_script_run, one_file, three_files, two_files};
 use crate::form::{CommandForm, first_named, row};
 use crate::operands::{Drawing, Question, ScriptRun, ThreeFiles, TwoFiles};
-use crate::option::{NO_OPTION, ORDER_AND_SIZES, SIZES, SLOTS, SLOTS_AND_SIZES};
+use crate::option::{NO_OPTION, ORDER_AND_SIZES, SIZES, SLOTS, SLOTS_SIZES_AND_SWAP};
 use crate::plain::PlainWords;
 use crate::question::question_of;
 use crate::settings::Settings;
 use crate::sizes::{Sizes, Slots};
+use crate::swap::Swap;
 use crate::wanted::{Wanted, or_best};
 
 /// The commands that are built.
@@ -73,7 +74,7 @@ pub(crate) fn forms() -> [CommandForm; 21]
         row(
             CommandName::Session,
             "session",
-            &SLOTS_AND_SIZES,
+            &SLOTS_SIZES_AND_SWAP,
             "SCRIPT LIST",
         ),
         row(CommandName::Trim, "trim", &NO_OPTION, "TABLE"),
@@ -137,11 +138,12 @@ pub enum Command<'a> {
     Audit(&'a str),
     /// Writes the boxes inside a box in which a list decides as asked.
     Query(Question<'a>),
-    /// Edits a list by the commands of a session, and swaps the tables of the list into a memory of so many slots: the
+    /// Edits a list by the commands of a session, and replaces the tables of the list in a memory of so many slots: the
     /// files are the session's and the list's.
     Session {
         slots: Slots,
         sizes: Sizes,
+        swap: Swap,
         files: TwoFiles<'a>,
     },
     /// Writes a table without its redundant entries.
@@ -196,6 +198,7 @@ pub(crate) fn named<'a>(
         sizes,
         slots,
         order,
+        swap,
     } = settings;
     match name {
         CommandName::Expand => making(Method::Expand, sizes, words),
@@ -215,6 +218,7 @@ pub(crate) fn named<'a>(
         CommandName::Session => Some(Command::Session {
             slots,
             sizes,
+            swap,
             files: two_files(words)?,
         }),
         CommandName::Trim => Some(Command::Trim(one_file(words)?)),

@@ -18,6 +18,8 @@ pub(crate) enum OptionName {
     Slots,
     /// `--order`: the order of the fields, five digits from 0 to 4 or `best`.
     Order,
+    /// `--swap`: how tables are replaced, `whole` or `patch`.
+    Swap,
 }
 
 /// Whether an option that a command takes has to be there.
@@ -71,8 +73,8 @@ pub(crate) const SLOTS: [Taken; 1] = [Taken {
     need: Need::Always,
 }];
 
-/// The number of slots of a memory, and the sizes of its tables.
-pub(crate) const SLOTS_AND_SIZES: [Taken; 3] = [
+/// The number of slots of a memory, the sizes of its tables, and how they are replaced.
+pub(crate) const SLOTS_SIZES_AND_SWAP: [Taken; 4] = [
     Taken {
         option: OptionName::Slots,
         need: Need::Always,
@@ -83,6 +85,10 @@ pub(crate) const SLOTS_AND_SIZES: [Taken; 3] = [
     },
     Taken {
         option: OptionName::Slot,
+        need: Need::Maybe,
+    },
+    Taken {
+        option: OptionName::Swap,
         need: Need::Maybe,
     },
 ];
@@ -96,7 +102,8 @@ impl OptionName {
             (OptionName::Limit, OptionName::Limit)
             | (OptionName::Slot, OptionName::Slot)
             | (OptionName::Slots, OptionName::Slots)
-            | (OptionName::Order, OptionName::Order) => true,
+            | (OptionName::Order, OptionName::Order)
+            | (OptionName::Swap, OptionName::Swap) => true,
             _ => false,
         }
     }
@@ -110,6 +117,7 @@ impl OptionName {
             OptionName::Slot => "--slot",
             OptionName::Slots => "--slots",
             OptionName::Order => "--order",
+            OptionName::Swap => "--swap",
         }
     }
 
@@ -121,6 +129,7 @@ impl OptionName {
             OptionName::Limit | OptionName::Slots => " N",
             OptionName::Slot => " W",
             OptionName::Order => " P",
+            OptionName::Swap => " S",
         }
     }
 }

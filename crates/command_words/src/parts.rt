@@ -17,6 +17,7 @@ pub(crate) struct Parts<'a> {
     pub slot: Option<&'a [u8]>,
     pub slots: Option<&'a [u8]>,
     pub order: Option<&'a [u8]>,
+    pub swap: Option<&'a [u8]>,
     pub plain: PlainWords<'a>,
 }
 
@@ -41,6 +42,7 @@ impl<'a> Parts<'a> {
             slot: None,
             slots: None,
             order: None,
+            swap: None,
             plain: PlainWords::new(),
         }
     }
@@ -54,6 +56,7 @@ impl<'a> Parts<'a> {
             OptionName::Slot => keep_first(&mut self.slot, value),
             OptionName::Slots => keep_first(&mut self.slots, value),
             OptionName::Order => keep_first(&mut self.order, value),
+            OptionName::Swap => keep_first(&mut self.swap, value),
         }
     }
 

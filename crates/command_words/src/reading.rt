@@ -55,7 +55,10 @@ fn as_some_option(word: &[u8]) -> Option<WordKind<'_>>
     if let Some(kind) = as_option(OptionName::Slots, word) {
         return Some(kind);
     }
-    as_option(OptionName::Order, word)
+    if let Some(kind) = as_option(OptionName::Order, word) {
+        return Some(kind);
+    }
+    as_option(OptionName::Swap, word)
 }
 
 /// How the word reads.

@@ -7,6 +7,7 @@ ghost use Rattle.command_words.specs.Commands.{Apply, Arrange, Audit, Cert, Comp
 ghost use Rattle.command_words.specs.Orders.{Best, In};
 ghost use Rattle.command_words.specs.Questions.{span};
 ghost use Rattle.command_words.specs.Spelling.{command_of};
+ghost use Rattle.command_words.specs.Swaps.{InPlace, Whole};
 ghost use Rattle.command_words.specs.Usage.{usage_text};
 
 /// The first word is the name of a command, whole.
@@ -118,8 +119,10 @@ pub fn worked_scripts()
 
 /// A session has a script and a list, and the number of slots must be there.
 pub fn worked_sessions()
-    ensures usual { command_of (codes "session" ∷ codes "--slots" ∷ codes "4" ∷ codes "s" ∷ codes "in" ∷ []) ≡ Some (Session 4 (record { limit = 262144; slot = 144 }) (codes "s") (codes "in")) }
-    ensures all { command_of (codes "session" ∷ codes "--limit=1" ∷ codes "--slot" ∷ codes "104" ∷ codes "s" ∷ codes "in" ∷ codes "--slots=262144" ∷ []) ≡ Some (Session 262144 (record { limit = 1; slot = 104 }) (codes "s") (codes "in")) }
+    ensures usual { command_of (codes "session" ∷ codes "--slots" ∷ codes "4" ∷ codes "s" ∷ codes "in" ∷ []) ≡ Some (Session 4 (record { limit = 262144; slot = 144 }) Whole (codes "s") (codes "in")) }
+    ensures all { command_of (codes "session" ∷ codes "--limit=1" ∷ codes "--slot" ∷ codes "104" ∷ codes "s" ∷ codes "in" ∷ codes "--slots=262144" ∷ []) ≡ Some (Session 262144 (record { limit = 1; slot = 104 }) Whole (codes "s") (codes "in")) }
+    ensures in_place { command_of (codes "session" ∷ codes "--slots" ∷ codes "4" ∷ codes "--swap" ∷ codes "patch" ∷ codes "s" ∷ codes "in" ∷ []) ≡ Some (Session 4 (record { limit = 262144; slot = 144 }) InPlace (codes "s") (codes "in")) }
+    ensures no_way { command_of (codes "session" ∷ codes "--slots" ∷ codes "4" ∷ codes "--swap" ∷ codes "block" ∷ codes "s" ∷ codes "in" ∷ []) ≡ None }
     ensures no_slots { command_of (codes "session" ∷ codes "s" ∷ codes "in" ∷ []) ≡ None }
     ensures no_list { command_of (codes "session" ∷ codes "--slots" ∷ codes "4" ∷ codes "s" ∷ []) ≡ None }
     ensures equal_files { command_of (codes "session" ∷ codes "--slots" ∷ codes "4" ∷ codes "s" ∷ codes "s" ∷ []) ≡ None }
@@ -187,7 +190,7 @@ pub fn worked_usage()
         ∷ codes "  merge TABLE"
         ∷ codes "  audit LIST"
         ∷ codes "  query LIST S D SP DP P DECISION"
-        ∷ codes "  session --slots N [--limit N] [--slot W] SCRIPT LIST"
+        ∷ codes "  session --slots N [--limit N] [--slot W] [--swap S] SCRIPT LIST"
         ∷ codes "  trim TABLE"
         ∷ codes "  shorten [--order P] [--limit N] [--slot W] LIST"
         ∷ codes "  place --slots N TABLE"

@@ -8,12 +8,14 @@ ghost use Rattle.command_words.specs.Options.{given, optional, or_usual, size_in
 ghost use Rattle.command_words.specs.Orders.{order_wanted};
 ghost use Rattle.command_words.specs.Parts.{found_seen};
 ghost use Rattle.command_words.specs.Spelling.{settings_of};
-ghost use Rattle.command_words.specs.Settings.{settings_seen, wanted_seen};
+ghost use Rattle.command_words.specs.Settings.{settings_seen, swap_seen, wanted_seen};
+ghost use Rattle.command_words.specs.Swaps.{Whole, swap_written};
 
 use crate::form::{CommandForm, need_of};
 use crate::option::{Need, OptionName, size_in, width_in};
 use crate::parts::Parts;
 use crate::sizes::{Sizes, Slots};
+use crate::swap::{Swap, swap_written};
 use crate::wanted::{Wanted, order_wanted};
 use razor_base::limits::MOST_ENTRIES;
 
@@ -23,6 +25,7 @@ pub(crate) struct Settings {
     pub sizes: Sizes,
     pub slots: Slots,
     pub order: Option<Wanted>,
+    pub swap: Swap,
 }
 
 /// The value of an option as a command takes it, or none of it where it is left out; nothing where the command
@@ -69,6 +72,16 @@ fn wanted(need: Option<Need>, value: Option<&[u8]>) -> Option<Option<Wanted>>
     }
 }
 
+/// How tables are replaced, whole where it is left out.
+fn swap(need: Option<Need>, value: Option<&[u8]>) -> Option<Swap>
+    ensures { option_map swap_seen result ≡ option_and_then (or_usual Whole swap_written) (given need (option_map (λ bytes. bytes.now) value.entry)) }
+{
+    match given(need, value)? {
+        Some(value) => swap_written(value),
+        None => Some(Swap::Whole),
+    }
+}
+
 /// What the options of the form come to.
 pub(crate) fn settings_of(form: &CommandForm, parts: &Parts<'_>) -> Option<Settings>
     ensures { option_map settings_seen result ≡ settings_of (form_seen form.now) (found_seen parts.now) }
@@ -77,6 +90,7 @@ pub(crate) fn settings_of(form: &CommandForm, parts: &Parts<'_>) -> Option<Setti
     let slot = width(need_of(form.options, OptionName::Slot), parts.slot)?;
     let slots = size(need_of(form.options, OptionName::Slots), parts.slots)?;
     let order = wanted(need_of(form.options, OptionName::Order), parts.order)?;
+    let swap = swap(need_of(form.options, OptionName::Swap), parts.swap)?;
     Some(Settings {
         sizes: Sizes {
             limit,
@@ -84,5 +98,6 @@ pub(crate) fn settings_of(form: &CommandForm, parts: &Parts<'_>) -> Option<Setti
         },
         slots: Slots { count: slots },
         order,
+        swap,
     })
 }

@@ -3,6 +3,7 @@ pub mod Places
 pub mod Listings
 pub mod TableFor
 pub mod Begun
+pub mod Ways
 pub mod Tables
 pub mod Deciding
 pub mod Settling

@@ -36,10 +36,11 @@ step_by true s = refl
 step_by false s = refl
 
 commit_by : (s new : SessionState) (r : Result ℕ CommitRefusal) → IsCommit s new r → count_of new ≡ count_of s
-commit_by s new (Ok total) h = ap count_of h.state
+commit_by s new (Ok total) h = ap count_of h.session
 commit_by s new (Err commits.Busy) h = ap count_of h.1
 commit_by s new (Err (commits.TooMany needed limit)) h = ap count_of h.1
 commit_by s new (Err (commits.NoRoom above below wanted)) h = ap count_of h.1
+commit_by s new (Err (commits.NoSlots needed slots)) h = ap count_of h.1
 commit_by s new (Err commits.Memory) h = ap count_of h.1
 
 pub turn-names : (s new : SessionState) (event : SessionEvent) (fails : Bool) (line : List ℕ) → IsTurn s event fails new line → count_of new ≤ count_of s + cond (is_add event) 1 0

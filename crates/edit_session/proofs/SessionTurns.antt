@@ -70,7 +70,7 @@ takes-commit w f a b old new m n p q r (Err e) commit same untried known writes 
 
 idle-step : (s : SessionState) → s.state.pending ≡ None → s ≡ stepped s
 idle-step s idle =
-    ap (λ p. with_state s (swaps.reached_by moved s.state p) (copies_by s.copies (option_map (λ swap. stage_of s.state (moved swap)) p))) (sym idle)
+    ap (λ p. with_state s (swaps.reached_by moved s.state p) (copies_by s.copies (option_map (λ swap. stage_of (moved swap)) p))) (sym idle)
 
 -- a step that succeeds, that finds no swap pending, or that fails
 pub takes-step : {S T E : Type 0} {w : S → Option (List ℕ)} {f : S → ℕ} {a b : S} {old new : SessionState} {m n p q : ℕ} {x : Result T E} (r : Result Stage StepRefusal) →
@@ -91,7 +91,7 @@ takes-step {old = old} {p = p} {q = q} (Err refusals.Idle) answer is idle same f
     record {
       breaks = false;
       printed = step_line (Err refusals.Idle);
-      turn = (same ∙ idle-step old none, ap (λ o. stage_or_idle (option_map (λ swap. stage_of old.state (moved swap)) o)) (sym none));
+      turn = (same ∙ idle-step old none, ap (λ o. stage_or_idle (option_map (λ swap. stage_of (moved swap)) o)) (sym none));
       counted = inl (omega (arith, le));
       counts = le;
       once = tried-by old.state.pending p q once quiet;

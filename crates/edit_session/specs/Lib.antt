@@ -1,6 +1,7 @@
 pub mod Reasons
 pub mod Refusals
 pub mod Lists
+pub mod Ways
 pub mod Machine
 pub mod Sound
 pub mod Editing

@@ -6,11 +6,12 @@ use Rattle.ternary_words.specs.declared.table.Table as code
 use Rattle.ternary_words.specs.Views.{table_of}
 use Rattle.table_compose.specs.Headline.LeastCost.{IsLeastCost}
 use Rattle.rule_compilation.specs.Compiled.{IsCompiled}
-use Rattle.bank_update.specs.Machine as swaps
-use Rattle.bank_update.specs.Machine.{State, Swap, abort_answer, begin_answer, begun, has_turned, step_answer, total_with, unsettled}
-use Rattle.bank_update.specs.declared.refusal.BeginRefusal.TheVariants as begins
+use Rattle.bank_update.specs.Machine as updates
+use Rattle.bank_update.specs.Machine.{State, Update, abort_answer, has_turned, step_answer}
+use Rattle.bank_update.specs.Whole.{unsettled}
 use Rattle.bank_update.specs.declared.stage.Stage.{Stage}
 use Rattle.edit_session.specs.Lists.{Listed}
+use Rattle.edit_session.specs.Ways.{HasBegun, LacksRoom, Way}
 use Rattle.edit_session.specs.declared.refusal.CommitRefusal.{CommitRefusal}
 use Rattle.edit_session.specs.declared.refusal.CommitRefusal.TheVariants as commits
 
@@ -19,11 +20,13 @@ pub record Copies : Type 0 where
   pub settled : List (Rule (List ℕ))
   pub pending : Option (List (Rule (List ℕ)))
 
--- the list now, the update machine, the lists of its tables at their commits, and the width of slots and the limit of entries
+-- the list now, the update machine, the lists of its tables at their commits, in which way tables are replaced, and the width of
+-- slots and the limit of entries
 pub record SessionState : Type 0 where
   pub list : Listed
   pub state : State
   pub copies : Copies
+  pub way : Way
   pub slot : ℕ
   pub limit : ℕ
 
@@ -32,16 +35,16 @@ abbrev pub no_copies : Copies
 no_copies = record { settled = []; pending = None }
 
 -- a session over so many empty slots
-abbrev pub opened : Listed → ℕ → ℕ → ℕ → SessionState
-opened list slots slot limit = record { list = list; state = unsettled slots; copies = no_copies; slot = slot; limit = limit }
+abbrev pub opened : Listed → Way → ℕ → ℕ → ℕ → SessionState
+opened list way slots slot limit = record { list = list; state = unsettled slots; copies = no_copies; way = way; slot = slot; limit = limit }
 
 -- an edit changes the list alone
 abbrev pub with_list : SessionState → Listed → SessionState
-with_list s list = record { list = list; state = s.state; copies = s.copies; slot = s.slot; limit = s.limit }
+with_list s list = record { list = list; state = s.state; copies = s.copies; way = s.way; slot = s.slot; limit = s.limit }
 
 -- the session with its swap and the lists of its tables changed
 abbrev pub with_state : SessionState → State → Copies → SessionState
-with_state s state copies = record { list = s.list; state = state; copies = copies; slot = s.slot; limit = s.limit }
+with_state s state copies = record { list = s.list; state = state; copies = copies; way = s.way; slot = s.slot; limit = s.limit }
 
 -- Commit.
 
@@ -58,17 +61,13 @@ copies_begun list total copies =
     if total == 0 then record { settled = list.rules; pending = None }
     else record { settled = copies.settled; pending = Some list.rules }
 
--- a swap to the table has begun
-abbrev pub committed : SessionState → code.Table → SessionState
-committed s table =
-    with_state s (begun s.state table.entries.items table.names) (copies_begun s.list (total_with s.state (length table.entries.items)) s.copies)
-
--- a swap to a table for the list now has begun, of so many writes
+-- an update to a table for the list now has begun, of so many writes
 pub record IsBegun (s new : SessionState) (total : ℕ) : Type 0 where
   pub table : code.Table
   pub handed : IsTableFor s.list s.slot s.limit table
-  pub answer : begin_answer s.state (length table.entries.items) ≡ Ok total
-  pub state : new ≡ committed s table
+  pub state : State
+  pub begun : HasBegun s.way s.state state table total
+  pub session : new ≡ with_state s state (copies_begun s.list total s.copies)
 
 -- no swap is pending, and the least cost of the list now, which is so much, is above the limit
 pub record IsTooMuch (s : SessionState) (needed limit : ℕ) : Type 0 where
@@ -77,18 +76,20 @@ pub record IsTooMuch (s : SessionState) (needed limit : ℕ) : Type 0 where
   pub limit_is : limit ≡ s.limit
   pub above : limit < needed
 
--- no swap is pending, and a table for the list now fits on neither side of the settled one
-pub record HasNoRoom (s : SessionState) (above below wanted : ℕ) : Type 0 where
+-- no update is pending, and there is no room for a table for the list now
+pub record HasNoRoom (s : SessionState) (refusal : CommitRefusal) : Type 0 where
   pub table : code.Table
   pub handed : IsTableFor s.list s.slot s.limit table
-  pub answer : begin_answer s.state (length table.entries.items) ≡ Err (begins.NoRoom above below wanted)
+  pub idle : s.state.pending ≡ None
+  pub lacks : LacksRoom s.way s.state table refusal
 
 -- how a commit ends and what it leaves
 abbrev pub IsCommit : SessionState → SessionState → Result ℕ CommitRefusal → Type 0
 IsCommit s new (Ok total) = IsBegun s new total
 IsCommit s new (Err commits.Busy) = (s.state.pending ≢ None) × (new ≡ s)
 IsCommit s new (Err (commits.TooMany needed limit)) = IsTooMuch s needed limit × (new ≡ s)
-IsCommit s new (Err (commits.NoRoom above below wanted)) = HasNoRoom s above below wanted × (new ≡ s)
+IsCommit s new (Err (commits.NoRoom above below wanted)) = HasNoRoom s (commits.NoRoom above below wanted) × (new ≡ s)
+IsCommit s new (Err (commits.NoSlots needed slots)) = HasNoRoom s (commits.NoSlots needed slots) × (new ≡ s)
 IsCommit s new (Err commits.Memory) = (s.state.pending ≡ None) × (new ≡ s)
 
 -- A step whose write succeeds, and abort.
@@ -121,11 +122,11 @@ aborted_copies s copies = copies_by copies (abort_answer s)
 
 -- the session after a step that succeeds
 abbrev pub stepped : SessionState → SessionState
-stepped s = with_state s (swaps.stepped s.state) (stepped_copies s.state s.copies)
+stepped s = with_state s (updates.stepped s.state) (stepped_copies s.state s.copies)
 
 -- the session after abort
 abbrev pub aborted : SessionState → SessionState
-aborted s = with_state s (swaps.aborted s.state) (aborted_copies s.state s.copies)
+aborted s = with_state s (updates.aborted s.state) (aborted_copies s.state s.copies)
 
 -- so many steps that succeed
 abbrev pub after_steps : ℕ → SessionState → SessionState
@@ -141,10 +142,10 @@ pub record HasSettled (list : Listed) (s : SessionState) : Type 0 where
 -- Look.
 
 -- what the list of the settled table decides; during a swap that, or what the list of the pending table decides
-abbrev pub decided_with : State → Copies → Option Swap → List ℕ → Option (List ℕ)
+abbrev pub decided_with : State → Copies → Option Update → List ℕ → Option (List ℕ)
 decided_with s copies None values = source stated values copies.settled
-decided_with s copies (Some swap) values =
-    cond (has_turned s swap values) (source stated values (unwrap_or copies.pending [])) (source stated values copies.settled)
+decided_with s copies (Some u) values =
+    cond (has_turned s u values) (source stated values (unwrap_or copies.pending [])) (source stated values copies.settled)
 
 -- the decision of a header by name, as the list of the table decides that answers
 abbrev pub decided : State → Copies → List ℕ → Option (List ℕ)

@@ -2,6 +2,8 @@
 use Rattle.std.specs.Prelude.{ℕ, Result, Ok, Err}
 use Rattle.bank_update.specs.declared.refusal.BeginRefusal.{BeginRefusal}
 use Rattle.bank_update.specs.declared.refusal.BeginRefusal.TheVariants as begins
+use Rattle.slot_patch.specs.declared.refusal.PatchRefusal.{PatchRefusal}
+use Rattle.slot_patch.specs.declared.refusal.PatchRefusal.TheVariants as patches
 use Rattle.table_compose.specs.declared.composition.ComposeError.{ComposeError}
 use Rattle.table_compose.specs.declared.composition.ComposeError.TheVariants as composes
 use Rattle.edit_session.specs.declared.refusal.CommitRefusal.{CommitRefusal}
@@ -19,10 +21,11 @@ abbrev pub begin_refusal_of : BeginRefusal → CommitRefusal
 begin_refusal_of begins.Busy = commits.Busy
 begin_refusal_of (begins.NoRoom above below wanted) = commits.NoRoom above below wanted
 
--- what begin answers, as the commit's answer
-abbrev pub commit_answer : Result ℕ BeginRefusal → Result ℕ CommitRefusal
-commit_answer (Ok total) = Ok total
-commit_answer (Err refusal) = Err (begin_refusal_of refusal)
+-- why no patch was begun, as a refusal to commit
+abbrev pub patch_refusal_of : PatchRefusal → CommitRefusal
+patch_refusal_of patches.Busy = commits.Busy
+patch_refusal_of (patches.NoRoom needed slots) = commits.NoSlots needed slots
+patch_refusal_of patches.Memory = commits.Memory
 
 -- memory was not refused where a rule was to be added
 abbrev pub IsKnownAdd : Result ℕ PlaceRefusal → Type 0
@@ -36,6 +39,7 @@ abbrev pub IsKnownRefusal : CommitRefusal → Type 0
 IsKnownRefusal commits.Busy = Unit {0}
 IsKnownRefusal (commits.TooMany needed limit) = Unit {0}
 IsKnownRefusal (commits.NoRoom above below wanted) = Unit {0}
+IsKnownRefusal (commits.NoSlots needed slots) = Unit {0}
 IsKnownRefusal commits.Memory = ⊥
 
 -- memory was not refused to a commit

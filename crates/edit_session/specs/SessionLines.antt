@@ -33,11 +33,16 @@ take_out_line (Err refusal) = no_place_line refusal.count
 abbrev pub too_many_line : ℕ → ℕ → List ℕ
 too_many_line needed limit = decimal needed ++ (codes " entries needed, limit " ++ (decimal limit ++ line_end))
 
+-- so many slots are needed, and there are only these
+abbrev pub no_slots_line : ℕ → ℕ → List ℕ
+no_slots_line needed slots = codes "no room " ++ (decimal needed ++ (codes " " ++ (decimal slots ++ line_end)))
+
 -- why no swap was begun: as a script says it, or that the list needs too much; memory that is refused prints no line
 abbrev pub commit_refusal_line : CommitRefusal → List ℕ
 commit_refusal_line commits.Busy = begin_line (Err begins.Busy)
 commit_refusal_line (commits.TooMany needed limit) = too_many_line needed limit
 commit_refusal_line (commits.NoRoom above below wanted) = begin_line (Err (begins.NoRoom above below wanted))
+commit_refusal_line (commits.NoSlots needed slots) = no_slots_line needed slots
 commit_refusal_line commits.Memory = []
 
 -- what a commit answers

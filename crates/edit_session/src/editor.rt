@@ -4,11 +4,14 @@ ghost use Rattle.razor_base.specs.declared.limits.TheConstants.{MOST_ENTRIES, MO
 use crate::compiling::compiled;
 use crate::list_swapper::ListSwapper;
 use crate::listing::Listing;
-use crate::refusal::{CommitRefusal, NoPlace, PlaceRefusal, commit_answer};
-use bank_update::{Idle, Stage, StepRefusal};
+use crate::refusal::{CommitRefusal, NoPlace, PlaceRefusal};
+use crate::way::Replaced;
+use bank_update::{Block, Idle, Stage, StepRefusal, Swapper, Updater};
 use field_boxes::{Decisions, Header, Rule};
 use filter_reader::RuleList;
+use razor_base::Memory;
 use rule_compilation::Compiler;
+use slot_patch::{SlotTable, new_patcher};
 use std::alloc::Global;
 use std::marker::Model;
 use tcam_sim::Device;
@@ -22,16 +25,16 @@ use ternary_words::Table;
 ///
 /// [`commit`]: Editor::commit
 #[derive(Drop)]
-pub struct Editor<V: Device> {
+pub struct Editor<V: Device, T: Replaced = Block> {
     alloc: Global,
     list: Listing,
     compiler: Compiler,
-    swapper: ListSwapper<V>,
+    swapper: ListSwapper<V, T>,
     slot: u16,
     limit: u32,
 }
 
-impl<V: Device> Model for Editor<V> {
+impl<V: Device, T: Replaced> Model for Editor<V, T> {
     ghost use Rattle.std.specs.Prelude.{◌≤◌};
     ghost use Rattle.razor_base.specs.declared.limits.TheConstants.{MOST_ENTRIES};
     ghost use Rattle.ternary_words.specs.Limits.{IsSlotWidth};
@@ -39,12 +42,62 @@ impl<V: Device> Model for Editor<V> {
 
     ghost Value = { Editing V };
 
-    ghost view = { λ e. record { device = e.swapper.device; session = record { list = e.list; state = e.swapper.state; copies = e.swapper.copies; slot = e.slot; limit = e.limit } } };
+    ghost view = { λ e. record { device = e.swapper.device; session = record { list = e.list; state = e.swapper.state; copies = e.swapper.copies; way = T.way; slot = e.slot; limit = e.limit } } };
 
     ghost invariant = { λ e. (e.limit ≤ MOST_ENTRIES) × ∥ IsSlotWidth e.slot ∥₁ };
 }
 
-impl<V: Device> Editor<V> {
+impl<V: Device> Editor<V, Block> {
+    ghost use Rattle.std.specs.Prelude.{◌≡◌, ◌≤◌, None, length, replicate};
+    ghost use Rattle.field_boxes.specs.NamedRules.{named_rules};
+    ghost use Rattle.ternary_words.specs.Limits.{IsSlotWidth};
+    ghost use Rattle.edit_session.specs.Machine.{opened};
+    ghost use Rattle.edit_session.specs.Ways.{Whole};
+
+    /// A session over the list and an empty memory, for slots of `slot` trits (104, 144 or 288) and tables whose
+    /// least cost is at most `limit` (to 262,144). Each table is written whole beside the old one.
+    pub fn new(alloc: Global, list: RuleList, slot: u16, limit: u32, device: V) -> Self
+        requires slot { ∥ IsSlotWidth slot ∥₁ }
+        requires limit { limit ≤ MOST_ENTRIES }
+        requires empty { V.held device ≡ replicate (length (V.held device)) None }
+        ensures device { result.device ≡ device }
+        ensures session { result.session ≡ opened (record { rules = named_rules list.names list.rules.items; names = list.names }) Whole (length (V.held device)) slot limit }
+    {
+        Editor::over(alloc, list, slot, limit, Swapper::new(device))
+    }
+}
+
+impl<V: Device> Editor<V, SlotTable> {
+    ghost use Rattle.std.specs.Prelude.{◌≡◌, ◌≤◌, None, length, replicate, IfOk, IfErr};
+    ghost use Rattle.field_boxes.specs.NamedRules.{named_rules};
+    ghost use Rattle.ternary_words.specs.Limits.{IsSlotWidth};
+    ghost use Rattle.edit_session.specs.Machine.{opened};
+    ghost use Rattle.edit_session.specs.Ways.{InPlace};
+
+    /// As `new`; but each table is written in the slots where the old one stands, by few writes. Where memory is
+    /// refused, the device comes back.
+    pub fn in_place(
+        alloc: Global,
+        list: RuleList,
+        slot: u16,
+        limit: u32,
+        device: V,
+    ) -> Result<Self, (V, Memory)>
+        requires slot { ∥ IsSlotWidth slot ∥₁ }
+        requires limit { limit ≤ MOST_ENTRIES }
+        requires empty { V.held device ≡ replicate (length (V.held device)) None }
+        ensures device { IfOk result (λ editor. editor.device ≡ device) }
+        ensures session { IfOk result (λ editor. editor.session ≡ opened (record { rules = named_rules list.names list.rules.items; names = list.names }) InPlace (length (V.held device)) slot limit) }
+        ensures err { IfErr result (λ refused. refused.0 ≡ device) }
+    {
+        match new_patcher(alloc, device) {
+            Ok(patcher) => Ok(Editor::over(alloc, list, slot, limit, patcher)),
+            Err(refused) => Err(refused),
+        }
+    }
+}
+
+impl<V: Device, T: Replaced> Editor<V, T> {
     ghost use Rattle.std.specs.Prelude.{◌≡◌, ◌≢◌, ◌≤◌, ◌<◌, ◌↔◌, ℕ, List, None, Some, Ok, Err, All, length, replicate, ok_or, IfOk, IfErr, IsTrue, OnOk, OnErr};
     ghost use Rattle.razor_base.specs.FaultPlan.{counted};
     ghost use Rattle.razor_base.specs.Faults.{Rose};
@@ -56,6 +109,7 @@ impl<V: Device> Editor<V> {
     ghost use Rattle.bank_update.specs.Machine.{abort_answer, held, looked, stage, step_answer};
     ghost use Rattle.bank_update.specs.Sound.{IsSound};
     ghost use Rattle.bank_update.specs.Swapping.{KeepsNew};
+    ghost use Rattle.bank_update.specs.Whole.{unsettled};
     ghost use Rattle.bank_update.specs.declared.refusal.StepRefusal.TheVariants as step_refusals;
     ghost use Rattle.edit_session.specs.Editing.{IsAddRefused};
     ghost use Rattle.edit_session.specs.Lists.{IsEditable, add_answer, rule_named, take_out_answer, taken_out, with_rule};
@@ -63,20 +117,19 @@ impl<V: Device> Editor<V> {
     ghost use Rattle.edit_session.specs.Sound.{AreTablesOf};
     ghost use Rattle.edit_session.specs.declared.refusal.CommitRefusal.TheVariants as commit_refusals;
 
-    /// A session over the list and an empty memory, for slots of `slot` trits (104, 144 or 288) and tables whose
-    /// least cost is at most `limit` (to 262,144).
-    pub fn new(alloc: Global, list: RuleList, slot: u16, limit: u32, device: V) -> Self
+    /// A session over the list and a memory without a table.
+    fn over(alloc: Global, list: RuleList, slot: u16, limit: u32, updater: Updater<V, T>) -> Self
         requires slot { ∥ IsSlotWidth slot ∥₁ }
         requires limit { limit ≤ MOST_ENTRIES }
-        requires empty { V.held device ≡ replicate (length (V.held device)) None }
-        ensures device { result.device ≡ device }
-        ensures session { result.session ≡ opened (record { rules = named_rules list.names list.rules.items; names = list.names }) (length (V.held device)) slot limit }
+        requires empty { updater.state ≡ unsettled (length (V.held updater.device)) }
+        ensures device { result.device ≡ updater.device }
+        ensures session { result.session ≡ opened (record { rules = named_rules list.names list.rules.items; names = list.names }) T.way (length (V.held updater.device)) slot limit }
     {
         Editor {
             alloc,
             list: Listing::of(list),
             compiler: Compiler::new(alloc),
-            swapper: ListSwapper::new(alloc, device),
+            swapper: ListSwapper::new(alloc, updater),
             slot,
             limit,
         }
@@ -161,7 +214,7 @@ impl<V: Device> Editor<V> {
         ensures commit { IsCommit self.old.session self.new.session result }
         ensures device { self.new.device ≡ self.old.device }
     {
-        commit_answer(self.swapper.begin(table, copy))
+        self.swapper.begin(self.alloc, table, copy)
     }
 
     /// Does the next write, or undoes the last one where the swap goes back, and answers the stage.

@@ -1,4 +1,4 @@
-//! An editing session: a rule list that is edited, compiled, and swapped into a ternary memory write by write.
+//! An editing session: a rule list that is edited, compiled, and brought into a ternary memory write by write.
 //!
 //! 1. An [`Editor`] holds the list and a memory. [`Editor::add`] and [`Editor::take_out`] change the list alone.
 //! 2. [`Editor::commit`] compiles the list as it is and begins a swap to its table; a copy of the list goes with it.
@@ -18,9 +18,10 @@
 //!
 //! - [`Editor::add`] puts the rule at the place that is named, [`Editor::take_out`] takes one out, and the others keep
 //!   their order; or the call says exactly why not.
-//! - [`Editor::commit`] begins a swap to a table that is compiled of the list as it is then, or says that a swap is
-//!   pending, that the least cost is above the limit, and which it is, that the table fits on neither side of the
-//!   settled one, or that it ran out of memory; then all is as it was.
+//! - [`Editor::commit`] begins an update to a table that is compiled of the list as it is then: whole beside the settled
+//!   one, or in the slots where that stands, as the editor was made. Or it says that an update is pending, that the
+//!   least cost is above the limit, and which it is, that there is no room, or that it ran out of memory; then all is as
+//!   it was.
 //! - [`Editor::step`], [`Editor::abort`] and [`Editor::stage`] answer as the update machine of `bank_update` does.
 //! - [`Editor::look`] gives by name what the list decides from which the answering table was compiled: the settled
 //!   table's, or during a swap the settled or the pending one's, whatever was edited since.
@@ -37,6 +38,7 @@
 //! |---|---|
 //! | `editor`, `refusal` | the session over a memory, and why an edit or a commit is refused |
 //! | `listing`, `compiling` | a list with its edits, and the table that a commit hands over |
+//! | `way` | in which way that table takes the place of the settled one |
 //! | `list_swapper`, `table_lists` | tables that are swapped, with the lists from which they were compiled |
 //! | `running`, `session`, `line` | a text that is run: its commands, and the line of each |
 //! | `read`, `command`, `reason` | the text of a session |
@@ -56,6 +58,7 @@ mod refusal;
 mod running;
 mod session;
 mod table_lists;
+mod way;
 
 pub use editor::Editor;
 pub use read::{SessionError, read_session};
@@ -63,3 +66,4 @@ pub use reason::SessionReason;
 pub use refusal::{CommitRefusal, NoPlace, PlaceRefusal};
 pub use running::session_on;
 pub use session::{Session, SessionCommand};
+pub use way::Replaced;

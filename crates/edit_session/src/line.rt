@@ -4,7 +4,7 @@ ghost use Rattle.std.specs.Fmt.{decimal};
 ghost use Rattle.razor_base.specs.Output.{Writes};
 ghost use Rattle.bank_update.specs.Lines.{line_end};
 ghost use Rattle.edit_session.specs.Refusals.{IsKnownAdd, IsKnownCommit, IsKnownRefusal};
-ghost use Rattle.edit_session.specs.SessionLines.{add_line, commit_line, commit_refusal_line, take_out_line, too_many_line};
+ghost use Rattle.edit_session.specs.SessionLines.{add_line, commit_line, commit_refusal_line, no_slots_line, take_out_line, too_many_line};
 ghost use Rattle.edit_session.specs.declared.refusal.CommitRefusal.TheVariants as commits;
 ghost use Rattle.edit_session.specs.declared.refusal.PlaceRefusal.TheVariants as places;
 
@@ -89,6 +89,27 @@ fn write_too_many<K: Sink>(
     write_line(pending, out, &parts)
 }
 
+/// Writes how many slots are needed, and how many there are.
+fn write_no_slots<K: Sink>(
+    pending: &mut Pending,
+    out: &mut K,
+    needed: u64,
+    slots: u32,
+) -> Result<(), Failed>
+    requires { pending.old ≡ [] }
+    ensures whole { Writes K.written K.faults out.old out.new (no_slots_line needed slots) result }
+    ensures none { pending.new ≡ [] }
+{
+    let parts = [
+        Part::Text("no room "),
+        Part::Number(u128::from(needed)),
+        Part::Text(" "),
+        Part::Number(u128::from(slots)),
+        Part::Text("\n"),
+    ];
+    write_line(pending, out, &parts)
+}
+
 /// Writes why no swap was begun. Where that is that memory was refused, nothing is written.
 fn write_commit_refusal<K: Sink>(
     pending: &mut Pending,
@@ -116,6 +137,7 @@ fn write_commit_refusal<K: Sink>(
             };
             Ok(write_begun(pending, out, Err(refusal)))
         }
+        CommitRefusal::NoSlots { needed, slots } => Ok(write_no_slots(pending, out, needed, slots)),
         CommitRefusal::Memory => Err(Memory),
     }
 }

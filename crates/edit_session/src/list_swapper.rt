@@ -2,54 +2,58 @@
 ghost use Rattle.std.specs.Prelude.{◌≡◌, length};
 
 use crate::listing::Listing;
+use crate::refusal::CommitRefusal;
 use crate::table_lists::TableLists;
-use bank_update::{BeginRefusal, Idle, Stage, StepRefusal, Swapper};
+use crate::way::Replaced;
+use bank_update::{Idle, Stage, StepRefusal, Updater};
 use field_boxes::Header;
 use std::alloc::Global;
 use std::marker::Model;
 use tcam_sim::Device;
 use ternary_words::Table;
 
-/// A swapper, and the lists of its tables: the tables answer as their lists decide.
+/// A memory whose tables are replaced, and the lists of its tables: the tables answer as their lists decide.
 #[derive(Drop)]
-pub(crate) struct ListSwapper<V: Device> {
+pub(crate) struct ListSwapper<V: Device, T: Replaced> {
     lists: TableLists,
-    swapper: Swapper<V>,
+    updater: Updater<V, T>,
 }
 
-impl<V: Device> Model for ListSwapper<V> {
+impl<V: Device, T: Replaced> Model for ListSwapper<V, T> {
     ghost use Rattle.edit_session.specs.Editing.{ListedSwap};
     ghost use Rattle.edit_session.specs.Sound.{AreTablesOf};
 
     ghost Value = { ListedSwap V };
 
-    ghost view = { λ s. record { device = s.swapper.device; state = s.swapper.state; copies = s.lists } };
+    ghost view = { λ s. record { device = s.updater.device; state = s.updater.state; copies = s.lists } };
 
-    ghost invariant = { λ s. AreTablesOf s.lists s.swapper.state };
+    ghost invariant = { λ s. AreTablesOf s.lists s.updater.state };
 }
 
-impl<V: Device> ListSwapper<V> {
+impl<V: Device, T: Replaced> ListSwapper<V, T> {
     ghost use Rattle.std.specs.Prelude.{◌≡◌, ◌≢◌, ◌≤◌, ◌↔◌, ℕ, List, None, Some, Ok, Err, length, replicate, ok_or, IfOk, IfErr, OnOk, OnErr};
     ghost use Rattle.razor_base.specs.FaultPlan.{counted};
     ghost use Rattle.razor_base.specs.Faults.{Rose};
     ghost use Rattle.field_boxes.specs.Headline.Names.{text_of};
-    ghost use Rattle.bank_update.specs.Machine.{abort_answer, aborted, begin_answer, begun, held, looked, stage, step_answer, stepped, total_with, unsettled};
+    ghost use Rattle.bank_update.specs.Machine.{abort_answer, aborted, held, looked, stage, step_answer, stepped};
+    ghost use Rattle.bank_update.specs.Whole.{unsettled};
     ghost use Rattle.bank_update.specs.Sound.{IsSound};
     ghost use Rattle.bank_update.specs.Swapping.{KeepsNew};
     ghost use Rattle.bank_update.specs.declared.refusal.StepRefusal.TheVariants as step_refusals;
     ghost use Rattle.edit_session.specs.Machine.{aborted_copies, copies_begun, decided, no_copies, stepped_copies};
-    ghost use Rattle.edit_session.specs.Sound.{AreTablesOf, IsTableOf};
+    ghost use Rattle.edit_session.specs.Sound.{AreTablesOf, IsTableBy};
+    ghost use Rattle.edit_session.specs.Ways.{HasBegun, IsNotBegun};
 
     /// The settled table is the empty one, of the empty list.
-    pub(crate) fn new(alloc: Global, device: V) -> Self
-        requires { V.held device ≡ replicate (length (V.held device)) None }
-        ensures device { result.device ≡ device }
-        ensures state { result.state ≡ unsettled (length (V.held device)) }
+    pub(crate) fn new(alloc: Global, updater: Updater<V, T>) -> Self
+        requires { updater.state ≡ unsettled (length (V.held updater.device)) }
+        ensures device { result.device ≡ updater.device }
+        ensures state { result.state ≡ updater.state }
         ensures copies { result.copies ≡ no_copies }
     {
         ListSwapper {
             lists: TableLists::new(alloc),
-            swapper: Swapper::new(device),
+            updater,
         }
     }
 
@@ -58,7 +62,7 @@ impl<V: Device> ListSwapper<V> {
         ensures device { result.now ≡ self.now.device }
         ensures held { V.held result.now ≡ held self.now.state }
     {
-        self.swapper.device()
+        self.updater.device()
     }
 
     /// The stage of the swap that is pending.
@@ -68,26 +72,27 @@ impl<V: Device> ListSwapper<V> {
         ensures tables { AreTablesOf self.now.copies self.now.state }
     {
         let _lists = &self.lists;
-        self.swapper.stage()
+        self.updater.stage()
     }
 
-    /// Begins a swap to a table of the list.
-    pub(crate) fn begin(&mut self, table: Table, list: Listing) -> Result<u64, BeginRefusal>
-        requires { IsTableOf list.rules (record { start = 0; entries = table.entries.items; names = table.names }) }
-        ensures ok { IfOk result (λ total. begin_answer self.old.state (length table.entries.items) ≡ Ok total) }
-        ensures err { IfErr result (λ refusal. begin_answer self.old.state (length table.entries.items) ≡ Err refusal) }
-        ensures state { self.new.state ≡ begun self.old.state table.entries.items table.names }
-        ensures copies { OnOk result (self.new.copies ≡ copies_begun list (total_with self.old.state (length table.entries.items)) self.old.copies) }
-        ensures unchanged { OnErr result (self.new.copies ≡ self.old.copies) }
+    /// Begins an update to a table of the list, and answers how many writes it has. After a refusal all is as it was.
+    pub(crate) fn begin(
+        &mut self,
+        alloc: Global,
+        table: Table,
+        list: Listing,
+    ) -> Result<u64, CommitRefusal>
+        requires idle { self.old.state.pending ≡ None }
+        requires table { IsTableBy list.rules table }
+        ensures begun { IfOk result (λ total. HasBegun T.way self.old.state self.new.state table total) }
+        ensures copies { IfOk result (λ total. self.new.copies ≡ copies_begun list total self.old.copies) }
+        ensures refused { IfErr result (IsNotBegun T.way self.old.state table) }
+        ensures unchanged { OnErr result (self.new ≡ self.old) }
         ensures device { self.new.device ≡ self.old.device }
     {
-        match self.swapper.begin(table) {
-            Ok(total) => {
-                self.lists.begin(list, total);
-                Ok(total)
-            }
-            Err((_table, refusal)) => Err(refusal),
-        }
+        let total = T::begin(alloc, &mut self.updater, table)?;
+        self.lists.begin(list, total);
+        Ok(total)
     }
 
     /// Does the next write, or undoes the last one where the swap goes back, and answers the stage.
@@ -104,7 +109,7 @@ impl<V: Device> ListSwapper<V> {
         ensures fault { result ≡ Err step_refusals.DeviceFault → Rose (V.faults self.old.device) (V.faults self.new.device) }
         ensures counts { V.faults self.old.device ≤ V.faults self.new.device }
     {
-        let stage = self.swapper.step()?;
+        let stage = self.updater.step()?;
         self.lists.reach(stage);
         Ok(stage)
     }
@@ -116,7 +121,7 @@ impl<V: Device> ListSwapper<V> {
         ensures copies { self.new.copies ≡ aborted_copies self.old.state self.old.copies }
         ensures device { self.new.device ≡ self.old.device }
     {
-        let stage = self.swapper.abort()?;
+        let stage = self.updater.abort()?;
         self.lists.reach(stage);
         Ok(stage)
     }
@@ -128,7 +133,7 @@ impl<V: Device> ListSwapper<V> {
     {
         let _lists = &self.lists;
         are_five(header.values);
-        self.swapper.look(header)
+        self.updater.look(header)
     }
 }
 

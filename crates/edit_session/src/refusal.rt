@@ -1,11 +1,12 @@
 //! Why an edit or a commit was refused.
 ghost use Rattle.std.specs.Prelude.{◌≡◌};
-ghost use Rattle.edit_session.specs.Refusals.{begin_refusal_of, commit_answer, commit_refusal_of};
+ghost use Rattle.edit_session.specs.Refusals.{begin_refusal_of, commit_refusal_of, patch_refusal_of};
 ghost use Rattle.edit_session.specs.declared.refusal.PlaceRefusal.TheVariants as places;
 ghost use Rattle.edit_session.specs.declared.refusal.CommitRefusal.TheVariants as commits;
 
 use bank_update::BeginRefusal;
 use razor_base::Memory;
+use slot_patch::PatchRefusal;
 use table_compose::ComposeError;
 use thiserror::Error;
 
@@ -58,6 +59,13 @@ pub enum CommitRefusal {
         free_below: u32,
         wanted: u32,
     },
+    /// None is pending and the least cost is within the limit, but in place the settled table and this one need so
+    /// many slots, and there are only these.
+    #[error("{needed} slots are needed, and there are {slots}")]
+    NoSlots {
+        needed: u64,
+        slots: u32,
+    },
     /// Memory was refused.
     #[error("memory was refused")]
     Memory,
@@ -82,30 +90,33 @@ impl From<ComposeError> for CommitRefusal {
     }
 }
 
-/// Why no swap was begun, as a refusal to commit.
-fn begin_refused(refusal: BeginRefusal) -> CommitRefusal
-    ensures { result ≡ begin_refusal_of refusal }
-{
-    match refusal {
-        BeginRefusal::Busy => CommitRefusal::Busy,
-        BeginRefusal::NoRoom {
-            free_above,
-            free_below,
-            wanted,
-        } => CommitRefusal::NoRoom {
-            free_above,
-            free_below,
-            wanted,
-        },
+impl From<BeginRefusal> for CommitRefusal {
+    ghost from_gives = { λ refusal e. e ≡ begin_refusal_of refusal };
+
+    fn from(refusal: BeginRefusal) -> Self {
+        match refusal {
+            BeginRefusal::Busy => CommitRefusal::Busy,
+            BeginRefusal::NoRoom {
+                free_above,
+                free_below,
+                wanted,
+            } => CommitRefusal::NoRoom {
+                free_above,
+                free_below,
+                wanted,
+            },
+        }
     }
 }
 
-/// What `begin` answers, as the answer of a commit.
-pub(crate) fn commit_answer(answer: Result<u64, BeginRefusal>) -> Result<u64, CommitRefusal>
-    ensures { result ≡ commit_answer answer }
-{
-    match answer {
-        Ok(total) => Ok(total),
-        Err(refusal) => Err(begin_refused(refusal)),
+impl From<PatchRefusal> for CommitRefusal {
+    ghost from_gives = { λ refusal e. e ≡ patch_refusal_of refusal };
+
+    fn from(refusal: PatchRefusal) -> Self {
+        match refusal {
+            PatchRefusal::Busy => CommitRefusal::Busy,
+            PatchRefusal::NoRoom { needed, slots } => CommitRefusal::NoSlots { needed, slots },
+            PatchRefusal::Memory => CommitRefusal::Memory,
+        }
     }
 }

@@ -17,6 +17,7 @@ ghost use Rattle.edit_session.specs.SessionViews.{IsCommand, event_of};
 use crate::editor::Editor;
 use crate::line::{write_added, write_committed, write_taken_out};
 use crate::session::{Session, SessionCommand};
+use crate::way::Replaced;
 use bank_update::{DriveError, write_name, write_stage, write_step};
 use field_boxes::Rule;
 use razor_base::{Failed, Memory, Pending, Sink};
@@ -24,11 +25,11 @@ use std::alloc::Global;
 use tcam_sim::Device;
 
 /// Adds the rule and writes the line. Where memory is refused no rule is added, and the name may be there.
-fn add<K: Sink, V: Device>(
+fn add<K: Sink, V: Device, T: Replaced>(
     place: u32,
     rule: &Rule,
     name: &str,
-    editor: &mut Editor<V>,
+    editor: &mut Editor<V, T>,
     pending: &mut Pending,
     out: &mut K,
 ) -> Result<Result<(), Failed>, Memory>
@@ -44,8 +45,8 @@ fn add<K: Sink, V: Device>(
 }
 
 /// Commits the list and writes the line. Where memory is refused nothing is done.
-fn commit<K: Sink, V: Device>(
-    editor: &mut Editor<V>,
+fn commit<K: Sink, V: Device, T: Replaced>(
+    editor: &mut Editor<V, T>,
     pending: &mut Pending,
     out: &mut K,
 ) -> Result<Result<(), Failed>, Memory>
@@ -59,9 +60,9 @@ fn commit<K: Sink, V: Device>(
 
 /// Does the command and writes its line. Where memory is refused it isn't done; the name of a rule that was to be
 /// added may be there.
-fn take_turn<K: Sink, V: Device>(
+fn take_turn<K: Sink, V: Device, T: Replaced>(
     command: &SessionCommand,
-    editor: &mut Editor<V>,
+    editor: &mut Editor<V, T>,
     pending: &mut Pending,
     out: &mut K,
 ) -> Result<Result<(), Failed>, Memory>
@@ -93,10 +94,10 @@ fn take_turn<K: Sink, V: Device>(
 /// A write that fails stops it with the command done whose line is cut off, and memory that is refused stops it
 /// before the command that wanted it; the name of a rule that was to be added may be there then.
 #[inline(never)]
-pub fn session_on<K: Sink, V: Device>(
+pub fn session_on<K: Sink, V: Device, T: Replaced>(
     _alloc: Global,
     session: &Session,
-    editor: &mut Editor<V>,
+    editor: &mut Editor<V, T>,
     out: &mut K,
 ) -> Result<u64, DriveError>
     requires { length editor.old.session.list.names + adds_of session.now < MOST_ENTRIES }

@@ -8,7 +8,7 @@ use Rattle.field_boxes.specs.Names.{name_at}
 use Rattle.ternary_words.specs.declared.entry.Entry as code_entry
 use Rattle.ternary_words.specs.Headline.Table.{Entry}
 use Rattle.ternary_words.specs.Views.{entry_of, word_of}
-use Rattle.slot_patch.specs.declared.plan.Put.{Put}
+use Rattle.bank_update.specs.declared.write.Put.{Put}
 use Rattle.table_text.specs.Names.{decided}
 use Rattle.memory_text.specs.Kept.{AreNumbered, AreNumberedPuts, AreSpelled, Extends, number_in}
 use Rattle.memory_text.specs.Memory.{Write, entries_in}

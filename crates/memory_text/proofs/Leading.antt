@@ -7,16 +7,16 @@ use Rattle.ternary_words.specs.Headline.Table as words
 use Rattle.ternary_words.specs.Views.{entry_of}
 use Rattle.ternary_words.specs.declared.entry.Entry.{Entry}
 use Rattle.tcam_sim.specs.Slots.{stored}
-use Rattle.slot_patch.specs.Banks.{bank_of, table_in}
+use Rattle.bank_update.specs.Standing.{bank_of, table_in}
 use Rattle.slot_patch.specs.Least.{least_slots, same_word}
-use Rattle.slot_patch.specs.Moving as code
+use Rattle.bank_update.specs.Standing as code
 use Rattle.slot_patch.specs.Planning.{IsPlanned}
-use Rattle.slot_patch.specs.Plans.{after}
+use Rattle.bank_update.specs.Plans.{after}
 use Rattle.slot_patch.specs.declared.plan.Plan as code_plan
 use Rattle.slot_patch.specs.declared.plan.Planned.TheVariants as planning
-use Rattle.slot_patch.specs.declared.plan.Put.{Put}
-use Rattle.slot_patch.specs.declared.plan.Write as code_write
-use Rattle.slot_patch.proofs.Patches.{length-after}
+use Rattle.bank_update.specs.declared.write.Put.{Put}
+use Rattle.bank_update.specs.declared.write.Write as code_write
+use Rattle.bank_update.proofs.Afterwards.{length-after}
 use Rattle.memory_text.specs.Kept.{AreNumbered, AreWithin, Extends}
 use Rattle.memory_text.specs.Memory.{Write, entries_in}
 use Rattle.memory_text.specs.Patched.{AreCopies, put_of}

@@ -6,7 +6,7 @@ use Rattle.field_boxes.specs.Headline.Names.{text_of}
 use Rattle.field_boxes.specs.Names.{name_at}
 use Rattle.ternary_words.specs.declared.entry.Entry as code_entry
 use Rattle.ternary_words.specs.Views.{entry_of}
-use Rattle.slot_patch.specs.declared.plan.Put.{Put}
+use Rattle.bank_update.specs.declared.write.Put.{Put}
 use Rattle.text_lines.proofs.Decimals.{decimal-other}
 use Rattle.text_lines.proofs.Joins.{is_other, split_once-joined}
 use Rattle.table_text.specs.Lines.{lines_of}

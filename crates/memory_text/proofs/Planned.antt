@@ -6,9 +6,11 @@ use Rattle.ternary_words.specs.Headline.Table as words
 use Rattle.ternary_words.specs.Views.{entry_of}
 use Rattle.ternary_words.specs.declared.entry.Entry.{Entry}
 use Rattle.tcam_sim.specs.Slots.{Stored, stored}
-use Rattle.slot_patch.specs.Banks.{Bank, bank_of, decided, table_in}
-use Rattle.slot_patch.specs.Plans as banks
-use Rattle.slot_patch.specs.declared.plan.Write as code_write
+use Rattle.bank_update.specs.Standing.{Bank, bank_of, table_in}
+use Rattle.slot_patch.specs.Banks.{decided}
+use Rattle.bank_update.specs.Plans as banks
+use Rattle.slot_patch.specs.Plans.{IsPatch}
+use Rattle.bank_update.specs.declared.write.Write as code_write
 use Rattle.slot_patch.proofs.Naming.{named}
 use Rattle.slot_patch.proofs.Patches.{turns}
 use Rattle.memory_text.specs.Memory.{Write, after, entries_in}
@@ -81,7 +83,7 @@ by_bank names [] = refl
 by_bank names (None ∷ held) = by_bank names held
 by_bank names (Some e ∷ held) = ap (λ (es : List words.Entry). entry_of names e ∷ es) (by_bank names held)
 
-module _ (names : Names) (held table : Held) (writes : List code_write.Write) (p : banks.IsPatch (bank_of held) (bank_of table) writes) where
+module _ (names : Names) (held table : Held) (writes : List code_write.Write) (p : IsPatch (bank_of held) (bank_of table) writes) where
   abbrev plan : List Write
   plan = map (seen names) writes
 

@@ -7,7 +7,7 @@ use Rattle.std.proofs.lemmas.List.{length-map, length-take-le, map-append, take_
 use Rattle.ternary_words.specs.declared.entry.Entry as code_entry
 use Rattle.ternary_words.specs.Headline.Table.{Entry}
 use Rattle.ternary_words.specs.Views.{entry_of}
-use Rattle.slot_patch.specs.declared.plan.Put.{Put}
+use Rattle.bank_update.specs.declared.write.Put.{Put}
 use Rattle.memory_text.specs.Memory.{entries_in}
 use Rattle.memory_text.specs.declared.kind.TextKind.TheVariants as kinds
 use Rattle.memory_text.specs.MemoryText.{first_line, memory_text, plan_text, slot_line, slot_lines, write_line}

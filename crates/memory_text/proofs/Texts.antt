@@ -6,7 +6,7 @@ use Rattle.std.proofs.lemmas.List.Elements.{recursion_from_All}
 use Rattle.ternary_words.specs.declared.entry.Entry as code_entry
 use Rattle.ternary_words.specs.Headline.Table.{Entry}
 use Rattle.ternary_words.specs.Views.{entry_of}
-use Rattle.slot_patch.specs.declared.plan.Put.{Put}
+use Rattle.bank_update.specs.declared.write.Put.{Put}
 use Rattle.text_lines.proofs.Joins.{is_other}
 use Rattle.table_text.specs.Lines.{Line, lines_of}
 use Rattle.table_text.proofs.Cuts.{lines_of-line, whole_line}

@@ -2,7 +2,7 @@
 use Rattle.std.specs.Prelude.{◌≡◌, ℕ, ◌≤◌, ◌<◌, List, length, Option, Some, None, All, IsTrue}
 use Rattle.field_boxes.specs.Names.{name_at}
 use Rattle.ternary_words.specs.declared.entry.Entry.{Entry}
-use Rattle.slot_patch.specs.declared.plan.Put.{Put}
+use Rattle.bank_update.specs.declared.write.Put.{Put}
 use Rattle.table_text.specs.Names.{is_name}
 
 -- each name can be spelled

@@ -1,8 +1,8 @@
 -- What comes of planning a patch.
 use Rattle.std.specs.Prelude.{◌≡◌, ◌<◌, ◌≤◌, List, length, map}
 use Rattle.ternary_words.specs.Headline.Table.{Table}
-use Rattle.slot_patch.specs.declared.plan.Put.{Put}
-use Rattle.slot_patch.specs.declared.plan.Write.{Write}
+use Rattle.bank_update.specs.declared.write.Put.{Put}
+use Rattle.bank_update.specs.declared.write.Write.{Write}
 use Rattle.memory_text.specs.declared.patching.Patched.{Patched}
 use Rattle.memory_text.specs.declared.patching.Patched.TheVariants.{Ready, NoRoom}
 use Rattle.memory_text.specs.Memory.{Memory, entries_in}

@@ -3,7 +3,7 @@ use Rattle.std.specs.Prelude.{ℕ, List, map, Option, option_map}
 use Rattle.ternary_words.specs.declared.entry.Entry as code_entry
 use Rattle.ternary_words.specs.Headline.Table.{Entry}
 use Rattle.ternary_words.specs.Views.{entry_of}
-use Rattle.slot_patch.specs.declared.plan.Put.{Put}
+use Rattle.bank_update.specs.declared.write.Put.{Put}
 use Rattle.table_text.specs.EntryViews.{spelled_view}
 use Rattle.memory_text.specs.declared.memory.SlotMemory.{SlotMemory}
 use Rattle.memory_text.specs.declared.plan.SlotPlan.{SlotPlan}

@@ -4,8 +4,9 @@ ghost use Rattle.memory_text.specs.Kept.{AreNumberedPuts, AreSpelled};
 
 use crate::line::SpelledWrite;
 use crate::naming::numbered;
+use bank_update::Put;
 use razor_base::Memory;
-use slot_patch::{Names, Put};
+use slot_patch::Names;
 use std::alloc::Global;
 
 /// The writes read so far, and the names of their decisions in first-seen order.

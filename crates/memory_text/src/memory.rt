@@ -6,8 +6,9 @@ ghost use Rattle.memory_text.specs.Kept.{AreNumbered, AreSpelled};
 
 use crate::naming::number_of;
 use crate::plan::SlotPlan;
+use bank_update::Put;
 use razor_base::Memory;
-use slot_patch::{Names, Put};
+use slot_patch::Names;
 use std::alloc::Global;
 use ternary_words::{Entry, Word};
 

@@ -8,8 +8,9 @@ ghost use Rattle.memory_text.specs.Views.{memory_of};
 use crate::memory::SlotMemory;
 use crate::naming::number_of;
 use crate::plan::SlotPlan;
+use bank_update::{Put, Write};
 use razor_base::Memory;
-use slot_patch::{Names, Planned, Put, Write, plan_update};
+use slot_patch::{Names, Planned, plan_update};
 use std::alloc::Global;
 use ternary_words::{Entry, Table};
 

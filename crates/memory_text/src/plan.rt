@@ -5,7 +5,8 @@ ghost use Rattle.ternary_words.specs.Limits.{IsSlotWidth};
 ghost use Rattle.memory_text.specs.declared.TheConstants.{MOST_WRITES};
 ghost use Rattle.memory_text.specs.Kept.{AreSpelled, AreWithin};
 
-use slot_patch::{Names, Put};
+use bank_update::Put;
+use slot_patch::Names;
 
 /// Writes in order to a memory of 1 to 262,144 slots of `width` trits (104, 144 or 288), with the names of their decisions.
 #[derive(Drop)]

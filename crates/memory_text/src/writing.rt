@@ -10,8 +10,9 @@ ghost use Rattle.memory_text.specs.Views.{memory_of, plan_of, slots_of, write_of
 use crate::kind::TextKind;
 use crate::memory::SlotMemory;
 use crate::plan::SlotPlan;
+use bank_update::Put;
 use razor_base::{Failed, Part, Pending, Sink, put_parts};
-use slot_patch::{Names, Put};
+use slot_patch::Names;
 use ternary_words::{Entry, put_word};
 
 /// Writes the text of the memory, in large pieces and without taking memory.

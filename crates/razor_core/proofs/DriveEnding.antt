@@ -8,7 +8,8 @@ use Rattle.razor_base.specs.Faults.{Rose}
 use Rattle.razor_base.specs.Output.{AppendsFront}
 use Rattle.ternary_words.specs.declared.table.Table.{Table}
 use Rattle.bank_update.specs.Driven as drives
-use Rattle.bank_update.specs.Machine.{State, unsettled}
+use Rattle.bank_update.specs.Machine.{State}
+use Rattle.bank_update.specs.Whole.{unsettled}
 use Rattle.bank_update.specs.Runs.{IsRun, calm, line_of, next, session}
 use Rattle.bank_update.specs.Script.{Event}
 use Rattle.bank_update.specs.declared.drive.DriveError.{DriveError}

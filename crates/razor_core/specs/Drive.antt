@@ -3,7 +3,7 @@ use Rattle.std.specs.Prelude.{◌≡◌, ℕ, true, List, [], ◌∷◌, length,
 use Rattle.std.specs.List.{concat}
 use Rattle.ternary_words.specs.Views.{table_of}
 use Rattle.ternary_words.specs.declared.table.Table as code_table
-use Rattle.bank_update.specs.Machine.{unsettled}
+use Rattle.bank_update.specs.Whole.{unsettled}
 use Rattle.bank_update.specs.Runs.{session}
 use Rattle.bank_update.specs.Script.{Event}
 use Rattle.bank_update.specs.declared.drive.DriveError.{DriveError}

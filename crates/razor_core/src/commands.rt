@@ -90,8 +90,9 @@ pub fn run<'a, D: Desk, K: Sink>(
         Command::Session {
             slots,
             sizes,
+            swap,
             files,
-        } => run_session(alloc, *slots, *sizes, *files, desk, out),
+        } => run_session(alloc, *slots, *sizes, *swap, *files, desk, out),
         Command::Trim(file) => trim_table(alloc, file, desk, out),
         Command::Place { slots, table } => place_table(alloc, *slots, table, desk, out),
         Command::Patch(files) => plan_patch(alloc, *files, desk, out),

@@ -3,10 +3,12 @@ use Rattle.std.proofs.Common.{◌≡◌, ◌⊎◌, ◌≤◌, ◌<◌, ◌∷�
 use Rattle.std.proofs.lemmas.Bool.{cases_lt}
 use Rattle.std.proofs.lemmas.List.{set-set}
 use Rattle.tcam_sim.specs.Slots.{stored}
-use Rattle.slot_patch.specs.Banks.{Bank, decided}
+use Rattle.bank_update.specs.Standing.{Bank}
+use Rattle.slot_patch.specs.Banks.{decided}
 use Rattle.slot_patch.specs.Phases.{Clearing, IsNoLater}
-use Rattle.slot_patch.specs.Plans.{IsPatch, SayWhatStood, after, written}
-use Rattle.slot_patch.specs.declared.plan.Write.{Write}
+use Rattle.slot_patch.specs.Plans.{IsPatch}
+use Rattle.bank_update.specs.Plans.{SayWhatStood, after, written}
+use Rattle.bank_update.specs.declared.write.Write.{Write}
 
 -- the two writes as one
 abbrev pub joint : Write → Write → Write

@@ -4,9 +4,10 @@ use Rattle.std.proofs.lemmas.Bool.{cases_lt}
 use Rattle.ternary_words.specs.declared.entry.Entry.{Entry}
 use Rattle.slot_patch.specs.InPlace.{differing, in_place, is_same}
 use Rattle.slot_patch.specs.Layouts.{IsLayout}
-use Rattle.slot_patch.specs.Moving.{entries_in, move}
+use Rattle.bank_update.specs.Standing.{entries_in}
+use Rattle.slot_patch.specs.Moving.{move}
 use Rattle.slot_patch.specs.Ordered.{down_move, downs, moves_of, up_move, ups}
-use Rattle.slot_patch.specs.declared.plan.Write.{Write}
+use Rattle.bank_update.specs.declared.write.Write.{Write}
 use Rattle.slot_patch.proofs.Fewest.{differing-from, one, one-most}
 use Rattle.slot_patch.proofs.Places.{count-writes}
 

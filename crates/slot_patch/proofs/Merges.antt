@@ -7,10 +7,11 @@ use Rattle.std.proofs.lemmas.List.{length-take-le}
 use Rattle.ternary_words.specs.Views.{word_of}
 use Rattle.ternary_words.specs.declared.entry.Entry.{Entry}
 use Rattle.tcam_sim.specs.Slots.{stored}
-use Rattle.slot_patch.specs.Banks.{HaveOneWord, ShareWords, bank_of}
+use Rattle.slot_patch.specs.Banks.{HaveOneWord, ShareWords}
+use Rattle.bank_update.specs.Standing.{bank_of}
 use Rattle.slot_patch.specs.Layouts.{IsLayout}
 use Rattle.slot_patch.specs.Merging.{IsMerged, IsSpread}
-use Rattle.slot_patch.specs.Moving.{entries_in}
+use Rattle.bank_update.specs.Standing.{entries_in}
 use Rattle.slot_patch.specs.Ordered.{placed, places}
 use Rattle.slot_patch.specs.Sharing.{AreShared, HaveOneWordAt, IsPairFrom}
 use Rattle.slot_patch.specs.declared.layout.Layout.{Layout}

@@ -1,5 +1,5 @@
 -- Numbers of decisions in a list of names that grows.
-use Rattle.std.proofs.Common.{◌≡◌, ◌≤◌, ◌<◌, ◌-◌, ◌∷◌, ◌++◌, ◌&&◌, nat_eq, ℕ, zero, suc, min, Bool, true, false, if◌then◌else◌, List, [], Option, Some, None, option_map, length, map, slice_get, slice_index, inl, inr, refl, ap, sym, ◌∙◌, subst, arith, replicate, append-nil, length-append, append_assoc}
+use Rattle.std.proofs.Common.{◌≡◌, ◌≤◌, ◌<◌, ◌-◌, ◌∷◌, ◌++◌, ◌&&◌, nat_eq, ℕ, zero, suc, min, Bool, true, false, if◌then◌else◌, List, [], Option, Some, None, option_map, length, map, slice_get, slice_index, inl, inr, refl, ap, sym, ◌∙◌, arith, append-nil, length-append, append_assoc}
 use Rattle.std.proofs.lemmas.Bool.{cases_eq}
 use Rattle.std.proofs.lemmas.Option.{slice_get-map}
 use Rattle.std.proofs.lemmas.List.Elements.{All-head, All-tail, All-nil, All-cons}
@@ -11,12 +11,10 @@ use Rattle.ternary_words.specs.Views.{entry_of, word_of}
 use Rattle.ternary_words.specs.Headline.Table as words
 use Rattle.ternary_words.specs.declared.entry.Entry.{Entry}
 use Rattle.ternary_words.specs.declared.word.Word.{Word}
-use Rattle.slot_patch.specs.Banks.{Bank, bank_of, table_in}
+use Rattle.bank_update.specs.Standing.{table_in}
 use Rattle.slot_patch.specs.Least.{least_slots, same_word}
-use Rattle.slot_patch.specs.Machine.{IsOldOrNew, Patch, State}
-use Rattle.slot_patch.specs.Moving.{entries_in}
-use Rattle.slot_patch.specs.Naming.{AreNumbersOf, Grow, HaveWordsOf, IsAnswer, IsNumbered, renumbered}
-use Rattle.slot_patch.proofs.Naming.{named}
+use Rattle.bank_update.specs.Standing.{entries_in}
+use Rattle.slot_patch.specs.Naming.{AreNumbersOf, Grow, HaveWordsOf, renumbered}
 
 abbrev Names : Type 0
 Names = List (List ℕ)
@@ -41,7 +39,7 @@ entries_kept before now (e ∷ es) g h =
 pub table-kept : (before now : Names) (slots : List (Option Entry)) → Grow before now → AreNumbered (length before) (entries_in slots) → table_in now slots ≡ table_in before slots
 table-kept before now slots g h = entries_kept before now (entries_in slots) g h
 
-grown : (before now : Names) → Grow before now → length before ≤ length now
+pub grown : (before now : Names) → Grow before now → length before ≤ length now
 grown before now g = let e = ap length g.1 in let long = length-append before g.0 in omega (arith, e, long)
 
 -- growing
@@ -153,28 +151,8 @@ length-words [] (b ∷ new) h = absurd h
 length-words (m ∷ made) [] h = absurd h
 length-words (m ∷ made) (b ∷ new) h = ap suc (length-words made new h.1)
 
--- the machine's states
-
-none_numbered : (count n : ℕ) → entries_in (replicate count None) ≡ []
-none_numbered zero n = refl
-none_numbered (suc count) n = none_numbered count n
-
-pub numbered-none : (names : Names) (count : ℕ) → IsNumbered names (record { settled = replicate count None; pending = None })
-numbered-none names count = record { settled = subst (AreNumbered (length names)) (sym (none_numbered count 0)) (All-nil (UpTo (length names))); pending = tt }
-
 -- a number behind the last name has none
 pub text-none : {K : Type 0} (text : K → List ℕ) (keys : List K) (n : ℕ) → (n ≡ 0 → ⊥) → slice_get keys (n - 1) ≡ None → text_of (name_at (map text keys) n) ≡ miss
 text-none text keys zero apart none = absurd (apart refl)
 text-none text keys (suc k) apart none =
     ap text_of (slice_get-map text keys k ∙ ap (option_map text) (ap (slice_get keys) (let e : k ≡ suc k - 1 = omega arith in e) ∙ none))
-
-pub bank-none : (n : ℕ) → bank_of (replicate n None) ≡ replicate n None
-bank-none zero = refl
-bank-none (suc n) = ap (λ (slots : Bank). None ∷ slots) (bank-none n)
-
--- what a lookup answers by name
-
-pub answers : (names : Names) (s : State) (p : Option Patch) (values text : List ℕ) (n : ℕ) → IsOldOrNew s p values n → text ≡ text_of (name_at names n) → IsAnswer names s p values text
-answers names s None values text n h is = is ∙ ap (λ m. text_of (name_at names m)) h ∙ ap text_of (named names s.settled values)
-answers names s (Some p) values text n (inl h) is = inl (is ∙ ap (λ m. text_of (name_at names m)) h ∙ ap text_of (named names s.settled values))
-answers names s (Some p) values text n (inr h) is = inr (is ∙ ap (λ m. text_of (name_at names m)) h ∙ ap text_of (named names p.new values))

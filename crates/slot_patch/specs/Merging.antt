@@ -1,8 +1,9 @@
 -- A layout of the first entries of two tables.
 use Rattle.std.specs.Prelude.{◌≡◌, ℕ, ◌+◌, List, length, take}
 use Rattle.ternary_words.specs.declared.entry.Entry.{Entry}
-use Rattle.slot_patch.specs.Banks.{ShareWords, bank_of}
-use Rattle.slot_patch.specs.Moving.{entries_in}
+use Rattle.slot_patch.specs.Banks.{ShareWords}
+use Rattle.bank_update.specs.Standing.{bank_of}
+use Rattle.bank_update.specs.Standing.{entries_in}
 use Rattle.slot_patch.specs.Ordered.{places}
 use Rattle.slot_patch.specs.declared.layout.Layout.{Layout}
 use Rattle.slot_patch.specs.declared.spreading.Spread.{Spread}

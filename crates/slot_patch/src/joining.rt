@@ -1,12 +1,13 @@
 //! Two writes to one slot, one right behind the other, as one.
 ghost use Rattle.std.specs.Prelude.{◌≡◌, ◌≤◌, ◌++◌, ◌∷◌, List, Option, suc, length, IfOk, OnOk};
 ghost use Rattle.ternary_words.specs.declared.entry.Entry.{Entry as SeenEntry};
-ghost use Rattle.slot_patch.specs.Banks.{Bank};
+ghost use Rattle.bank_update.specs.Standing.{Bank};
 ghost use Rattle.slot_patch.specs.Planning.{IsPlan};
 ghost use Rattle.slot_patch.specs.Plans.{IsPatch};
-ghost use Rattle.slot_patch.specs.declared.plan.Write.{Write as SeenWrite};
+ghost use Rattle.bank_update.specs.declared.write.Write.{Write as SeenWrite};
 
-use crate::plan::{Plan, Write};
+use crate::plan::Plan;
+use bank_update::Write;
 use razor_base::Memory;
 use std::alloc::Global;
 

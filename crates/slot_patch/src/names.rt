@@ -46,6 +46,16 @@ impl Names {
         }
     }
 
+    /// A copy, with the same names under the same numbers.
+    pub(crate) fn copy(&self, alloc: Global) -> Result<Names, Memory>
+        ensures { IfOk result (λ copy. copy ≡ self.now) }
+    {
+        Ok(Names {
+            alloc,
+            names: self.names.clone()?,
+        })
+    }
+
     /// The number of the name: its own where it is there, and the next one for a new name. There is no memory for 2^32 names.
     pub fn number(&mut self, name: &str) -> Result<u32, Memory>
         ensures names { OnOk result (self.new ≡ with_name self.old name.now) }

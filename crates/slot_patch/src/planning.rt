@@ -1,10 +1,11 @@
 //! The plan that leads from a table in its slots to another one.
 ghost use Rattle.std.specs.Prelude.{◌≡◌, ◌≤◌, ◌+◌, ◌*◌, ◌<◌, ◌^◌, length, IfOk};
 ghost use Rattle.std.specs.Bool.{OnTrue, OnFalse};
-ghost use Rattle.slot_patch.specs.Banks.{ShareWords, bank_of};
+ghost use Rattle.slot_patch.specs.Banks.{ShareWords};
+ghost use Rattle.bank_update.specs.Standing.{bank_of};
 ghost use Rattle.slot_patch.specs.Layouts.{IsLayout};
 ghost use Rattle.slot_patch.specs.Least.{least_slots, same_word};
-ghost use Rattle.slot_patch.specs.Moving.{entries_in};
+ghost use Rattle.bank_update.specs.Standing.{entries_in};
 ghost use Rattle.slot_patch.specs.Ordered.{places};
 ghost use Rattle.slot_patch.specs.Planning.{IsPlan, IsPlanned};
 

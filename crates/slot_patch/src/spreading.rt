@@ -1,6 +1,7 @@
 //! The slots of a layout among those of a memory.
 ghost use Rattle.std.specs.Prelude.{◌≡◌, ◌≤◌, ◌<◌, ◌^◌, List, length, IfOk};
-ghost use Rattle.slot_patch.specs.Banks.{ShareWords, bank_of};
+ghost use Rattle.slot_patch.specs.Banks.{ShareWords};
+ghost use Rattle.bank_update.specs.Standing.{bank_of};
 ghost use Rattle.slot_patch.specs.Layouts.{IsLayout};
 ghost use Rattle.slot_patch.specs.Ordered.{places};
 ghost use Rattle.ternary_words.specs.declared.entry.Entry.{Entry as SeenEntry};

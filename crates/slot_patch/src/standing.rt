@@ -1,6 +1,6 @@
 //! The entries that stand in slots.
 ghost use Rattle.std.specs.Prelude.{◌≡◌, ◌++◌, ◌<◌, ◌^◌, None, length, replicate, IfOk, OnOk};
-ghost use Rattle.slot_patch.specs.Moving.{entries_in};
+ghost use Rattle.bank_update.specs.Standing.{entries_in};
 ghost use Rattle.slot_patch.specs.Ordered.{placed, places};
 
 use razor_base::Memory;

@@ -6,7 +6,7 @@ use super::running::bank;
 use super::table::{all_stars, table, tcp, two_names, udp};
 use crate::Draw;
 use razor_base::Memory;
-use slot_patch::{BeginRefusal, Patcher};
+use slot_patch::{PatchRefusal, Patcher, begin_patch};
 use std::process::Abort;
 use std::test::Fail;
 use tcam_sim::FaultyBank;
@@ -29,7 +29,7 @@ fn patcher<R: Abort + AllocGlobal>(
     failing: [u64; 4],
 ) -> Result<Patcher<FaultyBank>, Fail> {
     let device = bank(rt, rt.alloc(), slots, failing)?;
-    made(Patcher::new(rt.alloc(), device))
+    made(slot_patch::new_patcher(rt.alloc(), device))
 }
 
 /// The name that a table answers for the protocol.
@@ -83,7 +83,7 @@ fn replace<R: Abort + AllocGlobal>(
 ) -> usize {
     assert!(rt; from < tables.len());
     assert!(rt; to < tables.len());
-    let begun = patcher.begin(rt.alloc(), &tables[to]).is_ok();
+    let begun = begin_patch(rt.alloc(), patcher, &tables[to]).is_ok();
     let stays = !begun || finish(rt, patcher, &tables[from], &tables[to], turn);
     let stands = if stays { from } else { to };
     check_looks(rt, patcher, &tables[stands], &tables[stands]);
@@ -163,12 +163,12 @@ fn second<R: Abort + AllocGlobal>(
     rt: &R,
     slots: u32,
     tables: &[Table],
-) -> Result<Result<u64, BeginRefusal>, Fail> {
+) -> Result<Result<u64, PatchRefusal>, Fail> {
     assert!(rt; tables.len() == 2);
     let mut patcher = patcher(rt, slots, [0; 4])?;
-    let _total = patcher.begin(rt.alloc(), &tables[0]);
+    let _total = begin_patch(rt.alloc(), &mut patcher, &tables[0]);
     settle(&mut patcher);
-    Ok(patcher.begin(rt.alloc(), &tables[1]))
+    Ok(begin_patch(rt.alloc(), &mut patcher, &tables[1]))
 }
 
 /// How many writes a patch has, where one begins in so many slots.
@@ -183,9 +183,9 @@ fn writes<R: Abort + AllocGlobal>(
 }
 
 /// How many slots are needed, where nothing begins.
-fn needed(answer: Result<u64, BeginRefusal>) -> Option<u64> {
+fn needed(answer: Result<u64, PatchRefusal>) -> Option<u64> {
     match answer {
-        Err(BeginRefusal::NoRoom { needed, .. }) => Some(needed),
+        Err(PatchRefusal::NoRoom { needed, .. }) => Some(needed),
         _ => None,
     }
 }

@@ -13,6 +13,10 @@ const EDITING: &[u8] =
 const EDITED: &[u8] =
     b"begun 1\nstage 1 of 1\naccept\nrules 2\naccept\nbegun 2\naccept\nbusy\nstage 1 of 2\naccept\nstage 2 of 2\ndeny\nno place 2\nrules 1\nbegun 2\n";
 
+/// The same in place: what the settled table and the new one have in one slot is one write.
+const PATCHED: &[u8] =
+    b"begun 1\nstage 1 of 1\naccept\nrules 2\naccept\nbegun 1\naccept\nbusy\nstage 1 of 1\ndeny\nidle\ndeny\nno place 2\nrules 1\nbegun 1\n";
+
 /// Runs the session over the list of one rule in four slots, with this limit, and compares the status, the output
 /// and the line on standard error.
 fn check_session(
@@ -24,8 +28,22 @@ fn check_session(
     out: &[u8],
     err: &[u8],
 ) -> Result<(), Fail> {
+    let words = ["session", "--slots", "4", "--limit", limit, "s", "in"];
+    check_words(rt, &words, setting, room, status, out, err)
+}
+
+/// The same of a session that these words name.
+fn check_words(
+    rt: &(impl Abort + AllocGlobal),
+    given: &[&str],
+    setting: Setting<'_>,
+    room: usize,
+    status: u8,
+    out: &[u8],
+    err: &[u8],
+) -> Result<(), Fail> {
     let mut words = Words::new(rt.alloc());
-    for word in ["session", "--slots", "4", "--limit", limit, "s", "in"] {
+    for word in given {
         words.push(word)?;
     }
     let mut desk = MemDesk::new(rt.alloc());
@@ -46,6 +64,16 @@ fn looks_are_answered_by_the_list_of_the_table(rt: HostRuntime) -> Result<(), Fa
         b"2 entries needed, limit 1\n",
         b"",
     )
+}
+
+#[test]
+fn tables_are_replaced_in_place(rt: HostRuntime) -> Result<(), Fail> {
+    let words = ["session", "--slots", "4", "--swap", "patch", "s", "in"];
+    check_words(&rt, &words, calm(EDITING), ROOM, 0, PATCHED, b"")?;
+    let words = ["session", "--slots", "1", "--swap", "patch", "s", "in"];
+    check_words(&rt, &words, calm(EDITING), ROOM, 0, PATCHED, b"")?;
+    let words = ["session", "--slots", "4", "--swap=whole", "s", "in"];
+    check_words(&rt, &words, calm(EDITING), ROOM, 0, EDITED, b"")
 }
 
 #[test]

@@ -5,7 +5,7 @@ use Rattle.ternary_words.specs.declared.entry.Entry.{Entry}
 use Rattle.slot_patch.specs.Planning.{IsPlanned}
 use Rattle.slot_patch.specs.declared.plan.Planned.{Planned}
 use Rattle.slot_patch.specs.declared.plan.Planned.TheVariants.{Ready}
-use Rattle.slot_patch.specs.declared.plan.Write.{Write}
+use Rattle.bank_update.specs.declared.write.Write.{Write}
 use Rattle.memory_text.specs.Patched.{AreCopies}
 use Rattle.memory_text.proofs.Leading.{counted, enough, lacks, leads, within}
 use Rattle.memory_text.proofs.patching.patch.Goals as goal

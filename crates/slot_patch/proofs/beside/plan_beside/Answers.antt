@@ -1,9 +1,10 @@
 use Rattle.std.specs.Global.{Vec}
 use Rattle.std.proofs.Common.{◌+◌, List, Option, length, ap, sym, ◌∙◌, subst}
 use Rattle.ternary_words.specs.declared.entry.Entry.{Entry}
-use Rattle.slot_patch.specs.Banks.{ShareWords, bank_of}
+use Rattle.slot_patch.specs.Banks.{ShareWords}
+use Rattle.bank_update.specs.Standing.{bank_of}
 use Rattle.slot_patch.specs.Layouts.{free_slots}
-use Rattle.slot_patch.specs.Moving.{entries_in}
+use Rattle.bank_update.specs.Standing.{entries_in}
 use Rattle.slot_patch.specs.InPlace.{differing}
 use Rattle.slot_patch.proofs.Fewest.{count-apart}
 use Rattle.slot_patch.proofs.Whole.{apart-words, free-apart, free-entries, free-long}

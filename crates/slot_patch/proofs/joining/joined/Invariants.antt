@@ -1,5 +1,5 @@
 use Rattle.std.proofs.Common.{◌++◌, ◌≤◌, drop, length}
-use Rattle.slot_patch.specs.Banks.{Bank}
+use Rattle.bank_update.specs.Standing.{Bank}
 use Rattle.slot_patch.specs.Plans.{IsPatch}
 use Rattle.slot_patch.proofs.joining.joined.Given as goal
 

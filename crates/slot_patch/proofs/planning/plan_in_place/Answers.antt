@@ -3,7 +3,7 @@ use Rattle.std.specs.Global.{Vec}
 use Rattle.ternary_words.specs.declared.entry.Entry.{Entry}
 use Rattle.slot_patch.specs.InPlace.{in_place}
 use Rattle.slot_patch.specs.Layouts.{IsLayout}
-use Rattle.slot_patch.specs.Moving.{entries_in}
+use Rattle.bank_update.specs.Standing.{entries_in}
 use Rattle.slot_patch.specs.Ordered.{moves_of}
 use Rattle.slot_patch.proofs.Outlines.{length-places, plan-of}
 use Rattle.slot_patch.proofs.planning.plan_in_place.Goals as goal

@@ -1,7 +1,7 @@
 use Rattle.std.proofs.Common.{◌≡◌, ◌<◌, ℕ, length, take, ap, refl, sym, subst, add-one, arith}
 use Rattle.std.proofs.lemmas.Option.{slice_get_read}
 use Rattle.slot_patch.specs.Merging.{IsSpread}
-use Rattle.slot_patch.specs.Moving.{entries_in}
+use Rattle.bank_update.specs.Standing.{entries_in}
 use Rattle.slot_patch.specs.declared.spreading.Spread.{Spread}
 use Rattle.slot_patch.proofs.Merges.{spread-layout, spread-next, spread-none, word-at}
 use Rattle.slot_patch.proofs.spreading.spread_out.Goals as goal

@@ -1,6 +1,6 @@
 use Rattle.std.proofs.Common.{◌≤◌, ◌+◌, ◌-◌, length, take}
 use Rattle.slot_patch.specs.Merging.{IsSpread}
-use Rattle.slot_patch.specs.Moving.{entries_in}
+use Rattle.bank_update.specs.Standing.{entries_in}
 use Rattle.slot_patch.proofs.spreading.spread_out.Given as goal
 
 abbrev pub invariant-loop-place : goal.invariant-loop-place

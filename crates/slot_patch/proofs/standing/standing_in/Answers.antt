@@ -2,7 +2,7 @@ use Rattle.std.proofs.Common.{◌++◌, ◌∙◌, ℕ, List, length, take, ap, 
 use Rattle.std.specs.Option.{option_to_list}
 use Rattle.std.proofs.lemmas.Option.{slice_get_read}
 use Rattle.ternary_words.specs.declared.entry.Entry.{Entry}
-use Rattle.slot_patch.specs.Moving.{entries_in}
+use Rattle.bank_update.specs.Standing.{entries_in}
 use Rattle.slot_patch.specs.Ordered.{placed, places}
 use Rattle.slot_patch.proofs.Merges.{standing-more}
 use Rattle.slot_patch.proofs.standing.standing_in.Goals as goal

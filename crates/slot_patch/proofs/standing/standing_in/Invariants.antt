@@ -1,5 +1,5 @@
 use Rattle.std.proofs.Common.{◌≡◌, take}
-use Rattle.slot_patch.specs.Moving.{entries_in}
+use Rattle.bank_update.specs.Standing.{entries_in}
 use Rattle.slot_patch.specs.Ordered.{places}
 use Rattle.slot_patch.proofs.standing.standing_in.Given as goal
 

@@ -9,5 +9,5 @@ pub returns-clause-decided : goal.returns-clause-decided
 returns-clause-decided g c =
     let values = c.args.header.now.values in
     c.look.ensures.old_or_new
-    ∙ ap text_of (decided-is c.self.inside.swapper.state c.self.inside.lists values (header-of values c.are_five.ensures c.args.header.now.in_fields) c.self.invariant)
+    ∙ ap text_of (decided-is c.self.inside.updater.state c.self.inside.lists values (header-of values c.are_five.ensures c.args.header.now.in_fields) c.self.invariant)
     ∙ ap (λ (v : ListedSwap g.row.V.Denot). text_of (decided v.state v.copies values)) c.self.view_is

@@ -1,7 +1,7 @@
 use Rattle.std.proofs.Common.{◌<◌, ap, Option}
 use Rattle.std.proofs.lemmas.List.Elements.{All-push, All-same}
 use Rattle.ternary_words.specs.Headline.Table.{Entry}
-use Rattle.slot_patch.specs.declared.plan.Put.{Put}
+use Rattle.bank_update.specs.declared.write.Put.{Put}
 use Rattle.memory_text.specs.Memory.{Write}
 use Rattle.memory_text.specs.Views.{spelled_of}
 use Rattle.memory_text.proofs.Holding.{puts_push, writes_push}

@@ -5,7 +5,8 @@ use Rattle.std.specs.Io.KnownBytes.{Appends}
 use Rattle.std.proofs.lemmas.List.{length-map, length-replicate}
 use Rattle.ternary_words.specs.declared.table.Table.{Table}
 use Rattle.bank_update.specs.Driven as drives
-use Rattle.bank_update.specs.Machine.{State, unsettled}
+use Rattle.bank_update.specs.Machine.{State}
+use Rattle.bank_update.specs.Whole.{unsettled}
 use Rattle.bank_update.specs.Runs.{IsRun}
 use Rattle.bank_update.proofs.Driving.{runs-of}
 use Rattle.tcam_sim.specs.Bank.{sets_of}
