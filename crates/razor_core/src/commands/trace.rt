@@ -9,11 +9,11 @@ use crate::ending::{Ending, Summary};
 use crate::line_reason::LineReason;
 use crate::taking::take;
 use crate::texts::TableText;
+use bank_index::IndexedBank;
 use command_words::TwoFiles;
 use razor_base::limits::MOST_TRACE_BYTES;
 use razor_base::{Desk, Sink};
 use std::alloc::Global;
-use tcam_sim::loaded;
 use trace_run::laws::{loaded_entries_answer, loaded_entries_have_names};
 use trace_run::{TraceError, run};
 
@@ -55,7 +55,7 @@ pub fn answer_trace<'a, D: Desk, K: Sink>(
         Ok(table) => table,
         Err(ending) => return ending,
     };
-    let bank = match loaded(alloc, &table) {
+    let bank = match IndexedBank::loaded(alloc, &table) {
         Ok(bank) => bank,
         Err(_) => return Ending::Memory,
     };

@@ -1,6 +1,6 @@
 use Rattle.std.proofs.Common.{[], ◌∷◌, ◌∙◌, inl, refl, sym}
 use Rattle.trace_run.specs.Answers as runs
-use Rattle.tcam_sim.specs.Bank.{slots_of}
+use Rattle.bank_index.specs.IndexedBank.{indexed_slots}
 use Rattle.ternary_words.specs.Views.{table_of}
 use Rattle.razor_core.specs.Inputs.{table_input, trace_input}
 use Rattle.razor_core.specs.Outside.{seen}
@@ -38,12 +38,12 @@ returns-clause-ends g c =
     let after = seen g.D.Desk.remaining g.D.Desk.faults g.K.Sink.written g.K.Sink.faults c.run-ended.new.desk c.run-ended.new.out in
     let code = c.in-Ok.table in
     let bank = c.in-Ok-loaded.bank in
-    let ran : Ran table trace before after (table_of code) (runs.answers_text code.names (slots_of bank)) (between trace) (g.D.Desk.faults c.take.new.desk trace) c.run-ended.result = record {
+    let ran : Ran table trace before after (table_of code) (runs.answers_text code.names (indexed_slots bank)) (between trace) (g.D.Desk.faults c.take.new.desk trace) c.run-ended.result = record {
       apart = c.args.files.apart;
       taken = taken_before (table_input table) (start table) (between table) (end table) (table_value_of code) c.in-Ok.ensures.turn (c.run-ended.ensures.others table c.args.files.apart);
       kept = c.in-Ok.ensures.others trace (λ e. c.args.files.apart (sym e));
       counts = c.in-Ok.ensures.counts trace;
-      answer = loaded_answers code (slots_of bank) c.in-Ok-loaded.ensures.held c.loaded_entries_answer.ensures;
+      answer = loaded_answers code (indexed_slots bank) c.in-Ok-loaded.ensures.held c.loaded_entries_answer.ensures;
       outcome = c.run-ended.ensures.outcome;
       read_fault = c.run-ended.ensures.read_fault;
       write_fault = c.run-ended.ensures.write_fault;
@@ -51,7 +51,7 @@ returns-clause-ends g c =
       near = c.run-ended.ensures.near;
       paced = c.run-ended.ensures.paced;
     } in
-    run_ends table trace before after (table_of code) (runs.answers_text code.names (slots_of bank)) (between trace) (g.D.Desk.faults c.take.new.desk trace) c.run-ended.result c.run_ended.result ran c.run_ended.ensures
+    run_ends table trace before after (table_of code) (runs.answers_text code.names (indexed_slots bank)) (between trace) (g.D.Desk.faults c.take.new.desk trace) c.run-ended.result c.run_ended.result ran c.run_ended.ensures
 
 pub returns-in-Err-loaded-clause-ends : goal.returns-in-Err-loaded-clause-ends
 returns-in-Err-loaded-clause-ends g c =
