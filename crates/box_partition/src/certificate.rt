@@ -23,8 +23,8 @@ use field_boxes::Span;
 use filter_reader::RuleList;
 use list_equiv::Verdict;
 use node_store::{NodeId, Store, stated_order};
-use partition_check::Checker;
 use partition_check::laws::first_matches_decide;
+use partition_check::only_prefixes;
 use razor_base::{Failed, Part, Pending, Sink, put_parts};
 use std::alloc::Global;
 use ternary_words::Table;
@@ -51,7 +51,7 @@ pub fn write_certificate<K: Sink>(
     ensures memory { IsErrOf result Memory → K.faults out.new ≡ K.faults out.old }
     ensures counts { K.faults out.old ≤ K.faults out.new }
 {
-    let _checker = Checker::new(list, table)?;
+    only_prefixes(table)?;
     match differ(alloc, list, table)? {
         Verdict::Differ {
             header,

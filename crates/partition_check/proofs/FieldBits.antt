@@ -146,3 +146,15 @@ none_outside n m x lo hi masked small within outside v low high = false_from_ne_
     let least = b.least in
     let greatest = b.greatest in
     elim outside [ inl below ↦ omega arith | inr above ↦ omega arith ])
+
+-- a value that agrees lies from the least to the greatest that does
+pub within_hull : (n m x v : ℕ) → bit_and x m ≡ x → m < 2 ^ n → v < 2 ^ n → field_agrees n m x v ≡ true → (x ≤ v) × (v ≤ x + (2 ^ n - 1 - m))
+within_hull n m x v masked small high t =
+    let b = bounded n m x v masked t in
+    let under : x ≤ m = subst (λ y. y ≤ m) masked (and_le_r x m) in
+    let xs : x % 2 ^ n ≡ x = mod-eq_of_lt (omega (arith, under, small)) in
+    let vs : v % 2 ^ n ≡ v = mod-eq_of_lt high in
+    let ms : m % 2 ^ n ≡ m = mod-eq_of_lt small in
+    let least = b.least in
+    let greatest = b.greatest in
+    (omega (arith, least, xs, vs), omega (arith, greatest, xs, vs, ms, small))

@@ -12,6 +12,8 @@ pub mod WordParts
 pub mod FirstPlaces
 pub mod FirstItems
 pub mod Sifting
+pub mod InBlocks
+pub mod PortHulls
 pub mod Soundness
 pub mod RowParts
 pub mod RowReading

@@ -1,6 +1,5 @@
 -- Boxes that lie in one another, and items before a place.
 use Rattle.std.proofs.Common.{◌≡◌, ◌∷◌, ℕ, zero, suc, ◌≤◌, ◌<◌, List, [], Bool, Some, length, take, sym, subst, arith, inl, inr, Contains, slice_get, slice_index_or, IsFalse}
-use Rattle.std.proofs.lemmas.Bool.{cases_lt}
 use Rattle.std.proofs.lemmas.Option.{slice_get_within, none-some}
 use Rattle.field_boxes.specs.Headline.Classifier.{Interval}
 use Rattle.partition_check.specs.Boxes.{EachIn}
@@ -46,21 +45,22 @@ module _ {X : Type 0} (p : List ℕ → X → Bool) (box : List Interval) where
 abbrev pub NoneAmong : {X : Type 0} → (List ℕ → X → Bool) → List Interval → List X → List ℕ → ℕ → ℕ → Type 0
 NoneAmong {X} p box items places n end = (k m : ℕ) (x : X) → m < n → slice_index_or places m k ≡ k → k < end → slice_get items k ≡ Some x → EachIn box (λ h. IsFalse (p h x))
 
-abbrev pub NoneFrom : {X : Type 0} → (List ℕ → X → Bool) → List Interval → List X → ℕ → ℕ → Type 0
-NoneFrom {X} p box items start end = (k : ℕ) (x : X) → start ≤ k → k < end → slice_get items k ≡ Some x → EachIn box (λ h. IsFalse (p h x))
-
 abbrev pub EachMissedOrKept : {X : Type 0} → (List ℕ → X → Bool) → List Interval → List X → List ℕ → List ℕ → ℕ → Type 0
 EachMissedOrKept p box items kept places n = (k m : ℕ) → m < n → slice_index_or places m k ≡ k → IsMissedOrKept p box items kept k
 
--- no item before a place matches a header of the box: none of those that are kept for an outer box does, and none from there on
-pub none-before : {X : Type 0} (p : List ℕ → X → Bool) (box outer : List Interval) (items : List X) (kept seen : List ℕ) (through place : ℕ) →
-    IsWithin box outer → IsSifted p outer items kept through → seen ≡ kept →
-    ((k : ℕ) (x : X) → Contains seen k → k < place → slice_get items k ≡ Some x → EachIn box (λ h. IsFalse (p h x))) →
-    NoneFrom p box items through place → NoneBefore p box items place
-none-before p box outer items kept seen through place within sifted same among rest k x less at = elim (cases_lt k through) [
-  | inl low ↦ elim (sifted k low x at) [
-    | inl held ↦ among k x (subst (λ (ps : List ℕ). Contains ps k) (sym same) held) less at
-    | inr missed ↦ λ h lies. missed h (within-lies box outer h within lies)
-  ]
-  | inr high ↦ rest k x (omega (arith, high)) less at
+-- no item before a place matches a header of the box, where none of those does that are kept for an outer box
+pub none-before : {X : Type 0} (p : List ℕ → X → Bool) (box outer : List Interval) (items : List X) (kept seen : List ℕ) (place : ℕ) →
+    place ≤ length items → IsWithin box outer → IsSifted p outer items kept → seen ≡ kept →
+    ((k : ℕ) (x : X) → Contains seen k → k < place → slice_get items k ≡ Some x → EachIn box (λ h. IsFalse (p h x))) → NoneBefore p box items place
+none-before p box outer items kept seen place end within sifted same among k x less at = elim (sifted k (omega (arith, end, less)) x at) [
+  | inl held ↦ among k x (subst (λ (ps : List ℕ). Contains ps k) (sym same) held) less at
+  | inr missed ↦ λ h lies. missed h (within-lies box outer h within lies)
+]
+
+-- what is kept for an outer box, and then for the box
+pub narrowed : {X : Type 0} (p : List ℕ → X → Bool) (box outer : List Interval) (items : List X) (kept seen new : List ℕ) → IsWithin box outer → IsSifted p outer items kept → seen ≡ kept →
+    ((k : ℕ) → Contains seen k → IsMissedOrKept p box items new k) → IsSifted p box items new
+narrowed p box outer items kept seen new within sifted same each k less x at = elim (sifted k less x at) [
+  | inl held ↦ each k (subst (λ (ps : List ℕ). Contains ps k) (sym same) held) x at
+  | inr missed ↦ inr (λ h lies. missed h (within-lies box outer h within lies))
 ]

@@ -1,9 +1,9 @@
 -- A word matches a header where it agrees in each field.
 use Rattle.std.proofs.Common.{◌≡◌, ◌∷◌, ◌++◌, ℕ, ◌+◌, ◌/◌, ◌%◌, ◌^◌, ◌<◌, ◌≤◌, List, [], Bool, true, false, length, ap, refl, sym, subst, ◌∙◌, arith, ◌&&◌, cond, nat_eq, bit_and, slice_index, slice_index_or, IsTrue, IsFalse}
-use Rattle.std.proofs.lemmas.Bool.{and_left, and_right, eqb-true, eq-eqb}
+use Rattle.std.proofs.lemmas.Bool.{and_left, and_parts, and_right, eqb-true, eq-eqb}
 use Rattle.std.proofs.lemmas.Nat.{and_shr, and_mod}
 use Rattle.field_boxes.specs.Headline.Bits.{bits}
-use Rattle.field_boxes.specs.Headline.Fields.{stated, width}
+use Rattle.field_boxes.specs.Headline.Fields.{stated, width, IsHeader}
 use Rattle.field_boxes.specs.declared.span.Span.{Span}
 use Rattle.field_boxes.specs.Spans.{interval_of, intervals_of}
 use Rattle.std.proofs.lemmas.List.{length-map}
@@ -17,7 +17,7 @@ use Rattle.ternary_words.proofs.Fives.{five_of}
 use Rattle.partition_check.specs.Boxes.{EachIn, SomeIn}
 use Rattle.field_boxes.specs.Boxes.{LiesIn}
 use Rattle.partition_check.specs.WordFields.{field_agrees, field_part, low_bit, word_field, SomeBetween, EachBetween}
-use Rattle.partition_check.proofs.BoxHeaders.{lies-at, lies-five, lies-length}
+use Rattle.partition_check.proofs.BoxHeaders.{header-length, lies-at, lies-five, lies-length}
 
 first_and : (a b c d : Bool) → d ≡ b && c → a && d ≡ a && b && c
 first_and true b c d h = h
@@ -153,6 +153,33 @@ module _ (w : Word) where
           lies-five spans d count v (five (λ j. ((span j).lo ≤ v j) × (v j ≤ (span j).hi)) (a.1, a.2) (b.1, b.2) (c.1, c.2) (e.1, e.2) (f.1, f.2)),
           matches-all v (five (λ j. word_field w j (v j) ≡ true) a.3 b.3 c.3 e.3 f.3),
         )
+
+-- the values that a word asks for in a field lie in the span
+abbrev pub IsRoundField : Word → ℕ → Span → Type 0
+IsRoundField w k s = (v : ℕ) → v < 2 ^ width k → IsTrue (word_field w k v) → (s.lo ≤ v) × (v ≤ s.hi)
+
+module _ (w : Word) (a b c d e : Span) (ha : IsRoundField w 0 a) (hb : IsRoundField w 1 b) (hc : IsRoundField w 2 c) (hd : IsRoundField w 3 d) (he : IsRoundField w 4 e) where
+  word-lies-five : (header : List ℕ) → length header ≡ 5 → IsHeader header → agree_each stated w.mask w.value header ≡ true → LiesIn (intervals_of (a ∷ b ∷ c ∷ d ∷ e ∷ [])) header
+  word-lies-five (v0 ∷ v1 ∷ v2 ∷ v3 ∷ v4 ∷ []) five is t =
+      let e4 : Bool = word_field w 4 v4 && true in
+      let e3 : Bool = word_field w 3 v3 && e4 in
+      let e2 : Bool = word_field w 2 v2 && e3 in
+      let e1 : Bool = word_field w 1 v1 && e2 in
+      let p0 = and_parts (word_field w 0 v0) e1 t in
+      let p1 = and_parts (word_field w 1 v1) e2 p0.1 in
+      let p2 = and_parts (word_field w 2 v2) e3 p1.1 in
+      let p3 = and_parts (word_field w 3 v3) e4 p2.1 in
+      let p4 = and_parts (word_field w 4 v4) true p3.1 in
+      let w0 = ha v0 is.0 p0.0 in
+      let w1 = hb v1 is.1.0 p1.0 in
+      let w2 = hc v2 is.1.1.0 p2.0 in
+      let w3 = hd v3 is.1.1.1.0 p3.0 in
+      let w4 = he v4 is.1.1.1.1.0 p4.0 in
+      (w0.0, w0.1, (w1.0, w1.1, (w2.0, w2.1, (w3.0, w3.1, (w4.0, w4.1, tt)))))
+  word-lies-five header five is t = absurd (omega (arith, five))
+
+  pub word-lies : (header : List ℕ) → IsHeader header → IsTrue (agrees (word_of w) (header_bits header)) → LiesIn (intervals_of (a ∷ b ∷ c ∷ d ∷ e ∷ [])) header
+  word-lies header is t = word-lies-five header (header-length header is) is (sym (matches-by_field w header) ∙ t)
 
 -- a field of a value within its mask lies within the field of the mask
 pub field-masked : (field x m : ℕ) → bit_and x m ≡ x → bit_and (field_part field x) (field_part field m) ≡ field_part field x

@@ -8,12 +8,14 @@ use crate::claims::{entry_decision, is_entry_claim, is_rule_claim, rule_decision
 use crate::depths::Depths;
 use crate::names::same_name;
 use crate::next::{GREATEST, may_come, reaches_ends};
-use crate::prefix_words::first_other;
-use crate::row::{NotPrefix, Row, Why, Wrong};
+use crate::prefix_words::only_prefixes;
+use crate::row::{NotMade, Row, Why, Wrong};
 use crate::text::row_of_text;
 use field_boxes::Span;
 use filter_reader::RuleList;
+use razor_base::Memory;
 use razor_base::limits::{GREATEST_PORT, GREATEST_PROTOCOL};
+use std::alloc::Global;
 use std::marker::Model;
 use ternary_words::Table;
 use ternary_words::laws::first_match_answers;
@@ -21,8 +23,8 @@ use ternary_words::laws::first_match_answers;
 /// Checks the rows of a certificate, one after another, for a list and a table.
 ///
 /// It keeps the last accepted box, and that list and table agree on every header up to there; and, so that
-/// rows that begin alike share their tests, which rules and entries meet the first spans of the last row. It
-/// takes no memory. A refused row leaves it as it was.
+/// rows that begin alike share their tests, which rules and entries meet the first spans of the last row. Only
+/// making it takes memory, for an index of both. A refused row leaves it as it was.
 #[derive(Drop)]
 pub struct Checker<'a> {
     list: &'a RuleList,
@@ -45,7 +47,8 @@ impl<'a> Model for Checker<'a> {
 }
 
 impl<'a> Checker<'a> {
-    ghost use Rattle.std.specs.Prelude.{◌≡◌, ◌+◌, ◌^◌, ◌<◌, ℕ, IsTrue, ◌↔◌, IfOk, IfErr, OnOk, OnErr, MatchOption};
+    ghost use Rattle.partition_check.specs.declared.row.NotPrefix.{NotPrefix as other};
+    ghost use Rattle.std.specs.Prelude.{◌≡◌, ◌+◌, ◌^◌, ◌<◌, ℕ, Err, IsTrue, ◌↔◌, IfOk, IfErr, OnOk, OnErr, MatchOption};
     ghost use Rattle.partition_check.specs.Agreement.{Agree};
     ghost use Rattle.partition_check.specs.PrefixWords.{ArePrefixes, IsFirstOther};
     ghost use Rattle.partition_check.specs.Checking.{begun, Checking, Passes, FailsFirst, EndsWell, EndsWrong, IsFormed, ClaimsRule, ClaimsEntry, with_row};
@@ -56,31 +59,30 @@ impl<'a> Checker<'a> {
     ghost use Rattle.partition_check.specs.RowLines.{LineFails, LinePasses};
 
     /// A checker for the list and the table, which has accepted no row.
-    pub fn any(list: &'a RuleList, table: &'a Table) -> Checker<'a>
-        ensures { result ≡ begun list.now table.now }
+    pub fn any(alloc: Global, list: &'a RuleList, table: &'a Table) -> Result<Checker<'a>, Memory>
+        ensures { IfOk result (λ checker. checker ≡ begun list.now table.now) }
     {
-        Checker {
+        let rules = Depths::new(alloc, &list.rules)?;
+        let entries = Depths::new(alloc, &table.entries)?;
+        Ok(Checker {
             list,
             table,
             last: None,
             accepted: 0,
-            rules: Depths::new(&list.rules),
-            entries: Depths::new(&table.entries),
-        }
+            rules,
+            entries,
+        })
     }
 
     /// The same for a table whose words are prefixes in each field, refused with the first entry whose word
     /// isn't.
-    pub fn new(list: &'a RuleList, table: &'a Table) -> Result<Checker<'a>, NotPrefix>
+    pub fn new(alloc: Global, list: &'a RuleList, table: &'a Table) -> Result<Checker<'a>, NotMade>
         ensures ok { IfOk result (λ checker. (checker ≡ begun list.now table.now) × ArePrefixes table.now.entries.items) }
-        ensures err { IfErr result (λ refused. IsFirstOther table.now.entries.items refused.entry) }
+        ensures err { (refused : other) → result ≡ Err (NotMade.NotPrefix refused) → IsFirstOther table.now.entries.items refused.entry }
     {
-        match first_other(&table.entries) {
-            Some(place) => Err(NotPrefix {
-                entry: place as u32,
-            }),
-            None => Ok(Checker::any(list, table)),
-        }
+        only_prefixes(table)?;
+        let checker = Checker::any(alloc, list, table)?;
+        Ok(checker)
     }
 
     /// How many rows were accepted.
@@ -198,6 +200,15 @@ impl<'a> Checker<'a> {
         ensures ok { IfOk result (λ n. (n ≡ rows) × EndsWell self.entry rows) }
         ensures agree { OnOk result (Agree self.entry.list self.entry.table) }
         ensures err { IfErr result (λ wrong. (wrong.row ≡ self.entry.accepted + 1) × EndsWrong self.entry rows wrong.why) }
+    {
+        self.ended(rows)
+    }
+
+    /// The same, of a checker that is kept.
+    pub(crate) fn ended(&self, rows: u64) -> Result<u64, Wrong>
+        ensures ok { IfOk result (λ n. (n ≡ rows) × EndsWell self.now rows) }
+        ensures agree { OnOk result (Agree self.now.list self.now.table) }
+        ensures err { IfErr result (λ wrong. (wrong.row ≡ self.now.accepted + 1) × EndsWrong self.now rows wrong.why) }
     {
         match self.end_refusal(rows) {
             Some(why) => Err(Wrong {

@@ -1,7 +1,10 @@
 //! The claims of a row: the first rule, and the first entry, that every header of its box matches.
-ghost use Rattle.std.specs.Prelude.{◌≡◌, length, IsTrue, IsFalse};
+ghost use Rattle.std.specs.Prelude.{◌≡◌, ◌≤◌, ℕ, List, length, IsTrue, IsFalse};
 ghost use Rattle.std.specs.Bool.{OnTrue, OnFalse};
 ghost use Rattle.field_boxes.specs.declared.rule.Rule.{Rule};
+ghost use Rattle.field_boxes.specs.Boxes.{LiesIn};
+ghost use Rattle.field_boxes.specs.Headline.Classifier.{union_holds};
+ghost use Rattle.field_boxes.specs.Headline.Fields.{IsHeader};
 ghost use Rattle.field_boxes.specs.Spans.{intervals_of};
 ghost use Rattle.ternary_words.specs.declared.entry.Entry.{Entry};
 ghost use Rattle.partition_check.specs.Boxes.{ends, IsBox, EachIn, SomeIn};
@@ -9,9 +12,10 @@ ghost use Rattle.partition_check.specs.Checking.{IsNumber};
 ghost use Rattle.partition_check.specs.Depths.{AreSieves};
 ghost use Rattle.partition_check.specs.Claims.{rule_matches, entry_matches, IsRuleClaim, IsEntryClaim, MissesRuleClaim, MissesEntryClaim, rule_decision, entry_decision};
 
+use crate::block::span_round;
 use crate::depths::Depths;
 use crate::word::word_covers;
-use field_boxes::{Rule, Span};
+use field_boxes::{Ports, Rule, Span};
 use ternary_words::Entry;
 
 /// Whether every header of the box matches the rule.
@@ -30,6 +34,27 @@ pub(crate) fn rule_meets(rule: &Rule, spans: &[Span; 5]) -> bool
     ensures no { OnFalse result (EachIn (intervals_of spans.now) (λ header. IsFalse (rule_matches header rule.now))) }
 {
     rule.meets(spans)
+}
+
+/// The ports from the least to the greatest one of the set.
+fn ports_hull(ports: &Ports) -> Span
+    ensures { (v : ℕ) → IsTrue (union_holds v ports.now) → (result.lo ≤ v) × (v ≤ result.hi) }
+{
+    let spans = ports.spans();
+    span_round(spans[0], spans[spans.len() - 1])
+}
+
+/// A box that holds every header that matches the rule.
+pub(crate) fn rule_hull(rule: &Rule) -> [Span; 5]
+    ensures { (header : List ℕ) → IsHeader header → IsTrue (rule_matches header rule.now) → LiesIn (intervals_of result) header }
+{
+    [
+        rule.source,
+        rule.destination,
+        ports_hull(&rule.ports[0]),
+        ports_hull(&rule.ports[1]),
+        rule.protocol,
+    ]
 }
 
 /// Whether the rule with the number is the first that every header of the box matches; without a number,

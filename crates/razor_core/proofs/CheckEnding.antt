@@ -14,7 +14,6 @@ use Rattle.partition_check.specs.Agreement.{Agree}
 use Rattle.partition_check.specs.Checking.{Checking, begun}
 use Rattle.partition_check.specs.Streams.{ReadsTooMuch, ReadsUpTo, ReadsValid, ReadsWrong}
 use Rattle.partition_check.specs.declared.row.Wrong.{Wrong}
-use Rattle.command_words.specs.Commands.{Command, Check}
 use Rattle.razor_core.specs.declared.ending.Ending.{Ending}
 use Rattle.razor_core.specs.declared.ending.Ending.TheVariants.{Done, No, BadLine as Bad, TooLong, TooMany, ReadFault, WriteFault, Memory}
 use Rattle.razor_core.specs.declared.ending.Summary.{Summary}
@@ -30,7 +29,7 @@ use Rattle.razor_core.specs.Deciding.{EndsInTurn, IsFaultUnder, IsLong, IsReadFa
 use Rattle.razor_core.specs.Ending.{Ends, IsDone}
 use Rattle.razor_core.proofs.Ended.{done_ends}
 use Rattle.razor_core.proofs.Turns.{AllRead, Passed, PassesWith, ends_in_turn, fault_later, kept_told, near_later, pass_behind, passed_taken, read_taken, some_bytes, told_turn, turns_pass}
-use Rattle.razor_core.specs.Meaning.{Meaning, in_turn}
+use Rattle.razor_core.specs.Meaning.{Meaning}
 
 abbrev most : ℕ
 most = 268435456
@@ -207,4 +206,4 @@ module _ (first second third : List ℕ) (before after : Outside) (list : RuleLi
     (h.1, λ tells same. right_so_far h.3 tells),
   )
   check_ends WriteFault h = (h.0, λ tells. (fault_ends h.1 tells, tt), pass_behind before after command.inputs values all_passed)
-  check_ends Memory h = absurd h
+  check_ends Memory h = (h.0, h.1, pass_behind before after command.inputs values all_passed)

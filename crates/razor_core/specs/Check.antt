@@ -27,7 +27,7 @@ use Rattle.razor_core.specs.Turns.{Stop, too_long, turn}
 use Rattle.razor_core.specs.Inputs.{Value, most_bytes, text_of_certificate, certificate_input, lines_value, list_input, list_value, table_input, table_value}
 use Rattle.razor_core.specs.Outside.{Outside, bytes_at}
 use Rattle.razor_core.specs.declared.ending.Ending.{Ending}
-use Rattle.razor_core.specs.declared.ending.Ending.TheVariants.{Done, No, TooLong, ReadFault, WriteFault}
+use Rattle.razor_core.specs.declared.ending.Ending.TheVariants.{Done, No, TooLong, ReadFault, WriteFault, Memory}
 use Rattle.razor_core.specs.declared.ending.Summary.TheVariants.{Nothing}
 use Rattle.razor_core.specs.Meaning.{Meaning, usual}
 
@@ -122,6 +122,7 @@ IsEndOfCheck list table name before after (ReadFault file) =
 IsEndOfCheck list table name before after WriteFault =
     Rose before.write_faults after.write_faults
     × (SaysValid list table (before.remaining name) (after.remaining name) (AppendsFront before.written after.written) ⊎ SaysWrong list table (before.remaining name) (AppendsFront before.written after.written))
+IsEndOfCheck list table name before after Memory = (after.write_faults ≡ before.write_faults) × Keeps before.written after.written
 IsEndOfCheck list table name before after ending = ⊥
 
 abbrev of_all : List Value → Outcome → Type 0

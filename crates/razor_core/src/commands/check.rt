@@ -3,6 +3,7 @@ ghost use Rattle.std.specs.Prelude.{◌≡◌, ◌≢◌, ◌∷◌, ◌++◌, [
 ghost use Rattle.std.specs.Io.KnownBytes.{Keeps};
 ghost use Rattle.razor_base.specs.Output.{Writes};
 ghost use Rattle.partition_check.specs.Agreement.{HaveNames};
+ghost use Rattle.partition_check.specs.Checking.{begun};
 ghost use Rattle.razor_core.specs.Check.{row_line, valid_line, wrong_line, IsEndOfCheck, checking};
 ghost use Rattle.razor_core.specs.Outside.{seen};
 ghost use Rattle.razor_core.specs.Ending.{Ends};
@@ -95,16 +96,18 @@ fn write_reason<K: Sink>(row: u64, words: &'static str, out: &mut K) -> Result<(
     )
 }
 
-/// Checks the certificate of the list and the table, writes how many rows it has or which row is wrong, and says how
-/// the command ends.
+/// Checks the certificate by the checker of the list and the table, writes how many rows it has or which row is wrong,
+/// and says how the command ends.
 #[inline(never)]
-fn check_rows<'a, D: Desk, K: Sink>(
+fn check_by<'a, D: Desk, K: Sink>(
+    checker: Checker<'_>,
     list: &RuleList,
     table: &Table,
     file: &'a str,
     desk: &mut D,
     out: &mut K,
 ) -> Ending<'a>
+    requires { checker ≡ begun list.now table.now }
     ensures ends { IsEndOfCheck list.now table.now file.now
         (seen D.remaining D.faults K.written K.faults desk.old out.old)
         (seen D.remaining D.faults K.written K.faults desk.new out.new)
@@ -112,7 +115,6 @@ fn check_rows<'a, D: Desk, K: Sink>(
     ensures others { (other : List ℕ) → other ≢ file.now → Keeps (D.remaining desk.old other) (D.remaining desk.new other) }
 {
     let mut buffer = [0; BUFFER_BYTES];
-    let checker = Checker::any(list, table);
     match check_stream(checker, desk, file, &mut buffer) {
         Ok(rows) => match write_valid(rows, out) {
             Ok(()) => Ending::Done(Summary::Nothing),
@@ -127,6 +129,27 @@ fn check_rows<'a, D: Desk, K: Sink>(
             file,
             limit: MOST_CERTIFICATE_BYTES,
         },
+    }
+}
+
+/// Checks the certificate of the list and the table, as [`check_by`] does, unless memory is refused for a checker.
+fn check_rows<'a, D: Desk, K: Sink>(
+    alloc: Global,
+    list: &RuleList,
+    table: &Table,
+    file: &'a str,
+    desk: &mut D,
+    out: &mut K,
+) -> Ending<'a>
+    ensures ends { IsEndOfCheck list.now table.now file.now
+        (seen D.remaining D.faults K.written K.faults desk.old out.old)
+        (seen D.remaining D.faults K.written K.faults desk.new out.new)
+        result }
+    ensures others { (other : List ℕ) → other ≢ file.now → Keeps (D.remaining desk.old other) (D.remaining desk.new other) }
+{
+    match Checker::any(alloc, list, table) {
+        Ok(checker) => check_by(checker, list, table, file, desk, out),
+        Err(_) => Ending::Memory,
     }
 }
 
@@ -152,5 +175,5 @@ pub fn check_certificate<'a, D: Desk, K: Sink>(
         Err(ending) => return ending,
     };
     equal_lists_have_one_verdict();
-    check_rows(&list, &table, files.third, desk, out)
+    check_rows(alloc, &list, &table, files.third, desk, out)
 }
