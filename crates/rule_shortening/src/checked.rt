@@ -1,5 +1,5 @@
 //! What a search found, where it is seen to be as good.
-ghost use Rattle.std.specs.Prelude.{IfOk};
+ghost use Rattle.std.specs.Prelude.{IfOk, IfSome};
 ghost use Rattle.std.specs.Bool.{OnTrue};
 ghost use Rattle.rule_shortening.specs.Drafts.{AreAsShort};
 
@@ -41,5 +41,21 @@ pub(crate) fn checked(
         Ok(new)
     } else {
         Ok(table)
+    }
+}
+
+/// The new entries, if they are seen to be as good as the table.
+pub(crate) fn if_as_short(
+    alloc: Global,
+    table: &[Entry],
+    new: Vec<Entry>,
+    count: u32,
+) -> Result<Option<Vec<Entry>>, Memory>
+    ensures { IfOk result (λ found. IfSome found (λ kept. AreAsShort count table.now kept.items)) }
+{
+    if are_as_short(alloc, table, new.as_slice(), count)? {
+        Ok(Some(new))
+    } else {
+        Ok(None)
     }
 }

@@ -24,7 +24,7 @@ pub(crate) struct Draft {
 }
 
 /// Whether the entries of the rules may stand in front of so many others.
-fn has_room(rules: &[Rule], behind: usize) -> bool
+pub(crate) fn has_room(rules: &[Rule], behind: usize) -> bool
     requires { length rules.now ≤ MOST_RULES }
 {
     entry_count(rules).saturating_add(behind as u128) <= u128::from(MOST_ENTRIES)
@@ -46,6 +46,18 @@ pub(crate) fn in_front(
     let mut entries = expanded_entries(alloc, rules)?;
     entries.extend_from_slice(behind)?;
     Ok(entries)
+}
+
+/// The direct expansion of the rules.
+pub(crate) fn in_full(
+    alloc: Global,
+    rules: &[Rule],
+    names: &Decisions,
+) -> Result<Vec<Entry>, Memory>
+    requires numbered { All (IsNumberedBy names.now) rules.now }
+    ensures { IfOk result (λ entries. AreFor (length names.now) rules.now entries.items) }
+{
+    Ok(in_front(alloc, rules, names, &[])?)
 }
 
 /// The table, which begins with the entries of the rules, or these laid out in fewer, if that is seen to answer alike.

@@ -18,30 +18,36 @@
 //! - [`shorten_in`] also compiles the rules in an order of the fields, and gives the shorter table of both: it has at
 //!   most as many entries as the rules cost in that order, too. It is refused only where both are above the limit, and
 //!   says the lesser number.
+//! - [`Shortener::shorten`] has the clauses of [`shorten`], word by word, over any lists one after another.
 //! - [`trim`] gives a part of a table that answers every header alike and is irredundant.
 //!
 //! Left free: how short the table is. Rules with many entries (a wide range on both ports has 900) are laid out in few,
 //! some rules at a time, in front of the entries of the rules behind them, so a list whose direct expansion is far above
-//! the limit mostly gets its table all the same; that is measured, and not proved.
+//! the limit mostly gets its table all the same; that is measured, and not proved. So is how much of its table a
+//! [`Shortener`] keeps where a list was edited: mostly all but one or two entries.
 //!
 //! | Room | Holds |
 //! |---|---|
 //! | `shortening`, `ordered`, `refusal` | the calls, and why rules have no short table |
 //! | `draft`, `laying` | entries for the last rules of a list, and rules laid out in few |
+//! | `shortener`, `known` | lists one after another, and what is kept between them |
 //! | `searching`, `checked` | the search, and what it found, compared |
 //! | `trimming` | tables without their redundant entries |
 #![tactic(auto)]
 
 mod checked;
 mod draft;
+mod known;
 mod laying;
 mod ordered;
 mod refusal;
 mod searching;
+mod shortener;
 mod shortening;
 mod trimming;
 
 pub use ordered::shorten_in;
 pub use refusal::ShortenError;
+pub use shortener::Shortener;
 pub use shortening::shorten;
 pub use trimming::trim;

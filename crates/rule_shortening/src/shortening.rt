@@ -9,7 +9,7 @@ ghost use Rattle.rule_expansion.specs.Expansion.{expanded_count};
 ghost use Rattle.rule_shortening.specs.Drafts.{AreFor, AreShortFor};
 ghost use Rattle.rule_shortening.specs.Shortened.{IsRefused, IsShortTable};
 
-use crate::draft::{drafted, in_front};
+use crate::draft::{drafted, in_full};
 use crate::laying::Laying;
 use crate::refusal::ShortenError;
 use crate::searching::searched;
@@ -101,11 +101,11 @@ fn begun(
     if entry_count(rules) > u128::from(limit) {
         return Ok(None);
     }
-    Ok(Some(in_front(alloc, rules, names, &[])?))
+    Ok(Some(in_full(alloc, rules, names)?))
 }
 
 /// The table with these entries, which stand for the rules and are at most 262,144.
-fn table_for(
+pub(crate) fn table_for(
     alloc: Global,
     rules: &[Rule],
     names: &Decisions,

@@ -31,3 +31,12 @@ pub(crate) const TRIES: usize = 2;
 
 /// Entries that a wider cube with exceptions may stand for.
 pub(crate) const GROUP: usize = 64;
+
+/// Rows that a list may say inside of the words of an edit.
+pub(crate) const MOST_SAID: usize = 2000;
+
+/// Entries that may meet a cube that is looked at in a repair.
+pub(crate) const REPAIR_REACH: usize = 1024;
+
+/// How often the new entries of a repair are widened at most.
+pub(crate) const REPAIR_ROUNDS: u32 = 4;

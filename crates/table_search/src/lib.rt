@@ -15,6 +15,9 @@
 //! let shorter = shortening.entries()?;
 //! ```
 //!
+//! [`repaired`] makes entries for a list that was edited out of those for the list before, of which most stay: what the
+//! list says where the edit shows comes in front, goes down as far as it can, and is made shorter by the same steps.
+//!
 //! What is promised: that every call is safe and returns. Nothing is promised of what comes out: whoever uses it checks
 //! that it answers as the entries before did. No clause says how short the tables are, which is measured, or that the
 //! same entries give the same table each time, though nothing but the entries goes in.
@@ -26,6 +29,7 @@
 //! | `widening`, `candidates`, `judging`, `gaining`, `groups` | entries that are widened, and what is gained |
 //! | `exceptions`, `against`, `lifting` | what must stand in front of a wider cube |
 //! | `windows`, `hashes`, `known` | small windows arranged anew, and what was tried before |
+//! | `repair`, `saying`, `mending` | a table repaired where its list was edited |
 //! | `effort`, `draws`, `rows` | how much is tried, the numbers that are drawn, and rows of entries |
 #![tactic(auto)]
 
@@ -41,8 +45,11 @@ mod judging;
 mod known;
 mod layout;
 mod lifting;
+mod mending;
+mod repair;
 mod rounds;
 mod rows;
+mod saying;
 mod search;
 mod shapes;
 mod sides;
@@ -51,4 +58,5 @@ mod widening;
 mod windows;
 
 pub use layout::{Layout, WIDE};
+pub use repair::repaired;
 pub use rounds::Shortening;

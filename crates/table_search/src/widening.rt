@@ -18,7 +18,7 @@ impl Search {
     }
 
     /// Widens the entry until the table doesn't get shorter any more.
-    fn widen_often(&mut self, table: &mut Table, id: usize) -> Result<(), Memory> {
+    pub fn widen_often(&mut self, table: &mut Table, id: usize) -> Result<(), Memory> {
         for _ in 0..table.len() {
             if !table.stands(id) || !self.widen(table, id)? {
                 break;

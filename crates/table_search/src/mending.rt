@@ -1,0 +1,127 @@
+//! A table with new rows, made shorter by local steps that leave the other rows where they are.
+
+use crate::effort::{REPAIR_REACH, REPAIR_ROUNDS};
+use crate::rows::{entries_of, push_rows};
+use crate::search::Search;
+use entry_index::{Cube, Row, Table};
+use razor_base::Memory;
+use std::alloc::Global;
+use ternary_words::Entry;
+
+/// A table of old and of new rows.
+#[derive(Drop)]
+pub(crate) struct Mending {
+    alloc: Global,
+    search: Search,
+    table: Table,
+    /// The ids of the old rows are those from this one on, below the other.
+    first: usize,
+    end: usize,
+}
+
+impl Mending {
+    /// Begins with new rows in front of the old entries.
+    pub fn new(alloc: Global, front: Vec<Row>, old: &[Entry]) -> Result<Mending, Memory> {
+        let mut search = Search::new(alloc);
+        search.most = REPAIR_REACH;
+        let first = front.len();
+        let mut rows = front;
+        push_rows(&mut rows, old, false)?;
+        Ok(Mending {
+            alloc,
+            search,
+            table: Table::new(alloc, &rows)?,
+            first,
+            end: rows.len(),
+        })
+    }
+
+    /// Makes the table shorter, where only rows that meet the cubes can be wrong or redundant.
+    pub fn settle(&mut self, cubes: &[Cube]) -> Result<(), Memory> {
+        self.trim_new()?;
+        self.trim_old(cubes)?;
+        self.trim_new()?;
+        for _ in 0..REPAIR_ROUNDS {
+            let before = self.table.len();
+            self.widen()?;
+            if self.table.len() == before {
+                break;
+            }
+        }
+        self.sink()
+    }
+
+    /// The entries as they are now.
+    pub fn entries(&self) -> Result<Vec<Entry>, Memory> {
+        entries_of(self.alloc, &self.table.rows(self.alloc)?)
+    }
+
+    /// Whether the row with the id is new.
+    fn is_new(&self, id: usize) -> bool {
+        id < self.first || id >= self.end
+    }
+
+    /// The ids of the new rows, from the last to the first.
+    fn new_ids(&self) -> Result<Vec<usize>, Memory> {
+        let mut ids = self.table.ids(self.alloc)?;
+        ids.reverse();
+        ids.retain(|id| self.is_new(*id));
+        Ok(ids)
+    }
+
+    /// Takes out new rows that are redundant.
+    fn trim_new(&mut self) -> Result<(), Memory> {
+        for id in &self.new_ids()? {
+            self.trim(*id)?;
+        }
+        Ok(())
+    }
+
+    /// Takes out old rows that meet the cubes and are redundant.
+    fn trim_old(&mut self, cubes: &[Cube]) -> Result<(), Memory> {
+        for id in self.table.ids(self.alloc)?.iter().rev() {
+            let cube = self.table.row(*id).cube;
+            if !self.is_new(*id) && cubes.iter().any(|other| other.meets(cube)) {
+                self.trim(*id)?;
+            }
+        }
+        Ok(())
+    }
+
+    /// Takes the row out, if it is redundant.
+    fn trim(&mut self, id: usize) -> Result<(), Memory> {
+        if self.table.redundant(id)? {
+            self.table.take(id)?;
+        }
+        Ok(())
+    }
+
+    /// Widens the new rows, then takes out what got redundant.
+    fn widen(&mut self) -> Result<(), Memory> {
+        let since = self.table.log_len();
+        for id in &self.new_ids()? {
+            self.search.widen_often(&mut self.table, *id)?;
+        }
+        self.trim_changed(since)
+    }
+
+    /// Takes out redundant rows that meet what the log told since it had this length.
+    fn trim_changed(&mut self, since: usize) -> Result<(), Memory> {
+        let told = Vec::from_slice(self.alloc, self.table.log_since(since))?;
+        for id in self.table.ids(self.alloc)?.iter().rev() {
+            let cube = self.table.row(*id).cube;
+            if told.iter().any(|one| one.0.meets(cube)) {
+                self.trim(*id)?;
+            }
+        }
+        Ok(())
+    }
+
+    /// Moves the new rows down as far as they can go.
+    fn sink(&mut self) -> Result<(), Memory> {
+        for id in &self.new_ids()? {
+            self.table.sink(*id, REPAIR_REACH)?;
+        }
+        Ok(())
+    }
+}
