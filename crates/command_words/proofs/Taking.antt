@@ -4,7 +4,7 @@ use Rattle.std.proofs.Math.Seq.{take-length}
 use Rattle.std.proofs.lemmas.Bool.{le-leb, leb-false, lt-leb}
 use Rattle.std.proofs.lemmas.List.{append-nil, length-append, length-map, length-take}
 use Rattle.command_words.specs.declared.option.OptionName.{OptionName}
-use Rattle.command_words.specs.declared.option.OptionName.TheVariants.{Limit, Slot, Slots, Order, Swap}
+use Rattle.command_words.specs.declared.option.OptionName.TheVariants.{Limit, Slot, Slots, Order, Swap, By}
 use Rattle.command_words.specs.Items.{Item, Given, Plain, Reading, Ends, Awaits, Gives, Stands, Fails, in_front, items_of, plain_of, reading_of, values_of}
 use Rattle.command_words.specs.Parts.{first_value, nothing_found, one_in_all, with_items, with_plain, with_value, with_words}
 use Rattle.command_words.specs.Spelling.{Found, few_words, found_among}
@@ -50,6 +50,13 @@ sixth a c d e i r g k =
     swap a r (λ x. c >>= (λ z. d >>= (λ w. e >>= (λ v. i >>= (λ u. (r >>= g) >>= k x z w v u))))) (λ y x. c >>= (λ z. d >>= (λ w. e >>= (λ v. i >>= (λ u. g y >>= k x z w v u)))))
     (λ x. fifth c d e i r g (k x))
 
+seventh : {A C D E F G K S B : Type 0} (a : Option A) (c : Option C) (d : Option D) (e : Option E) (i : Option F) (j : Option G) (r : Option K) (g : K → Option S) (k : A → C → D → E → F → G → S → Option B) →
+    (a >>= (λ x. c >>= (λ z. d >>= (λ w. e >>= (λ v. i >>= (λ u. j >>= (λ t. (r >>= g) >>= k x z w v u t)))))))
+    ≡ (r >>= (λ y. a >>= (λ x. c >>= (λ z. d >>= (λ w. e >>= (λ v. i >>= (λ u. j >>= (λ t. g y >>= k x z w v u t))))))))
+seventh a c d e i j r g k =
+    swap a r (λ x. c >>= (λ z. d >>= (λ w. e >>= (λ v. i >>= (λ u. j >>= (λ t. (r >>= g) >>= k x z w v u t)))))) (λ y x. c >>= (λ z. d >>= (λ w. e >>= (λ v. i >>= (λ u. j >>= (λ t. g y >>= k x z w v u t))))))
+    (λ x. sixth c d e i j r g (k x))
+
 mapped : {A B C : Type 0} (h : A → B) (x : Option A) (f : B → Option C) → (option_map h x >>= f) ≡ (x >>= (λ y. f (h y)))
 mapped h None f = refl
 mapped h (Some y) f = refl
@@ -86,9 +93,12 @@ few-more : (xs ys : List (List ℕ)) → few_words (xs ++ ys) ≡ (few_words xs 
 few-more xs ys = few_test xs ys (nat_le (length xs) 9) refl
 
 -- what is made of the values and words once the first of them are known
+abbrev after_by : Found → List Item → Option (List ℕ) → Option (List ℕ) → Option (List ℕ) → Option (List ℕ) → Option (List ℕ) → Option (List ℕ) → Option Found
+after_by found items limit slot slots order way by =
+    few_words (found.plain ++ plain_of items) >>= (λ plain. Some (record { limit = limit; slot = slot; slots = slots; order = order; swap = way; by = by; plain = plain }))
+
 abbrev after_swap : Found → List Item → Option (List ℕ) → Option (List ℕ) → Option (List ℕ) → Option (List ℕ) → Option (List ℕ) → Option Found
-after_swap found items limit slot slots order way =
-    few_words (found.plain ++ plain_of items) >>= (λ plain. Some (record { limit = limit; slot = slot; slots = slots; order = order; swap = way; plain = plain }))
+after_swap found items limit slot slots order way = one_in_all found.by (values_of By items) >>= after_by found items limit slot slots order way
 
 abbrev after_order : Found → List Item → Option (List ℕ) → Option (List ℕ) → Option (List ℕ) → Option (List ℕ) → Option Found
 after_order found items limit slot slots order = one_in_all found.swap (values_of Swap items) >>= after_swap found items limit slot slots order
@@ -131,6 +141,13 @@ given found Swap value items =
     rw (one_more found.swap value values)
     (fifth (one_in_all found.limit (values_of Limit items)) (one_in_all found.slot (values_of Slot items)) (one_in_all found.slots (values_of Slots items)) (one_in_all found.order (values_of Order items)) kept (λ k. one_in_all k values) (after_swap found items)
     ∙ sym (mapped (λ way. record found { swap = way }) kept (λ more. with_items more items)))
+given found By value items =
+    let kept = first_value found.by value in
+    let values = values_of By items in
+    rw (one_more found.by value values)
+    (sixth (one_in_all found.limit (values_of Limit items)) (one_in_all found.slot (values_of Slot items)) (one_in_all found.slots (values_of Slots items)) (one_in_all found.order (values_of Order items)) (one_in_all found.swap (values_of Swap items)) kept (λ k. one_in_all k values)
+    (after_by found items)
+    ∙ sym (mapped (λ by. record found { by = by }) kept (λ more. with_items more items)))
 
 plain : (found : Found) (word : List ℕ) (items : List Item) → with_items found (Plain word ∷ items) ≡ (with_plain found (word ∷ []) >>= (λ more. with_items more items))
 plain found word items =
@@ -138,21 +155,21 @@ plain found word items =
     let e : few_words (found.plain ++ word ∷ plain_of items) ≡ (few_words words >>= (λ zs. few_words (zs ++ plain_of items))) =
     ap few_words (sym (append_assoc found.plain (word ∷ []) (plain_of items))) ∙ few-more words (plain_of items) in
     rw e
-    (sixth (one_in_all found.limit (values_of Limit items)) (one_in_all found.slot (values_of Slot items)) (one_in_all found.slots (values_of Slots items)) (one_in_all found.order (values_of Order items)) (one_in_all found.swap (values_of Swap items)) (few_words words)
-    (λ zs. few_words (zs ++ plain_of items))
-    (λ limit slot slots order way plain. Some (record { limit = limit; slot = slot; slots = slots; order = order; swap = way; plain = plain }))
+    (seventh (one_in_all found.limit (values_of Limit items)) (one_in_all found.slot (values_of Slot items)) (one_in_all found.slots (values_of Slots items)) (one_in_all found.order (values_of Order items)) (one_in_all found.swap (values_of Swap items))
+    (one_in_all found.by (values_of By items)) (few_words words) (λ zs. few_words (zs ++ plain_of items))
+    (λ limit slot slots order way by plain. Some (record { limit = limit; slot = slot; slots = slots; order = order; swap = way; by = by; plain = plain }))
     ∙ sym (mapped (λ plain. record found { plain = plain }) (few_words words) (λ more. with_items more items)))
 
 ended : (found : Found) (words : List (List ℕ)) → with_items found (map Plain words) ≡ with_plain found words
 ended found words =
-    rw (none_plain Limit words, none_plain Slot words, none_plain Slots words, none_plain Order words, none_plain Swap words, all_plain words, none_more found.limit, none_more found.slot, none_more found.slots, none_more found.order, none_more found.swap)
+    rw (none_plain Limit words, none_plain Slot words, none_plain Slots words, none_plain Order words, none_plain Swap words, none_plain By words, all_plain words, none_more found.limit, none_more found.slot, none_more found.slots, none_more found.order, none_more found.swap, none_more found.by)
     (ends_in (λ plain. record found { plain = plain }) (few_words (found.plain ++ words)))
 
 pub at_end : (found : Found) → length found.plain ≤ 9 → with_words found [] ≡ Some found
 unfolding with_words
 at_end found few =
     let same = append-nil found.plain in
-    rw (none_more found.limit, none_more found.slot, none_more found.slots, none_more found.order, none_more found.swap, same, le-leb (length found.plain) 9 few) refl
+    rw (none_more found.limit, none_more found.slot, none_more found.slots, none_more found.order, none_more found.swap, none_more found.by, same, le-leb (length found.plain) 9 few) refl
 
 -- the items of a word that reads so, and of the words behind it
 abbrev items_at : List ℕ → List (List ℕ) → Reading → Option (List Item)

@@ -8,15 +8,17 @@ use Rattle.command_words.specs.declared.commands.CommandName.{CommandName}
 use Rattle.command_words.specs.declared.commands.CommandName.TheVariants as names
 use Rattle.command_words.specs.declared.commands.Method as code_method
 use Rattle.command_words.specs.declared.commands.Method.TheVariants as methods
-use Rattle.command_words.specs.declared.option.TheConstants.{NO_OPTION, ORDER_AND_SIZES, SIZES, SLOTS, SLOTS_SIZES_AND_SWAP}
+use Rattle.command_words.specs.declared.option.TheConstants.{NO_OPTION, ORDER_AND_SIZES, SIZES, SLOTS, SESSION}
 use Rattle.command_words.specs.Files.{over_one, over_script, over_three, over_two, script_and_tables}
 use Rattle.command_words.specs.Forms.{Form, row}
 use Rattle.command_words.specs.Numbers.{drawing}
 use Rattle.command_words.specs.Orders.{Wanted, Best}
 use Rattle.command_words.specs.PlainWords.{plain_seen}
 use Rattle.command_words.specs.Questions.{asking, name_in}
-use Rattle.command_words.specs.Settings.{Settings, Sizes, sizes_of, wanted_seen, swap_seen}
-use Rattle.command_words.specs.Swaps.{Swap}
+use Rattle.command_words.specs.Sessions.{SessionTerms, making_of}
+use Rattle.command_words.specs.Settings.{Settings, sizes_of, terms_seen, wanted_seen}
+use Rattle.command_words.specs.Sizes.{Sizes}
+use Rattle.text_lines.specs.Headline.Steps.{◌>>=◌}
 
 -- the forms of the commands that are built, in the order of the usage text
 unfoldable pub forms : List Form
@@ -35,7 +37,7 @@ forms =
     ∷ row names.Merge (codes "merge") NO_OPTION (codes "TABLE")
     ∷ row names.Audit (codes "audit") NO_OPTION (codes "LIST")
     ∷ row names.Query (codes "query") NO_OPTION (codes "LIST S D SP DP P DECISION")
-    ∷ row names.Session (codes "session") SLOTS_SIZES_AND_SWAP (codes "SCRIPT LIST")
+    ∷ row names.Session (codes "session") SESSION (codes "SCRIPT LIST")
     ∷ row names.Trim (codes "trim") NO_OPTION (codes "TABLE")
     ∷ row names.Shorten (codes "shorten") ORDER_AND_SIZES (codes "LIST")
     ∷ row names.Place (codes "place") SLOTS (codes "TABLE")
@@ -68,7 +70,7 @@ pub data Command : Type 0 where
   Merge : List ℕ → Command
   Audit : List ℕ → Command
   Query : List ℕ → List Interval → Option (List ℕ) → Command
-  Session : ℕ → Sizes → Swap → List ℕ → List ℕ → Command
+  Session : SessionTerms → List ℕ → List ℕ → Command
   Trim : List ℕ → Command
   Place : ℕ → List ℕ → Command
   Patch : List ℕ → List ℕ → Command
@@ -91,7 +93,8 @@ command_named names.Arrange settings words = over_one (Make (Arrange (unwrap_or 
 command_named names.Merge settings words = over_one Merge words
 command_named names.Audit settings words = over_one Audit words
 command_named names.Query settings words = asking Query words
-command_named names.Session settings words = over_two (Session settings.slots settings.sizes settings.swap) words
+command_named names.Session settings words =
+    making_of settings.by settings.order >>= (λ making. over_two (Session (record { slots = settings.slots; sizes = settings.sizes; making = making; swap = settings.swap })) words)
 command_named names.Trim settings words = over_one Trim words
 command_named names.Shorten settings words = over_one (Make (Shorten settings.order) settings.sizes) words
 command_named names.Place settings words = over_one (Place settings.slots) words
@@ -119,7 +122,7 @@ command_seen (asked.Migrate table) = Migrate table.now
 command_seen (asked.Merge table) = Merge table.now
 command_seen (asked.Audit list) = Audit list.now
 command_seen (asked.Query question) = Query question.list.now (intervals_of question.spans) (name_in question.decision.now)
-command_seen (asked.Session slots sizes swap files) = Session slots.count (sizes_of sizes) (swap_seen swap) files.first.now files.second.now
+command_seen (asked.Session terms files) = Session (terms_seen terms) files.first.now files.second.now
 command_seen (asked.Trim table) = Trim table.now
 command_seen (asked.Place slots table) = Place slots.count table.now
 command_seen (asked.Patch both) = Patch both.first.now both.second.now

@@ -3,7 +3,7 @@ use Rattle.std.specs.Prelude.{ℕ, Bool, false, ◌==◌, List, [], ◌∷◌, l
 use Rattle.std.specs.Option.{option_or}
 use Rattle.std.specs.Str.{bytes_eq}
 use Rattle.command_words.specs.declared.option.OptionName.{OptionName}
-use Rattle.command_words.specs.declared.option.OptionName.TheVariants.{Limit, Slot, Slots, Order, Swap}
+use Rattle.command_words.specs.declared.option.OptionName.TheVariants.{Limit, Slot, Slots, Order, Swap, By}
 use Rattle.command_words.specs.Options.{option_text, same_option}
 use Rattle.text_lines.specs.Headline.Steps.{◌>>=◌}
 
@@ -34,7 +34,7 @@ abbrev pub as_option : OptionName → List ℕ → Option Reading
 as_option option word = after (option_text option) word >>= with_rest option
 
 abbrev pub as_some_option : List ℕ → Option Reading
-as_some_option word = option_or (as_option Limit word) (option_or (as_option Slot word) (option_or (as_option Slots word) (option_or (as_option Order word) (as_option Swap word))))
+as_some_option word = option_or (as_option Limit word) (option_or (as_option Slot word) (option_or (as_option Slots word) (option_or (as_option Order word) (option_or (as_option Swap word) (as_option By word)))))
 
 -- '-' and a byte more
 abbrev pub is_dashed : List ℕ → Bool

@@ -1,6 +1,8 @@
 pub mod Numbers
 pub mod Orders
 pub mod Swaps
+pub mod Sizes
+pub mod Sessions
 pub mod Settings
 pub mod Options
 pub mod Items

@@ -2,7 +2,7 @@
 use Rattle.std.specs.Prelude.{ℕ, Bool, true, false, ◌||◌, ◌==◌, List, find, Option, Some, None, option_map, codes, if◌then◌else◌}
 use Rattle.razor_base.specs.declared.limits.TheConstants.{MOST_ENTRIES}
 use Rattle.command_words.specs.declared.option.OptionName.{OptionName}
-use Rattle.command_words.specs.declared.option.OptionName.TheVariants.{Limit, Slot, Slots, Order, Swap}
+use Rattle.command_words.specs.declared.option.OptionName.TheVariants.{Limit, Slot, Slots, Order, Swap, By}
 use Rattle.command_words.specs.declared.option.Need.{Need}
 use Rattle.command_words.specs.declared.option.Need.TheVariants.{Always}
 use Rattle.command_words.specs.declared.option.Taken.{Taken}
@@ -16,6 +16,7 @@ option_text Slot = codes "--slot"
 option_text Slots = codes "--slots"
 option_text Order = codes "--order"
 option_text Swap = codes "--swap"
+option_text By = codes "--by"
 
 -- what stands for its value in the usage text, with a blank in front
 abbrev pub value_label : OptionName → List ℕ
@@ -24,6 +25,7 @@ value_label Slot = codes " W"
 value_label Slots = codes " N"
 value_label Order = codes " P"
 value_label Swap = codes " S"
+value_label By = codes " M"
 
 abbrev pub same_option : OptionName → OptionName → Bool
 same_option Limit Limit = true
@@ -31,6 +33,7 @@ same_option Slot Slot = true
 same_option Slots Slots = true
 same_option Order Order = true
 same_option Swap Swap = true
+same_option By By = true
 same_option a b = false
 
 -- a width of a slot, in bits

@@ -2,12 +2,13 @@
 use Rattle.std.specs.Prelude.{ℕ, List, [], ◌∷◌, length, nat_le, find, Option, Some, None, if◌then◌else◌}
 use Rattle.std.specs.Str.{bytes_eq}
 use Rattle.razor_base.specs.declared.limits.TheConstants.{MOST_ENTRIES}
-use Rattle.command_words.specs.declared.option.OptionName.TheVariants.{Limit, Slot, Slots, Order, Swap}
+use Rattle.command_words.specs.declared.option.OptionName.TheVariants.{Limit, Slot, Slots, Order, Swap, By}
 use Rattle.command_words.specs.Commands.{Command, command_named, forms}
 use Rattle.command_words.specs.Forms.{Form}
 use Rattle.command_words.specs.Items.{Item, items_of, plain_of, values_of}
 use Rattle.command_words.specs.Options.{given, need_of, optional, or_usual, size_in, width_in}
 use Rattle.command_words.specs.Orders.{order_wanted}
+use Rattle.command_words.specs.Sessions.{Compiling, by_written}
 use Rattle.command_words.specs.Settings.{Settings}
 use Rattle.command_words.specs.Swaps.{Whole, swap_written}
 use Rattle.text_lines.specs.Headline.Steps.{◌>>=◌}
@@ -19,6 +20,7 @@ pub record Found : Type 0 where
   pub slots : Option (List ℕ)
   pub order : Option (List ℕ)
   pub swap : Option (List ℕ)
+  pub by : Option (List ℕ)
   pub plain : List (List ℕ)
 
 -- at most one value is given to an option
@@ -39,11 +41,12 @@ found_among items = do
   slots ← one_value (values_of Slots items)
   order ← one_value (values_of Order items)
   swap ← one_value (values_of Swap items)
+  by ← one_value (values_of By items)
   plain ← few_words (plain_of items)
-  Some (record { limit = limit; slot = slot; slots = slots; order = order; swap = swap; plain = plain })
+  Some (record { limit = limit; slot = slot; slots = slots; order = order; swap = swap; by = by; plain = plain })
 
 -- what the options of the form come to, each that is left out to its usual value: the greatest number, 144 bits, no
--- order, and tables that are replaced whole
+-- order, and tables that are replaced whole and compiled
 abbrev pub settings_of : Form → Found → Option Settings
 settings_of form found = do
   limit ← given (need_of form.options Limit) found.limit >>= or_usual MOST_ENTRIES size_in
@@ -51,7 +54,8 @@ settings_of form found = do
   slots ← given (need_of form.options Slots) found.slots >>= or_usual MOST_ENTRIES size_in
   order ← given (need_of form.options Order) found.order >>= optional order_wanted
   swap ← given (need_of form.options Swap) found.swap >>= or_usual Whole swap_written
-  Some (record { sizes = record { limit = limit; slot = slot }; slots = slots; order = order; swap = swap })
+  by ← given (need_of form.options By) found.by >>= or_usual Compiling by_written
+  Some (record { sizes = record { limit = limit; slot = slot }; slots = slots; order = order; swap = swap; by = by })
 
 -- the command that the words spell, or none
 unfoldable pub command_of : List (List ℕ) → Option Command

@@ -12,12 +12,12 @@ use crate::drawing::seed_and_rules;
 use crate::files::{is_script_run, one_file, three_files, two_files};
 use crate::form::{CommandForm, first_named, row};
 use crate::operands::{Drawing, Question, ScriptRun, ThreeFiles, TwoFiles};
-use crate::option::{NO_OPTION, ORDER_AND_SIZES, SIZES, SLOTS, SLOTS_SIZES_AND_SWAP};
+use crate::option::{NO_OPTION, ORDER_AND_SIZES, SESSION, SIZES, SLOTS};
 use crate::plain::PlainWords;
 use crate::question::question_of;
+use crate::sessions::{SessionTerms, making_of};
 use crate::settings::Settings;
 use crate::sizes::{Sizes, Slots};
-use crate::swap::Swap;
 use crate::wanted::{Wanted, or_best};
 
 /// The commands that are built.
@@ -71,12 +71,7 @@ pub(crate) fn forms() -> [CommandForm; 21]
             &NO_OPTION,
             "LIST S D SP DP P DECISION",
         ),
-        row(
-            CommandName::Session,
-            "session",
-            &SLOTS_SIZES_AND_SWAP,
-            "SCRIPT LIST",
-        ),
+        row(CommandName::Session, "session", &SESSION, "SCRIPT LIST"),
         row(CommandName::Trim, "trim", &NO_OPTION, "TABLE"),
         row(CommandName::Shorten, "shorten", &ORDER_AND_SIZES, "LIST"),
         row(CommandName::Place, "place", &SLOTS, "TABLE"),
@@ -138,12 +133,10 @@ pub enum Command<'a> {
     Audit(&'a str),
     /// Writes the boxes inside a box in which a list decides as asked.
     Query(Question<'a>),
-    /// Edits a list by the commands of a session, and replaces the tables of the list in a memory of so many slots: the
+    /// Edits a list by the commands of a session, and replaces the tables of the list in a memory, on these terms: the
     /// files are the session's and the list's.
     Session {
-        slots: Slots,
-        sizes: Sizes,
-        swap: Swap,
+        terms: SessionTerms,
         files: TwoFiles<'a>,
     },
     /// Writes a table without its redundant entries.
@@ -199,6 +192,7 @@ pub(crate) fn named<'a>(
         slots,
         order,
         swap,
+        by,
     } = settings;
     match name {
         CommandName::Expand => making(Method::Expand, sizes, words),
@@ -216,9 +210,12 @@ pub(crate) fn named<'a>(
         CommandName::Audit => Some(Command::Audit(one_file(words)?)),
         CommandName::Query => Some(Command::Query(question_of(words)?)),
         CommandName::Session => Some(Command::Session {
-            slots,
-            sizes,
-            swap,
+            terms: SessionTerms {
+                slots,
+                sizes,
+                making: making_of(by, order)?,
+                swap,
+            },
             files: two_files(words)?,
         }),
         CommandName::Trim => Some(Command::Trim(one_file(words)?)),

@@ -28,7 +28,7 @@
 //! |---|---|
 //! | `spelling` | the call |
 //! | `commands`, `form` | the row and the command of each name |
-//! | `option`, `settings`, `sizes`, `wanted` | the options, which of them a command takes, and what they come to |
+//! | `option`, `settings`, `sizes`, `wanted`, `swap`, `sessions` | the options, which of them a command takes, and what they come to |
 //! | `parts`, `reading`, `plain` | words read from left to right, options and plain words |
 //! | `operands`, `files`, `number`, `drawing`, `question` | what plain words come to |
 //! | `words`, `usage`, `rows` | the words of a call, the usage text, and worked rows |
@@ -46,6 +46,7 @@ mod plain;
 mod question;
 mod reading;
 pub mod rows;
+mod sessions;
 mod settings;
 mod sizes;
 mod spelling;
@@ -57,6 +58,7 @@ mod words;
 pub use commands::{Command, Method};
 pub use operands::{Drawing, Question, ScriptRun, ThreeFiles, TwoFiles};
 pub use plain::PlainWords;
+pub use sessions::{Making, SessionTerms};
 pub use sizes::{Sizes, Slots};
 pub use spelling::spelled_command;
 pub use swap::Swap;

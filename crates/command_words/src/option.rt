@@ -20,6 +20,8 @@ pub(crate) enum OptionName {
     Order,
     /// `--swap`: how tables are replaced, `whole` or `patch`.
     Swap,
+    /// `--by`: how tables are made, `compile` or `shorten`.
+    By,
 }
 
 /// Whether an option that a command takes has to be there.
@@ -73,8 +75,8 @@ pub(crate) const SLOTS: [Taken; 1] = [Taken {
     need: Need::Always,
 }];
 
-/// The number of slots of a memory, the sizes of its tables, and how they are replaced.
-pub(crate) const SLOTS_SIZES_AND_SWAP: [Taken; 4] = [
+/// The number of slots of a memory, the sizes of its tables, how they are replaced, and how they are made.
+pub(crate) const SESSION: [Taken; 6] = [
     Taken {
         option: OptionName::Slots,
         need: Need::Always,
@@ -88,7 +90,15 @@ pub(crate) const SLOTS_SIZES_AND_SWAP: [Taken; 4] = [
         need: Need::Maybe,
     },
     Taken {
+        option: OptionName::Order,
+        need: Need::Maybe,
+    },
+    Taken {
         option: OptionName::Swap,
+        need: Need::Maybe,
+    },
+    Taken {
+        option: OptionName::By,
         need: Need::Maybe,
     },
 ];
@@ -103,7 +113,8 @@ impl OptionName {
             | (OptionName::Slot, OptionName::Slot)
             | (OptionName::Slots, OptionName::Slots)
             | (OptionName::Order, OptionName::Order)
-            | (OptionName::Swap, OptionName::Swap) => true,
+            | (OptionName::Swap, OptionName::Swap)
+            | (OptionName::By, OptionName::By) => true,
             _ => false,
         }
     }
@@ -118,6 +129,7 @@ impl OptionName {
             OptionName::Slots => "--slots",
             OptionName::Order => "--order",
             OptionName::Swap => "--swap",
+            OptionName::By => "--by",
         }
     }
 
@@ -130,6 +142,7 @@ impl OptionName {
             OptionName::Slot => " W",
             OptionName::Order => " P",
             OptionName::Swap => " S",
+            OptionName::By => " M",
         }
     }
 }

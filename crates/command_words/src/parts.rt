@@ -18,6 +18,7 @@ pub(crate) struct Parts<'a> {
     pub slots: Option<&'a [u8]>,
     pub order: Option<&'a [u8]>,
     pub swap: Option<&'a [u8]>,
+    pub by: Option<&'a [u8]>,
     pub plain: PlainWords<'a>,
 }
 
@@ -43,6 +44,7 @@ impl<'a> Parts<'a> {
             slots: None,
             order: None,
             swap: None,
+            by: None,
             plain: PlainWords::new(),
         }
     }
@@ -57,6 +59,7 @@ impl<'a> Parts<'a> {
             OptionName::Slots => keep_first(&mut self.slots, value),
             OptionName::Order => keep_first(&mut self.order, value),
             OptionName::Swap => keep_first(&mut self.swap, value),
+            OptionName::By => keep_first(&mut self.by, value),
         }
     }
 

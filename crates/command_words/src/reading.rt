@@ -58,7 +58,10 @@ fn as_some_option(word: &[u8]) -> Option<WordKind<'_>>
     if let Some(kind) = as_option(OptionName::Order, word) {
         return Some(kind);
     }
-    as_option(OptionName::Swap, word)
+    if let Some(kind) = as_option(OptionName::Swap, word) {
+        return Some(kind);
+    }
+    as_option(OptionName::By, word)
 }
 
 /// How the word reads.

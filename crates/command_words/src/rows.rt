@@ -3,9 +3,11 @@
 
 ghost use Rattle.std.specs.Prelude.{◌≡◌, ◌∷◌, [], ◌++◌, Some, None, codes};
 ghost use Rattle.std.specs.List.{flat_map};
+ghost use Rattle.field_boxes.specs.Headline.Fields.{stated};
 ghost use Rattle.command_words.specs.Commands.{Apply, Arrange, Audit, Cert, Compile, Expand, Check, Drive, Dump, Equiv, Gen, Make, Patch, Place, Query, Selfrun, Session, Shorten, Trim};
 ghost use Rattle.command_words.specs.Orders.{Best, In};
 ghost use Rattle.command_words.specs.Questions.{span};
+ghost use Rattle.command_words.specs.Sessions.{CompiledIn, Shortened};
 ghost use Rattle.command_words.specs.Spelling.{command_of};
 ghost use Rattle.command_words.specs.Swaps.{InPlace, Whole};
 ghost use Rattle.command_words.specs.Usage.{usage_text};
@@ -119,14 +121,20 @@ pub fn worked_scripts()
 
 /// A session has a script and a list, and the number of slots must be there.
 pub fn worked_sessions()
-    ensures usual { command_of (codes "session" ∷ codes "--slots" ∷ codes "4" ∷ codes "s" ∷ codes "in" ∷ []) ≡ Some (Session 4 (record { limit = 262144; slot = 144 }) Whole (codes "s") (codes "in")) }
-    ensures all { command_of (codes "session" ∷ codes "--limit=1" ∷ codes "--slot" ∷ codes "104" ∷ codes "s" ∷ codes "in" ∷ codes "--slots=262144" ∷ []) ≡ Some (Session 262144 (record { limit = 1; slot = 104 }) Whole (codes "s") (codes "in")) }
-    ensures in_place { command_of (codes "session" ∷ codes "--slots" ∷ codes "4" ∷ codes "--swap" ∷ codes "patch" ∷ codes "s" ∷ codes "in" ∷ []) ≡ Some (Session 4 (record { limit = 262144; slot = 144 }) InPlace (codes "s") (codes "in")) }
+    ensures usual { command_of (codes "session" ∷ codes "--slots" ∷ codes "4" ∷ codes "s" ∷ codes "in" ∷ []) ≡ Some (Session (record { slots = 4; sizes = record { limit = 262144; slot = 144 }; making = CompiledIn stated; swap = Whole }) (codes "s") (codes "in")) }
+    ensures all { command_of (codes "session" ∷ codes "--limit=1" ∷ codes "--slot" ∷ codes "104" ∷ codes "s" ∷ codes "in" ∷ codes "--slots=262144" ∷ []) ≡ Some (Session (record { slots = 262144; sizes = record { limit = 1; slot = 104 }; making = CompiledIn stated; swap = Whole }) (codes "s") (codes "in")) }
+    ensures in_place { command_of (codes "session" ∷ codes "--slots" ∷ codes "4" ∷ codes "--swap" ∷ codes "patch" ∷ codes "s" ∷ codes "in" ∷ []) ≡ Some (Session (record { slots = 4; sizes = record { limit = 262144; slot = 144 }; making = CompiledIn stated; swap = InPlace }) (codes "s") (codes "in")) }
+    ensures in_an_order { command_of (codes "session" ∷ codes "--order" ∷ codes "41032" ∷ codes "--slots" ∷ codes "4" ∷ codes "s" ∷ codes "in" ∷ []) ≡ Some (Session (record { slots = 4; sizes = record { limit = 262144; slot = 144 }; making = CompiledIn (4 ∷ 1 ∷ 0 ∷ 3 ∷ 2 ∷ []); swap = Whole }) (codes "s") (codes "in")) }
+    ensures by_compilation { command_of (codes "session" ∷ codes "--slots" ∷ codes "4" ∷ codes "--by=compile" ∷ codes "--order" ∷ codes "41032" ∷ codes "s" ∷ codes "in" ∷ []) ≡ Some (Session (record { slots = 4; sizes = record { limit = 262144; slot = 144 }; making = CompiledIn (4 ∷ 1 ∷ 0 ∷ 3 ∷ 2 ∷ []); swap = Whole }) (codes "s") (codes "in")) }
+    ensures shortened { command_of (codes "session" ∷ codes "--slots" ∷ codes "4" ∷ codes "s" ∷ codes "--by" ∷ codes "shorten" ∷ codes "--swap=patch" ∷ codes "in" ∷ []) ≡ Some (Session (record { slots = 4; sizes = record { limit = 262144; slot = 144 }; making = Shortened; swap = InPlace }) (codes "s") (codes "in")) }
+    ensures sought_order { command_of (codes "session" ∷ codes "--order=best" ∷ codes "--slots" ∷ codes "4" ∷ codes "s" ∷ codes "in" ∷ []) ≡ None }
+    ensures shortened_in_an_order { command_of (codes "session" ∷ codes "--by" ∷ codes "shorten" ∷ codes "--order" ∷ codes "41032" ∷ codes "--slots" ∷ codes "4" ∷ codes "s" ∷ codes "in" ∷ []) ≡ None }
+    ensures other_method { command_of (codes "session" ∷ codes "--by" ∷ codes "arrange" ∷ codes "--slots" ∷ codes "4" ∷ codes "s" ∷ codes "in" ∷ []) ≡ None }
     ensures no_way { command_of (codes "session" ∷ codes "--slots" ∷ codes "4" ∷ codes "--swap" ∷ codes "block" ∷ codes "s" ∷ codes "in" ∷ []) ≡ None }
     ensures no_slots { command_of (codes "session" ∷ codes "s" ∷ codes "in" ∷ []) ≡ None }
     ensures no_list { command_of (codes "session" ∷ codes "--slots" ∷ codes "4" ∷ codes "s" ∷ []) ≡ None }
     ensures equal_files { command_of (codes "session" ∷ codes "--slots" ∷ codes "4" ∷ codes "s" ∷ codes "s" ∷ []) ≡ None }
-    ensures other_option { command_of (codes "session" ∷ codes "--slots" ∷ codes "4" ∷ codes "--order" ∷ codes "01234" ∷ codes "s" ∷ codes "in" ∷ []) ≡ None }
+    ensures stated_order { command_of (codes "session" ∷ codes "--slots" ∷ codes "4" ∷ codes "--order" ∷ codes "01234" ∷ codes "s" ∷ codes "in" ∷ []) ≡ Some (Session (record { slots = 4; sizes = record { limit = 262144; slot = 144 }; making = CompiledIn stated; swap = Whole }) (codes "s") (codes "in")) }
 {}
 
 /// A number has one to ten digits and lies in its range. Two equal numbers may stand together.
@@ -190,7 +198,7 @@ pub fn worked_usage()
         ∷ codes "  merge TABLE"
         ∷ codes "  audit LIST"
         ∷ codes "  query LIST S D SP DP P DECISION"
-        ∷ codes "  session --slots N [--limit N] [--slot W] [--swap S] SCRIPT LIST"
+        ∷ codes "  session --slots N [--limit N] [--slot W] [--order P] [--swap S] [--by M] SCRIPT LIST"
         ∷ codes "  trim TABLE"
         ∷ codes "  shorten [--order P] [--limit N] [--slot W] LIST"
         ∷ codes "  place --slots N TABLE"

@@ -8,12 +8,14 @@ ghost use Rattle.command_words.specs.Options.{given, optional, or_usual, size_in
 ghost use Rattle.command_words.specs.Orders.{order_wanted};
 ghost use Rattle.command_words.specs.Parts.{found_seen};
 ghost use Rattle.command_words.specs.Spelling.{settings_of};
-ghost use Rattle.command_words.specs.Settings.{settings_seen, swap_seen, wanted_seen};
+ghost use Rattle.command_words.specs.Settings.{by_seen, settings_seen, swap_seen, wanted_seen};
+ghost use Rattle.command_words.specs.Sessions.{Compiling, by_written};
 ghost use Rattle.command_words.specs.Swaps.{Whole, swap_written};
 
 use crate::form::{CommandForm, need_of};
 use crate::option::{Need, OptionName, size_in, width_in};
 use crate::parts::Parts;
+use crate::sessions::{By, by_written};
 use crate::sizes::{Sizes, Slots};
 use crate::swap::{Swap, swap_written};
 use crate::wanted::{Wanted, order_wanted};
@@ -26,6 +28,7 @@ pub(crate) struct Settings {
     pub slots: Slots,
     pub order: Option<Wanted>,
     pub swap: Swap,
+    pub by: By,
 }
 
 /// The value of an option as a command takes it, or none of it where it is left out; nothing where the command
@@ -82,6 +85,16 @@ fn swap(need: Option<Need>, value: Option<&[u8]>) -> Option<Swap>
     }
 }
 
+/// How tables are made, compiled where it is left out.
+fn by(need: Option<Need>, value: Option<&[u8]>) -> Option<By>
+    ensures { option_map by_seen result ≡ option_and_then (or_usual Compiling by_written) (given need (option_map (λ bytes. bytes.now) value.entry)) }
+{
+    match given(need, value)? {
+        Some(value) => by_written(value),
+        None => Some(By::Compiling),
+    }
+}
+
 /// What the options of the form come to.
 pub(crate) fn settings_of(form: &CommandForm, parts: &Parts<'_>) -> Option<Settings>
     ensures { option_map settings_seen result ≡ settings_of (form_seen form.now) (found_seen parts.now) }
@@ -91,6 +104,7 @@ pub(crate) fn settings_of(form: &CommandForm, parts: &Parts<'_>) -> Option<Setti
     let slots = size(need_of(form.options, OptionName::Slots), parts.slots)?;
     let order = wanted(need_of(form.options, OptionName::Order), parts.order)?;
     let swap = swap(need_of(form.options, OptionName::Swap), parts.swap)?;
+    let by = by(need_of(form.options, OptionName::By), parts.by)?;
     Some(Settings {
         sizes: Sizes {
             limit,
@@ -99,5 +113,6 @@ pub(crate) fn settings_of(form: &CommandForm, parts: &Parts<'_>) -> Option<Setti
         slots: Slots { count: slots },
         order,
         swap,
+        by,
     })
 }

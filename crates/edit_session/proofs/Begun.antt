@@ -1,25 +1,30 @@
 -- An update to a table of the list is begun, or is refused.
-use Rattle.std.proofs.Common.{◌≡◌, ◌⊎◌, ℕ, List, Bool, true, false, Option, Some, None, Result, Ok, Err, inl, inr, refl, ap, sym, subst, ◌∙◌, ◌<◌, true≢false}
+use Rattle.std.proofs.Common.{◌≡◌, ◌⊎◌, ℕ, true, false, Option, Some, None, Result, Ok, Err, inl, inr, refl, ap, sym, subst, ◌∙◌, ◌<◌, true≢false}
 use Rattle.std.specs.Prelude.{◌↔◌, ◌≢◌, is_some, option_map, IfErr, IfOk, IsErrAnd, OnErr}
 use Rattle.ternary_words.specs.declared.table.Table as code
+use Rattle.ternary_words.specs.Views.{table_of}
 use Rattle.bank_update.specs.Machine.{State, Update, stage, stage_of}
 use Rattle.bank_update.specs.declared.stage.Stage.{Stage}
-use Rattle.rule_compilation.specs.Compiled.{IsRefused}
-use Rattle.table_compose.specs.declared.composition.ComposeError.{ComposeError}
-use Rattle.table_compose.specs.declared.composition.ComposeError.TheVariants as composes
 use Rattle.edit_session.specs.Editing.{ListedSwap}
 use Rattle.edit_session.specs.Lists.{Listed}
 use Rattle.edit_session.specs.Machine.{Copies, IsCommit, IsTableFor, SessionState, copies_begun, with_state}
-use Rattle.edit_session.specs.Refusals.{commit_refusal_of}
+use Rattle.edit_session.specs.Methods.{IsUnmade, Method}
 use Rattle.edit_session.specs.Sound.{IsTableBy}
 use Rattle.edit_session.specs.Ways.{HasBegun, InPlace, IsNotBegun, LacksRoom, Way, Whole}
 use Rattle.edit_session.specs.declared.refusal.CommitRefusal.{CommitRefusal}
 use Rattle.edit_session.specs.declared.refusal.CommitRefusal.TheVariants as commits
+use Rattle.edit_session.proofs.Making.{made-answers}
 use Rattle.edit_session.proofs.Ways.{planned}
 
 -- a session by its parts
-abbrev pub session_by : Listed → State → Copies → Way → ℕ → ℕ → SessionState
-session_by list state copies way slot limit = record { list = list; state = state; copies = copies; way = way; slot = slot; limit = limit }
+abbrev pub session_by : Listed → State → Copies → Method → Way → ℕ → ℕ → SessionState
+session_by list state copies method way slot limit = record { list = list; state = state; copies = copies; method = method; way = way; slot = slot; limit = limit }
+
+-- a list and a method that are as they were make no other session
+pub same-session : (list now : Listed) (method new : Method) (state : State) (copies : Copies) (way : Way) (slot limit : ℕ) → now ≡ list → new ≡ method →
+    session_by now state copies new way slot limit ≡ session_by list state copies method way slot limit
+same-session list now method new state copies way slot limit same kept =
+    ap (λ (l : Listed). session_by l state copies new way slot limit) same ∙ ap (λ (m : Method). session_by list state copies m way slot limit) kept
 
 -- no swap is pending where there is no stage
 idle_by : (f : Update → Stage) (p : Option Update) → is_some (option_map f p) ≡ false → p ≡ None
@@ -37,8 +42,9 @@ pub some_stage : (s : State) → is_some (stage s) ≡ true → s.pending ≡ No
 some_stage s h = some_by stage_of s.pending h
 
 -- a table of the list, as it is handed over
-pub handed-table : (list copy : Listed) (slot limit : ℕ) (table : code.Table) → copy ≡ list → IsTableFor list slot limit table → IsTableBy copy.rules table
-handed-table list copy slot limit table same handed = subst (λ (l : Listed). IsTableBy l.rules table) (sym same) handed.compiled.answers
+pub handed-table : (method : Method) (list copy : Listed) (slot limit : ℕ) (table : code.Table) → copy ≡ list → IsTableFor method list slot limit table → IsTableBy copy.rules table
+handed-table method list copy slot limit table same handed =
+    subst (λ (l : Listed). IsTableBy l.rules table) (sym same) (made-answers method list.rules limit slot (table_of table) handed.made)
 
 -- a swap is pending, so the commit is refused
 pub busy-commit : (s t : SessionState) → is_some (stage t.state) ≡ true → t ≡ s → IsCommit s s (Err commits.Busy)
@@ -48,17 +54,20 @@ busy-commit s t some same = (some_stage s.state (ap (λ (x : SessionState). is_s
 pub idle-still : (s t : SessionState) → is_some (stage t.state) ≡ false → t ≡ s → s.state.pending ≡ None
 idle-still s t none same = no_stage s.state (ap (λ (x : SessionState). is_some (stage x.state)) (sym same) ∙ none)
 
-refuses_compile : (s : SessionState) (e : ComposeError) → s.state.pending ≡ None → IsRefused s.list.rules s.limit e → IsCommit s s (Err (commit_refusal_of e))
-refuses_compile s composes.Memory idle refused = (idle, refl)
-refuses_compile s (composes.TooMany needed limit) idle refused =
-    (record { idle = idle; cost = refused.0; limit_is = refused.1; above = subst (λ n. n < needed) (sym refused.1) refused.2 }, refl)
+refuses_made : (s : SessionState) (refusal : CommitRefusal) → s.state.pending ≡ None → IsUnmade s.method s.list.rules s.limit refusal → IsCommit s s (Err refusal)
+refuses_made s commits.Memory idle unmade = (idle, refl)
+refuses_made s (commits.TooMany needed limit) idle unmade =
+    (record { idle = idle; cost = unmade.0; limit_is = unmade.1; above = subst (λ n. n < needed) (sym unmade.1) unmade.2 }, refl)
+refuses_made s commits.Busy idle unmade = absurd unmade
+refuses_made s (commits.NoRoom above below wanted) idle unmade = absurd unmade
+refuses_made s (commits.NoSlots needed slots) idle unmade = absurd unmade
 
--- no table is compiled, so the commit is refused
-pub compile-refused : (s t : SessionState) (e : ComposeError) (r : Result ℕ CommitRefusal) → IsErrAnd r (λ x. x ≡ commit_refusal_of e) → is_some (stage t.state) ≡ false → IsRefused t.list.rules t.limit e → t ≡ s →
+-- no table is made, so the commit is refused
+pub make-refused : (s t : SessionState) (e : CommitRefusal) (r : Result ℕ CommitRefusal) → IsErrAnd r (λ x. x ≡ e) → is_some (stage t.state) ≡ false → IsUnmade t.method t.list.rules t.limit e → t ≡ s →
     IsCommit s s r
-compile-refused s t e (Ok total) is none refused same = absurd is
-compile-refused s t e (Err refusal) is none refused same =
-    subst (λ x. IsCommit s s (Err x)) (sym is) (refuses_compile s e (idle-still s t none same) (subst (λ (x : SessionState). IsRefused x.list.rules x.limit e) same refused))
+make-refused s t e (Ok total) is none unmade same = absurd is
+make-refused s t e (Err refusal) is none unmade same =
+    subst (λ x. IsCommit s s (Err x)) (sym is) (refuses_made s e (idle-still s t none same) (subst (λ (x : SessionState). IsUnmade x.method x.list.rules x.limit e) same unmade))
 
 -- memory was refused to a copy of the list
 pub copy-refused : (s t : SessionState) (r : Result ℕ CommitRefusal) → IsErrAnd r (λ x. x ≡ commits.Memory) → is_some (stage t.state) ≡ false → t ≡ s → IsCommit s s r
@@ -75,7 +84,7 @@ busy-exactly s new (Err (commits.NoSlots needed slots)) h = ((λ e. absurd (cc))
 busy-exactly s new (Err commits.Memory) h = ((λ e. absurd (cc)), (λ some. absurd (some h.0)))
 
 -- an update to a table of the list is begun
-pub begins-commit : (s : SessionState) (state : State) (table : code.Table) (copy : Listed) (total : ℕ) → IsTableFor s.list s.slot s.limit table → copy ≡ s.list →
+pub begins-commit : (s : SessionState) (state : State) (table : code.Table) (copy : Listed) (total : ℕ) → IsTableFor s.method s.list s.slot s.limit table → copy ≡ s.list →
     HasBegun s.way s.state state table total → IsCommit s (with_state s state (copies_begun copy total s.copies)) (Ok total)
 begins-commit s state table copy total handed same begun = record {
   table = table;
@@ -113,7 +122,7 @@ no_room InPlace s table (commits.NoRoom above below wanted) other h = other
 no_room InPlace s table (commits.NoSlots needed slots) other h = other
 no_room InPlace s table commits.Memory other h = other
 
-lacks_case : (s : SessionState) (table : code.Table) (refusal : CommitRefusal) → s.state.pending ≡ None → IsTableFor s.list s.slot s.limit table → LacksRoom s.way s.state table refusal → IsCommit s s (Err refusal)
+lacks_case : (s : SessionState) (table : code.Table) (refusal : CommitRefusal) → s.state.pending ≡ None → IsTableFor s.method s.list s.slot s.limit table → LacksRoom s.way s.state table refusal → IsCommit s s (Err refusal)
 lacks_case s table commits.Busy idle handed h = absurd (no_room s.way s.state table commits.Busy tt h)
 lacks_case s table (commits.TooMany needed limit) idle handed h = absurd (no_room s.way s.state table (commits.TooMany needed limit) tt h)
 lacks_case s table (commits.NoRoom above below wanted) idle handed h = (record { table = table; handed = handed; idle = idle; lacks = h }, refl)
@@ -121,7 +130,7 @@ lacks_case s table (commits.NoSlots needed slots) idle handed h = (record { tabl
 lacks_case s table commits.Memory idle handed h = (idle, refl)
 
 -- so it refuses the commit
-pub refuses-commit : (s : SessionState) (table : code.Table) (refusal : CommitRefusal) → s.state.pending ≡ None → IsTableFor s.list s.slot s.limit table →
+pub refuses-commit : (s : SessionState) (table : code.Table) (refusal : CommitRefusal) → s.state.pending ≡ None → IsTableFor s.method s.list s.slot s.limit table →
     IsNotBegun s.way s.state table refusal → IsCommit s s (Err refusal)
 refuses-commit s table refusal idle handed h = elim (room_case s.way s.state table refusal h) [
   | inl memory ↦ subst (λ (r : CommitRefusal). IsCommit s s (Err r)) (sym memory) (idle, refl)
@@ -129,13 +138,13 @@ refuses-commit s table refusal idle handed h = elim (room_case s.way s.state tab
 ]
 
 -- how the commit ends, and what it leaves
-pub ends-commit : {D : Type 0} (list : Listed) (way : Way) (slot limit : ℕ) (old new : ListedSwap D) (table : code.Table) (copy : Listed) (r : Result ℕ CommitRefusal) → old.state.pending ≡ None →
-    IsTableFor list slot limit table → copy ≡ list → IfOk r (λ total. HasBegun way old.state new.state table total) → IfOk r (λ total. new.copies ≡ copies_begun copy total old.copies) →
+pub ends-commit : {D : Type 0} (list : Listed) (method : Method) (way : Way) (slot limit : ℕ) (old new : ListedSwap D) (table : code.Table) (copy : Listed) (r : Result ℕ CommitRefusal) → old.state.pending ≡ None →
+    IsTableFor method list slot limit table → copy ≡ list → IfOk r (λ total. HasBegun way old.state new.state table total) → IfOk r (λ total. new.copies ≡ copies_begun copy total old.copies) →
     IfErr r (IsNotBegun way old.state table) → OnErr r (new ≡ old) →
-    IsCommit (session_by list old.state old.copies way slot limit) (session_by list new.state new.copies way slot limit) r
-ends-commit list way slot limit old new table copy (Ok total) idle handed same begun copies refused stays =
-    subst (λ (x : Copies). IsCommit (session_by list old.state old.copies way slot limit) (session_by list new.state x way slot limit) (Ok total)) (sym copies)
-    (begins-commit (session_by list old.state old.copies way slot limit) new.state table copy total handed same begun)
-ends-commit {D = D} list way slot limit old new table copy (Err refusal) idle handed same begun copies refused stays =
-    subst (λ (x : ListedSwap D). IsCommit (session_by list old.state old.copies way slot limit) (session_by list x.state x.copies way slot limit) (Err refusal)) (sym stays)
-    (refuses-commit (session_by list old.state old.copies way slot limit) table refusal idle handed refused)
+    IsCommit (session_by list old.state old.copies method way slot limit) (session_by list new.state new.copies method way slot limit) r
+ends-commit list method way slot limit old new table copy (Ok total) idle handed same begun copies refused stays =
+    subst (λ (x : Copies). IsCommit (session_by list old.state old.copies method way slot limit) (session_by list new.state x method way slot limit) (Ok total)) (sym copies)
+    (begins-commit (session_by list old.state old.copies method way slot limit) new.state table copy total handed same begun)
+ends-commit {D = D} list method way slot limit old new table copy (Err refusal) idle handed same begun copies refused stays =
+    subst (λ (x : ListedSwap D). IsCommit (session_by list old.state old.copies method way slot limit) (session_by list x.state x.copies method way slot limit) (Err refusal)) (sym stays)
+    (refuses-commit (session_by list old.state old.copies method way slot limit) table refusal idle handed refused)

@@ -1,7 +1,8 @@
 pub mod Edits
 pub mod Places
+pub mod Ordering
 pub mod Listings
-pub mod TableFor
+pub mod Making
 pub mod Begun
 pub mod Ways
 pub mod Tables

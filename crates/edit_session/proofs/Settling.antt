@@ -1,5 +1,5 @@
 -- How an update that a commit has begun ends.
-use Rattle.std.proofs.Common.{◌≡◌, ℕ, zero, suc, ◌+◌, ◌==◌, List, Bool, true, false, Some, None, Result, Ok, if◌then◌else◌, length, refl, ap, sym, subst, ◌∙◌, arith}
+use Rattle.std.proofs.Common.{◌≡◌, ℕ, zero, suc, ◌+◌, ◌==◌, List, Bool, true, false, Some, None, Ok, if◌then◌else◌, length, refl, ap, sym, subst, ◌∙◌, arith}
 use Rattle.std.proofs.lemmas.Bool.{eqb-false, eqb-true}
 use Rattle.field_boxes.specs.Headline.Classifier.{source}
 use Rattle.field_boxes.specs.Headline.Fields.{stated}

@@ -1,5 +1,5 @@
 -- The tables stay tables of their lists when the state of the swap changes.
-use Rattle.std.proofs.Common.{◌≡◌, ℕ, zero, suc, List, [], Bool, true, false, Option, Some, None, Result, Ok, Err, ap, refl, sym, subst, ◌∙◌, length, map, replicate}
+use Rattle.std.proofs.Common.{◌≡◌, ℕ, zero, suc, List, [], Bool, true, false, Option, Some, None, Ok, Err, ap, refl, sym, subst, ◌∙◌, length, map, replicate}
 use Rattle.std.specs.Prelude.{◌==◌, if◌then◌else◌, ok_or, option_map}
 use Rattle.std.proofs.lemmas.Bool.{eqb-false, eqb-true}
 use Rattle.field_boxes.specs.Headline.Classifier.{Rule}

@@ -10,13 +10,13 @@ use Rattle.edit_session.specs.declared.listing.Listing.TheInside.{Inside}
 
 -- a list as the code keeps it
 abbrev pub listed : Inside → Listed
-listed l = record { rules = named_rules l.names l.rules.items; names = l.names }
+listed l = record { rules = named_rules l.names l.rules; names = l.names }
 
 -- there are at most so many rules, each is a filter rule, and its decision is the number of a name
 pub record IsListing (l : Inside) : Type 0 where
-  pub few : length l.rules.items ≤ MOST_RULES
-  pub spelled : All IsFilterRule l.rules.items
-  pub numbered : All (IsNumberedBy l.names) l.rules.items
+  pub few : length l.rules ≤ MOST_RULES
+  pub spelled : All IsFilterRule l.rules
+  pub numbered : All (IsNumberedBy l.names) l.rules
 
 -- there is one rule more, at this place: it has the sets of the rule, this decision, and can be spelled
 pub record IsPut (old new : List Rule) (index : ℕ) (rule : Rule) (decision : ℕ) : Type 0 where

@@ -2,9 +2,11 @@ pub mod Reasons
 pub mod Refusals
 pub mod Lists
 pub mod Ways
+pub mod Methods
 pub mod Machine
 pub mod Sound
 pub mod Editing
+pub mod Ordered
 pub mod Kept
 pub mod TableLists
 pub mod SessionText

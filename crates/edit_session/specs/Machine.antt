@@ -1,16 +1,15 @@
 -- An editing session: what is kept, and what each event answers and does.
-use Rattle.std.specs.Prelude.{◌≡◌, ◌≢◌, ℕ, zero, suc, ◌<◌, ◌≤◌, ◌==◌, cond, List, [], length, Option, Some, None, unwrap_or, Result, Ok, Err, if◌then◌else◌}
+use Rattle.std.specs.Prelude.{◌≡◌, ◌≢◌, ℕ, zero, suc, ◌<◌, ◌==◌, cond, List, [], Option, Some, None, unwrap_or, Result, Ok, Err, if◌then◌else◌}
 use Rattle.field_boxes.specs.Headline.Classifier.{Rule, source}
 use Rattle.field_boxes.specs.Headline.Fields.{stated}
 use Rattle.ternary_words.specs.declared.table.Table as code
 use Rattle.ternary_words.specs.Views.{table_of}
-use Rattle.table_compose.specs.Headline.LeastCost.{IsLeastCost}
-use Rattle.rule_compilation.specs.Compiled.{IsCompiled}
 use Rattle.bank_update.specs.Machine as updates
 use Rattle.bank_update.specs.Machine.{State, Update, abort_answer, has_turned, step_answer}
 use Rattle.bank_update.specs.Whole.{unsettled}
 use Rattle.bank_update.specs.declared.stage.Stage.{Stage}
 use Rattle.edit_session.specs.Lists.{Listed}
+use Rattle.edit_session.specs.Methods.{IsMade, IsNeeded, Method}
 use Rattle.edit_session.specs.Ways.{HasBegun, LacksRoom, Way}
 use Rattle.edit_session.specs.declared.refusal.CommitRefusal.{CommitRefusal}
 use Rattle.edit_session.specs.declared.refusal.CommitRefusal.TheVariants as commits
@@ -20,12 +19,13 @@ pub record Copies : Type 0 where
   pub settled : List (Rule (List ℕ))
   pub pending : Option (List (Rule (List ℕ)))
 
--- the list now, the update machine, the lists of its tables at their commits, in which way tables are replaced, and the width of
--- slots and the limit of entries
+-- the list now, the update machine, the lists of its tables at their commits, by which method tables are made and in which way
+-- they are replaced, and the width of slots and the limit of entries
 pub record SessionState : Type 0 where
   pub list : Listed
   pub state : State
   pub copies : Copies
+  pub method : Method
   pub way : Way
   pub slot : ℕ
   pub limit : ℕ
@@ -35,24 +35,23 @@ abbrev pub no_copies : Copies
 no_copies = record { settled = []; pending = None }
 
 -- a session over so many empty slots
-abbrev pub opened : Listed → Way → ℕ → ℕ → ℕ → SessionState
-opened list way slots slot limit = record { list = list; state = unsettled slots; copies = no_copies; way = way; slot = slot; limit = limit }
+abbrev pub opened : Listed → Method → Way → ℕ → ℕ → ℕ → SessionState
+opened list method way slots slot limit = record { list = list; state = unsettled slots; copies = no_copies; method = method; way = way; slot = slot; limit = limit }
 
 -- an edit changes the list alone
 abbrev pub with_list : SessionState → Listed → SessionState
-with_list s list = record { list = list; state = s.state; copies = s.copies; way = s.way; slot = s.slot; limit = s.limit }
+with_list s list = record { list = list; state = s.state; copies = s.copies; method = s.method; way = s.way; slot = s.slot; limit = s.limit }
 
 -- the session with its swap and the lists of its tables changed
 abbrev pub with_state : SessionState → State → Copies → SessionState
-with_state s state copies = record { list = s.list; state = state; copies = copies; way = s.way; slot = s.slot; limit = s.limit }
+with_state s state copies = record { list = s.list; state = state; copies = copies; method = s.method; way = s.way; slot = s.slot; limit = s.limit }
 
 -- Commit.
 
--- a table that is handed over for the list: it answers every header as the list, is tight, has as `composed` the list's
--- least cost and at most so many entries, and names decisions as the list does; the least cost is within the limit
-pub record IsTableFor (list : Listed) (slot limit : ℕ) (table : code.Table) : Type 0 where
-  pub compiled : IsCompiled list.rules slot (table_of table)
-  pub within : table.composed ≤ limit
+-- a table that is handed over for the list: it is one that the method makes of its rules within the limit, so it answers every
+-- header as the list and is tight, and it names decisions as the list does
+pub record IsTableFor (method : Method) (list : Listed) (slot limit : ℕ) (table : code.Table) : Type 0 where
+  pub made : IsMade method list.rules limit slot (table_of table)
   pub names : table.names ≡ list.names
 
 -- the lists of the tables once a swap to a table of the list has begun: one that has no writes is over at once
@@ -64,22 +63,22 @@ copies_begun list total copies =
 -- an update to a table for the list now has begun, of so many writes
 pub record IsBegun (s new : SessionState) (total : ℕ) : Type 0 where
   pub table : code.Table
-  pub handed : IsTableFor s.list s.slot s.limit table
+  pub handed : IsTableFor s.method s.list s.slot s.limit table
   pub state : State
   pub begun : HasBegun s.way s.state state table total
   pub session : new ≡ with_state s state (copies_begun s.list total s.copies)
 
--- no swap is pending, and the least cost of the list now, which is so much, is above the limit
+-- no swap is pending, and what the list now needs by the method, which is so much, is above the limit
 pub record IsTooMuch (s : SessionState) (needed limit : ℕ) : Type 0 where
   pub idle : s.state.pending ≡ None
-  pub cost : IsLeastCost stated s.list.rules needed
+  pub cost : IsNeeded s.method s.list.rules needed
   pub limit_is : limit ≡ s.limit
   pub above : limit < needed
 
 -- no update is pending, and there is no room for a table for the list now
 pub record HasNoRoom (s : SessionState) (refusal : CommitRefusal) : Type 0 where
   pub table : code.Table
-  pub handed : IsTableFor s.list s.slot s.limit table
+  pub handed : IsTableFor s.method s.list s.slot s.limit table
   pub idle : s.state.pending ≡ None
   pub lacks : LacksRoom s.way s.state table refusal
 

@@ -6,6 +6,8 @@ use Rattle.slot_patch.specs.declared.refusal.PatchRefusal.{PatchRefusal}
 use Rattle.slot_patch.specs.declared.refusal.PatchRefusal.TheVariants as patches
 use Rattle.table_compose.specs.declared.composition.ComposeError.{ComposeError}
 use Rattle.table_compose.specs.declared.composition.ComposeError.TheVariants as composes
+use Rattle.rule_shortening.specs.declared.refusal.ShortenError.{ShortenError}
+use Rattle.rule_shortening.specs.declared.refusal.ShortenError.TheVariants as shortens
 use Rattle.edit_session.specs.declared.refusal.CommitRefusal.{CommitRefusal}
 use Rattle.edit_session.specs.declared.refusal.CommitRefusal.TheVariants as commits
 use Rattle.edit_session.specs.declared.refusal.PlaceRefusal.{PlaceRefusal}
@@ -15,6 +17,11 @@ use Rattle.edit_session.specs.declared.refusal.PlaceRefusal.TheVariants as place
 abbrev pub commit_refusal_of : ComposeError → CommitRefusal
 commit_refusal_of (composes.TooMany needed limit) = commits.TooMany needed limit
 commit_refusal_of composes.Memory = commits.Memory
+
+-- why no short table was made, as a refusal to commit
+abbrev pub shorten_refusal_of : ShortenError → CommitRefusal
+shorten_refusal_of (shortens.TooMany needed limit) = commits.TooMany needed limit
+shorten_refusal_of shortens.Memory = commits.Memory
 
 -- why no swap was begun, as a refusal to commit
 abbrev pub begin_refusal_of : BeginRefusal → CommitRefusal

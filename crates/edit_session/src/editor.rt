@@ -1,16 +1,15 @@
 //! The editing session over a memory: its events, one call each.
 ghost use Rattle.razor_base.specs.declared.limits.TheConstants.{MOST_ENTRIES, MOST_RULES};
 
-use crate::compiling::compiled;
 use crate::list_swapper::ListSwapper;
 use crate::listing::Listing;
+use crate::maker::{Maker, Method};
 use crate::refusal::{CommitRefusal, NoPlace, PlaceRefusal};
 use crate::way::Replaced;
 use bank_update::{Block, Idle, Stage, StepRefusal, Swapper, Updater};
 use field_boxes::{Decisions, Header, Rule};
 use filter_reader::RuleList;
 use razor_base::Memory;
-use rule_compilation::Compiler;
 use slot_patch::{SlotTable, new_patcher};
 use std::alloc::Global;
 use std::marker::Model;
@@ -19,59 +18,69 @@ use ternary_words::Table;
 
 /// A rule list that is edited, and a memory into which the tables of the list are swapped write by write.
 ///
-/// Edits change the list alone. [`commit`] compiles the list as it is then, and begins a swap to its table; a
+/// Edits change the list alone. [`commit`] makes a table of the list as it is then, and begins a swap to it; a
 /// copy of the list goes with the table. Whatever was done and whichever writes failed, a lookup is answered by
-/// the list that the settled table was compiled of, or by that of the pending one.
+/// the list that the settled table was made of, or by that of the pending one.
 ///
 /// [`commit`]: Editor::commit
 #[derive(Drop)]
-pub struct Editor<V: Device, T: Replaced = Block> {
+pub struct Editor<'a, V: Device, T: Replaced = Block> {
     alloc: Global,
     list: Listing,
-    compiler: Compiler,
+    maker: Maker<'a>,
     swapper: ListSwapper<V, T>,
     slot: u16,
     limit: u32,
 }
 
-impl<V: Device, T: Replaced> Model for Editor<V, T> {
+impl<'a, V: Device, T: Replaced> Model for Editor<'a, V, T> {
     ghost use Rattle.std.specs.Prelude.{◌≤◌};
     ghost use Rattle.razor_base.specs.declared.limits.TheConstants.{MOST_ENTRIES};
     ghost use Rattle.ternary_words.specs.Limits.{IsSlotWidth};
     ghost use Rattle.edit_session.specs.Editing.{Editing};
+    ghost use Rattle.edit_session.specs.Methods.{method_of};
 
     ghost Value = { Editing V };
 
-    ghost view = { λ e. record { device = e.swapper.device; session = record { list = e.list; state = e.swapper.state; copies = e.swapper.copies; way = T.way; slot = e.slot; limit = e.limit } } };
+    ghost view = { λ e. record { device = e.swapper.device; session = record { list = e.list; state = e.swapper.state; copies = e.swapper.copies; method = method_of e.maker; way = T.way; slot = e.slot; limit = e.limit } } };
 
     ghost invariant = { λ e. (e.limit ≤ MOST_ENTRIES) × ∥ IsSlotWidth e.slot ∥₁ };
 }
 
-impl<V: Device> Editor<V, Block> {
+impl<'a, V: Device> Editor<'a, V, Block> {
     ghost use Rattle.std.specs.Prelude.{◌≡◌, ◌≤◌, None, length, replicate};
     ghost use Rattle.field_boxes.specs.NamedRules.{named_rules};
     ghost use Rattle.ternary_words.specs.Limits.{IsSlotWidth};
     ghost use Rattle.edit_session.specs.Machine.{opened};
+    ghost use Rattle.edit_session.specs.Methods.{method_seen};
     ghost use Rattle.edit_session.specs.Ways.{Whole};
 
-    /// A session over the list and an empty memory, for slots of `slot` trits (104, 144 or 288) and tables whose
-    /// least cost is at most `limit` (to 262,144). Each table is written whole beside the old one.
-    pub fn new(alloc: Global, list: RuleList, slot: u16, limit: u32, device: V) -> Self
+    /// A session over the list and an empty memory, whose tables are made by the method, for slots of `slot` trits (104,
+    /// 144 or 288) and within `limit` entries (to 262,144). Each table is written whole beside the old one.
+    pub fn new(
+        alloc: Global,
+        list: RuleList,
+        method: Method<'a>,
+        slot: u16,
+        limit: u32,
+        device: V,
+    ) -> Self
         requires slot { ∥ IsSlotWidth slot ∥₁ }
         requires limit { limit ≤ MOST_ENTRIES }
         requires empty { V.held device ≡ replicate (length (V.held device)) None }
         ensures device { result.device ≡ device }
-        ensures session { result.session ≡ opened (record { rules = named_rules list.names list.rules.items; names = list.names }) Whole (length (V.held device)) slot limit }
+        ensures session { result.session ≡ opened (record { rules = named_rules list.names list.rules.items; names = list.names }) (method_seen method.entry) Whole (length (V.held device)) slot limit }
     {
-        Editor::over(alloc, list, slot, limit, Swapper::new(device))
+        Editor::over(alloc, list, method, slot, limit, Swapper::new(device))
     }
 }
 
-impl<V: Device> Editor<V, SlotTable> {
+impl<'a, V: Device> Editor<'a, V, SlotTable> {
     ghost use Rattle.std.specs.Prelude.{◌≡◌, ◌≤◌, None, length, replicate, IfOk, IfErr};
     ghost use Rattle.field_boxes.specs.NamedRules.{named_rules};
     ghost use Rattle.ternary_words.specs.Limits.{IsSlotWidth};
     ghost use Rattle.edit_session.specs.Machine.{opened};
+    ghost use Rattle.edit_session.specs.Methods.{method_seen};
     ghost use Rattle.edit_session.specs.Ways.{InPlace};
 
     /// As `new`; but each table is written in the slots where the old one stands, by few writes. Where memory is
@@ -79,6 +88,7 @@ impl<V: Device> Editor<V, SlotTable> {
     pub fn in_place(
         alloc: Global,
         list: RuleList,
+        method: Method<'a>,
         slot: u16,
         limit: u32,
         device: V,
@@ -87,17 +97,17 @@ impl<V: Device> Editor<V, SlotTable> {
         requires limit { limit ≤ MOST_ENTRIES }
         requires empty { V.held device ≡ replicate (length (V.held device)) None }
         ensures device { IfOk result (λ editor. editor.device ≡ device) }
-        ensures session { IfOk result (λ editor. editor.session ≡ opened (record { rules = named_rules list.names list.rules.items; names = list.names }) InPlace (length (V.held device)) slot limit) }
+        ensures session { IfOk result (λ editor. editor.session ≡ opened (record { rules = named_rules list.names list.rules.items; names = list.names }) (method_seen method.entry) InPlace (length (V.held device)) slot limit) }
         ensures err { IfErr result (λ refused. refused.0 ≡ device) }
     {
         match new_patcher(alloc, device) {
-            Ok(patcher) => Ok(Editor::over(alloc, list, slot, limit, patcher)),
+            Ok(patcher) => Ok(Editor::over(alloc, list, method, slot, limit, patcher)),
             Err(refused) => Err(refused),
         }
     }
 }
 
-impl<V: Device, T: Replaced> Editor<V, T> {
+impl<'a, V: Device, T: Replaced> Editor<'a, V, T> {
     ghost use Rattle.std.specs.Prelude.{◌≡◌, ◌≢◌, ◌≤◌, ◌<◌, ◌↔◌, ℕ, List, None, Some, Ok, Err, All, length, replicate, ok_or, IfOk, IfErr, IsTrue, OnOk, OnErr};
     ghost use Rattle.razor_base.specs.FaultPlan.{counted};
     ghost use Rattle.razor_base.specs.Faults.{Rose};
@@ -114,21 +124,29 @@ impl<V: Device, T: Replaced> Editor<V, T> {
     ghost use Rattle.edit_session.specs.Editing.{IsAddRefused};
     ghost use Rattle.edit_session.specs.Lists.{IsEditable, add_answer, rule_named, take_out_answer, taken_out, with_rule};
     ghost use Rattle.edit_session.specs.Machine.{IsCommit, IsTableFor, aborted, decided, opened, stepped, with_list};
+    ghost use Rattle.edit_session.specs.Methods.{method_seen};
     ghost use Rattle.edit_session.specs.Sound.{AreTablesOf};
     ghost use Rattle.edit_session.specs.declared.refusal.CommitRefusal.TheVariants as commit_refusals;
 
     /// A session over the list and a memory without a table.
-    fn over(alloc: Global, list: RuleList, slot: u16, limit: u32, updater: Updater<V, T>) -> Self
+    fn over(
+        alloc: Global,
+        list: RuleList,
+        method: Method<'a>,
+        slot: u16,
+        limit: u32,
+        updater: Updater<V, T>,
+    ) -> Self
         requires slot { ∥ IsSlotWidth slot ∥₁ }
         requires limit { limit ≤ MOST_ENTRIES }
         requires empty { updater.state ≡ unsettled (length (V.held updater.device)) }
         ensures device { result.device ≡ updater.device }
-        ensures session { result.session ≡ opened (record { rules = named_rules list.names list.rules.items; names = list.names }) T.way (length (V.held updater.device)) slot limit }
+        ensures session { result.session ≡ opened (record { rules = named_rules list.names list.rules.items; names = list.names }) (method_seen method.entry) T.way (length (V.held updater.device)) slot limit }
     {
         Editor {
             alloc,
-            list: Listing::of(list),
-            compiler: Compiler::new(alloc),
+            list: Listing::of(alloc, list),
+            maker: Maker::new(alloc, method),
             swapper: ListSwapper::new(alloc, updater),
             slot,
             limit,
@@ -143,14 +161,22 @@ impl<V: Device, T: Replaced> Editor<V, T> {
         self.swapper.device()
     }
 
-    /// The rules of the list, in their order.
-    pub fn rules(&self) -> &[Rule]
-        ensures rules { named_rules self.now.session.list.names result.now ≡ self.now.session.list.rules }
-        ensures numbered { All (IsNumberedBy self.now.session.list.names) result.now }
-        ensures spelled { All IsFilterRule result.now }
-        ensures few { length result.now ≤ MOST_RULES }
+    /// The rules of the list, in their order. They are gathered for the call; [`Editor::count`] says how many there are.
+    pub fn rules(&self, alloc: Global) -> Result<Vec<Rule>, Memory>
+        ensures rules { IfOk result (λ rules. named_rules self.now.session.list.names rules.items ≡ self.now.session.list.rules) }
+        ensures numbered { IfOk result (λ rules. All (IsNumberedBy self.now.session.list.names) rules.items) }
+        ensures spelled { IfOk result (λ rules. All IsFilterRule rules.items) }
+        ensures few { IfOk result (λ rules. length rules.items ≤ MOST_RULES) }
     {
-        self.list.rules()
+        self.list.rules(alloc)
+    }
+
+    /// How many rules there are.
+    pub fn count(&self) -> u32
+        ensures count { result ≡ length self.now.session.list.rules }
+        ensures few { result ≤ MOST_RULES }
+    {
+        self.list.count()
     }
 
     /// The names of the decisions of the list, also of rules that were taken out.
@@ -180,7 +206,7 @@ impl<V: Device, T: Replaced> Editor<V, T> {
     }
 
     /// Takes rule `place` out, counted from 1; the other rules keep their order, and all names stay. Answers how
-    /// many rules are left. It takes no memory.
+    /// many rules are left. It needs no memory.
     pub fn take_out(&mut self, place: u32) -> Result<u32, NoPlace>
         ensures answer { result ≡ take_out_answer self.old.session.list place }
         ensures session { self.new.session ≡ with_list self.old.session (taken_out self.old.session.list place) }
@@ -189,7 +215,7 @@ impl<V: Device, T: Replaced> Editor<V, T> {
         self.list.take_out(place)
     }
 
-    /// Compiles the list as it is now and begins a swap to its table. Answers how many writes the swap has; one
+    /// Makes a table of the list as it is now and begins a swap to it. Answers how many writes the swap has; one
     /// without any is over at once. What earlier commits worked out is kept, so few edits take little time.
     ///
     /// After a refusal all is as it was.
@@ -201,15 +227,18 @@ impl<V: Device, T: Replaced> Editor<V, T> {
         if self.swapper.stage().is_some() {
             return Err(CommitRefusal::Busy);
         }
-        let table = compiled(&mut self.compiler, &self.list, self.slot, self.limit)?;
-        let copy = self.list.copy(self.alloc)?;
+        let rules = self.list.rules(self.alloc)?;
+        let table = self
+            .maker
+            .table(&self.list, rules.as_slice(), self.limit, self.slot)?;
+        let copy = self.list.settle(self.alloc, rules)?;
         self.begin(table, copy)
     }
 
     /// Begins a swap to a table of the list as it is now, with a copy of the list.
     fn begin(&mut self, table: Table, copy: Listing) -> Result<u64, CommitRefusal>
         requires idle { self.old.session.state.pending ≡ None }
-        requires table { IsTableFor self.old.session.list self.old.session.slot self.old.session.limit table }
+        requires table { IsTableFor self.old.session.method self.old.session.list self.old.session.slot self.old.session.limit table }
         requires copy { copy ≡ self.old.session.list }
         ensures commit { IsCommit self.old.session self.new.session result }
         ensures device { self.new.device ≡ self.old.device }
@@ -249,7 +278,7 @@ impl<V: Device, T: Replaced> Editor<V, T> {
 
     /// The name of the decision that the device finds for the header; `miss` where it finds none.
     ///
-    /// It is what the list decides of which the table was compiled that answers: the settled table's list, or the
+    /// It is what the list decides of which the table was made that answers: the settled table's list, or the
     /// pending one's.
     pub fn look(&self, header: &Header) -> &str
         ensures looked { result.now ≡ text_of (looked self.now.session.state header.now.values) }

@@ -1,7 +1,7 @@
-//! An editing session: a rule list that is edited, compiled, and brought into a ternary memory write by write.
+//! An editing session: a rule list that is edited, and whose tables are brought into a ternary memory write by write.
 //!
 //! 1. An [`Editor`] holds the list and a memory. [`Editor::add`] and [`Editor::take_out`] change the list alone.
-//! 2. [`Editor::commit`] compiles the list as it is and begins a swap to its table; a copy of the list goes with it.
+//! 2. [`Editor::commit`] makes a table of the list as it is and begins a swap to it; a copy of the list goes with it.
 //! 3. [`Editor::step`] does the next write, and [`Editor::abort`] lets the swap go back.
 //! 4. [`Editor::look`] answers at any time, also after writes that failed: as the list of the settled table decides, or
 //!    that of the pending one.
@@ -9,7 +9,8 @@
 //!    and writes the line of each before the next.
 //!
 //! ```text
-//! let mut editor = Editor::new(alloc, list, 144, 262_144, bank);
+//! let order = Order::stated();
+//! let mut editor = Editor::new(alloc, list, Method::Compiled(&order), 144, 262_144, bank);
 //! let session = read_session(alloc, b"drop 2\ncommit\nstep\n")?;
 //! session_on(alloc, &session, &mut editor, &mut out)?;
 //! ```
@@ -18,12 +19,12 @@
 //!
 //! - [`Editor::add`] puts the rule at the place that is named, [`Editor::take_out`] takes one out, and the others keep
 //!   their order; or the call says exactly why not.
-//! - [`Editor::commit`] begins an update to a table that is compiled of the list as it is then: whole beside the settled
-//!   one, or in the slots where that stands, as the editor was made. Or it says that an update is pending, that the
-//!   least cost is above the limit, and which it is, that there is no room, or that it ran out of memory; then all is as
-//!   it was.
+//! - [`Editor::commit`] begins an update to a table of the list as it is then, which is compiled in an order of the
+//!   fields or shortened: whole beside the settled one, or in the slots where that stands, as the editor was made. Or it
+//!   says that an update is pending, that the list needs more entries than the limit, and how many, that there is no
+//!   room, or that it ran out of memory; then all is as it was.
 //! - [`Editor::step`], [`Editor::abort`] and [`Editor::stage`] answer as the update machine of `bank_update` does.
-//! - [`Editor::look`] gives by name what the list decides from which the answering table was compiled: the settled
+//! - [`Editor::look`] gives by name what the list decides of which the answering table was made: the settled
 //!   table's, or during a swap the settled or the pending one's, whatever was edited since.
 //! - [`read_session`] gives exactly the commands that a text spells, or exactly the first bad line and its reason.
 //!   [`session_on`] writes the lines of a run of the machine, one a command; after a failed write, or where memory is
@@ -37,7 +38,8 @@
 //! | Room | Holds |
 //! |---|---|
 //! | `editor`, `refusal` | the session over a memory, and why an edit or a commit is refused |
-//! | `listing`, `compiling` | a list with its edits, and the table that a commit hands over |
+//! | `listing`, `ordered` | a list with its edits, and its rules in their order |
+//! | `maker` | the table that a commit hands over |
 //! | `way` | in which way that table takes the place of the settled one |
 //! | `list_swapper`, `table_lists` | tables that are swapped, with the lists from which they were compiled |
 //! | `running`, `session`, `line` | a text that is run: its commands, and the line of each |
@@ -46,12 +48,13 @@
 #![tactic(auto)]
 
 mod command;
-mod compiling;
 mod editor;
 pub mod laws;
 mod line;
 mod list_swapper;
 mod listing;
+mod maker;
+mod ordered;
 mod read;
 mod reason;
 mod refusal;
@@ -61,6 +64,7 @@ mod table_lists;
 mod way;
 
 pub use editor::Editor;
+pub use maker::Method;
 pub use read::{SessionError, read_session};
 pub use reason::SessionReason;
 pub use refusal::{CommitRefusal, NoPlace, PlaceRefusal};

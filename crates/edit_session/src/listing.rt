@@ -1,10 +1,11 @@
 //! Rules with the names of their decisions, and their edits.
-ghost use Rattle.std.specs.Prelude.{◌≡◌, ◌≤◌, vec_len, OnOk, OnErr};
+ghost use Rattle.std.specs.Prelude.{◌≡◌, ◌≤◌, length, OnOk, OnErr};
 ghost use Rattle.razor_base.specs.declared.limits.TheConstants.{MOST_RULES, MOST_ENTRIES};
 ghost use Rattle.filter_reader.specs.FilterRules.{IsFilterRule};
 ghost use Rattle.edit_session.specs.Kept.{IsPut};
 ghost use Rattle.edit_session.specs.Lists.{IsEditable, is_within};
 
+use crate::ordered::Ordered;
 use crate::refusal::{NoPlace, PlaceRefusal};
 use field_boxes::{Decisions, Ports, Rule};
 use filter_reader::RuleList;
@@ -16,7 +17,7 @@ use std::marker::Model;
 /// The rules of a list in their order, and the names of their decisions.
 #[derive(Drop)]
 pub(crate) struct Listing {
-    rules: Vec<Rule>,
+    rules: Ordered,
     names: Decisions,
 }
 
@@ -45,29 +46,29 @@ impl Listing {
         ensures { result ≡ record { rules = []; names = [] } }
     {
         Listing {
-            rules: Vec::new(alloc),
+            rules: Ordered::of(alloc, Vec::new(alloc)),
             names: Decisions::new(alloc),
         }
     }
 
     /// The rules and names of the list.
-    pub(crate) fn of(list: RuleList) -> Self
+    pub(crate) fn of(alloc: Global, list: RuleList) -> Self
         ensures { result ≡ record { rules = named_rules list.names list.rules.items; names = list.names } }
     {
         Listing {
-            rules: list.rules,
+            rules: Ordered::of(alloc, list.rules),
             names: list.names,
         }
     }
 
-    /// The rules in their order.
-    pub(crate) fn rules(&self) -> &[Rule]
-        ensures rules { named_rules self.now.names result.now ≡ self.now.rules }
-        ensures numbered { All (IsNumberedBy self.now.names) result.now }
-        ensures spelled { All IsFilterRule result.now }
-        ensures few { length result.now ≤ MOST_RULES }
+    /// The rules, one behind the other in their order.
+    pub(crate) fn rules(&self, alloc: Global) -> Result<Vec<Rule>, Memory>
+        ensures rules { IfOk result (λ rules. named_rules self.now.names rules.items ≡ self.now.rules) }
+        ensures numbered { IfOk result (λ rules. All (IsNumberedBy self.now.names) rules.items) }
+        ensures spelled { IfOk result (λ rules. All IsFilterRule rules.items) }
+        ensures few { IfOk result (λ rules. length rules.items ≤ MOST_RULES) }
     {
-        &self.rules
+        self.rules.gather(alloc)
     }
 
     /// The names of the decisions.
@@ -77,22 +78,31 @@ impl Listing {
         &self.names
     }
 
-    /// A copy, with the same names under the same numbers.
-    pub(crate) fn copy(&self, alloc: Global) -> Result<Listing, Memory>
-        ensures { IfOk result (λ copy. copy ≡ self.now) }
+    /// Keeps its rules, which come one behind the other in their order, and no other. Answers a copy, with the same names
+    /// under the same numbers.
+    pub(crate) fn settle(&mut self, alloc: Global, rules: Vec<Rule>) -> Result<Listing, Memory>
+        requires rules { named_rules self.old.names rules.items ≡ self.old.rules }
+        requires numbered { All (IsNumberedBy self.old.names) rules.items }
+        requires spelled { All IsFilterRule rules.items }
+        requires few { length rules.items ≤ MOST_RULES }
+        ensures copy { IfOk result (λ copy. copy ≡ self.old) }
+        ensures same { self.new ≡ self.old }
     {
+        let copy = rules.as_slice().to_vec(alloc)?;
+        let names = self.names.copy(alloc)?;
+        self.rules = Ordered::of(alloc, rules);
         Ok(Listing {
-            rules: self.rules.as_slice().to_vec(alloc)?,
-            names: self.names.copy(alloc)?,
+            rules: Ordered::of(alloc, copy),
+            names,
         })
     }
 
     /// How many rules there are.
-    fn count(&self) -> u32
+    pub(crate) fn count(&self) -> u32
         ensures count { result ≡ length self.now.rules }
         ensures few { result ≤ MOST_RULES }
     {
-        self.rules.len() as u32
+        self.rules.count() as u32
     }
 
     /// How many rules there are with one more at this place, counted from 1, or why there is none more.
@@ -128,7 +138,7 @@ impl Listing {
         Ok(count)
     }
 
-    /// Takes the rule with this number out, counted from 1, and answers how many rules are left. It takes no memory.
+    /// Takes the rule with this number out, counted from 1, and answers how many rules are left. It needs no memory.
     pub(crate) fn take_out(&mut self, place: u32) -> Result<u32, NoPlace>
         ensures answer { result ≡ take_out_answer self.old place }
         ensures state { self.new ≡ taken_out self.old place }
@@ -137,7 +147,7 @@ impl Listing {
         if !is_within(place, count) {
             return Err(NoPlace { count });
         }
-        let _rule = self.rules.remove(place as usize - 1);
+        self.rules.remove(place as usize - 1);
         Ok(count - 1)
     }
 }
@@ -160,17 +170,17 @@ fn is_within(number: u32, greatest: u32) -> bool
 
 /// Puts the rule with this decision at the place, counted from 0. Its sets of ports come by themselves.
 fn put(
-    rules: &mut Vec<Rule>,
+    rules: &mut Ordered,
     index: usize,
     rule: &Rule,
     ports: [Ports; 2],
     decision: u32,
 ) -> Result<(), Memory>
-    requires place { index ≤ vec_len rules.old }
+    requires place { index ≤ length rules.old }
     requires spelled { IsFilterRule rule.now }
     requires same { ports ≡ rule.now.ports }
-    ensures ok { OnOk result (IsPut rules.old.items rules.new.items index rule.now decision) }
-    ensures err { OnErr result (rules.new.items ≡ rules.old.items) }
+    ensures ok { OnOk result (IsPut rules.old rules.new index rule.now decision) }
+    ensures err { OnErr result (rules.new ≡ rules.old) }
 {
     let added = Rule {
         source: rule.source,
@@ -179,6 +189,6 @@ fn put(
         protocol: rule.protocol,
         decision,
     };
-    rules.insert(index, added)?;
+    rules.insert(index, &added)?;
     Ok(())
 }

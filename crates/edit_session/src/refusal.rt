@@ -1,11 +1,12 @@
 //! Why an edit or a commit was refused.
 ghost use Rattle.std.specs.Prelude.{◌≡◌};
-ghost use Rattle.edit_session.specs.Refusals.{begin_refusal_of, commit_refusal_of, patch_refusal_of};
+ghost use Rattle.edit_session.specs.Refusals.{begin_refusal_of, commit_refusal_of, patch_refusal_of, shorten_refusal_of};
 ghost use Rattle.edit_session.specs.declared.refusal.PlaceRefusal.TheVariants as places;
 ghost use Rattle.edit_session.specs.declared.refusal.CommitRefusal.TheVariants as commits;
 
 use bank_update::BeginRefusal;
 use razor_base::Memory;
+use rule_shortening::ShortenError;
 use slot_patch::PatchRefusal;
 use table_compose::ComposeError;
 use thiserror::Error;
@@ -45,13 +46,14 @@ pub enum CommitRefusal {
     /// A swap is pending.
     #[error("a swap is pending")]
     Busy,
-    /// None is pending, and the least cost of the list, `needed`, is above the limit.
+    /// None is pending, and what the list needs, `needed`, is above the limit: the least cost in the order of the fields,
+    /// or the entries of the direct expansion where tables are searched for.
     #[error("{needed} entries are needed, and the limit is {limit}")]
     TooMany {
         needed: u128,
         limit: u32,
     },
-    /// None is pending and the least cost is within the limit, but the table fits on neither side of the settled
+    /// None is pending and there is a table within the limit, but it fits on neither side of the settled
     /// one: so many slots are free above it, at the lower numbers, and below it, and so many entries want room.
     #[error("{free_above} slots are free above and {free_below} below, and {wanted} are wanted")]
     NoRoom {
@@ -59,7 +61,7 @@ pub enum CommitRefusal {
         free_below: u32,
         wanted: u32,
     },
-    /// None is pending and the least cost is within the limit, but in place the settled table and this one need so
+    /// None is pending and there is a table within the limit, but in place the settled table and this one need so
     /// many slots, and there are only these.
     #[error("{needed} slots are needed, and there are {slots}")]
     NoSlots {
@@ -86,6 +88,17 @@ impl From<ComposeError> for CommitRefusal {
         match error {
             ComposeError::TooMany { needed, limit } => CommitRefusal::TooMany { needed, limit },
             ComposeError::Memory => CommitRefusal::Memory,
+        }
+    }
+}
+
+impl From<ShortenError> for CommitRefusal {
+    ghost from_gives = { λ error e. e ≡ shorten_refusal_of error };
+
+    fn from(error: ShortenError) -> Self {
+        match error {
+            ShortenError::TooMany { needed, limit } => CommitRefusal::TooMany { needed, limit },
+            ShortenError::Memory => CommitRefusal::Memory,
         }
     }
 }

@@ -29,7 +29,7 @@ fn add<K: Sink, V: Device, T: Replaced>(
     place: u32,
     rule: &Rule,
     name: &str,
-    editor: &mut Editor<V, T>,
+    editor: &mut Editor<'_, V, T>,
     pending: &mut Pending,
     out: &mut K,
 ) -> Result<Result<(), Failed>, Memory>
@@ -46,7 +46,7 @@ fn add<K: Sink, V: Device, T: Replaced>(
 
 /// Commits the list and writes the line. Where memory is refused nothing is done.
 fn commit<K: Sink, V: Device, T: Replaced>(
-    editor: &mut Editor<V, T>,
+    editor: &mut Editor<'_, V, T>,
     pending: &mut Pending,
     out: &mut K,
 ) -> Result<Result<(), Failed>, Memory>
@@ -62,7 +62,7 @@ fn commit<K: Sink, V: Device, T: Replaced>(
 /// added may be there.
 fn take_turn<K: Sink, V: Device, T: Replaced>(
     command: &SessionCommand,
-    editor: &mut Editor<V, T>,
+    editor: &mut Editor<'_, V, T>,
     pending: &mut Pending,
     out: &mut K,
 ) -> Result<Result<(), Failed>, Memory>
@@ -97,7 +97,7 @@ fn take_turn<K: Sink, V: Device, T: Replaced>(
 pub fn session_on<K: Sink, V: Device, T: Replaced>(
     _alloc: Global,
     session: &Session,
-    editor: &mut Editor<V, T>,
+    editor: &mut Editor<'_, V, T>,
     out: &mut K,
 ) -> Result<u64, DriveError>
     requires { length editor.old.session.list.names + adds_of session.now < MOST_ENTRIES }

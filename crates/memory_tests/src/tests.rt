@@ -7,6 +7,7 @@ mod driving;
 mod editing;
 mod edits;
 mod expected;
+mod in_place;
 mod lists;
 mod patching;
 mod plain_list;

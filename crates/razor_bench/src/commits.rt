@@ -1,5 +1,6 @@
 //! Commits of an editing session.
 ghost use Rattle.std.specs.Prelude.{◌≡◌, ◌<◌, All, IfOk};
+ghost use Rattle.field_boxes.specs.NamedRules.{IsNumberedBy};
 ghost use Rattle.filter_reader.specs.FilterRules.{IsFilterRule};
 ghost use Rattle.edit_session.specs.Lists.{IsEditable};
 
@@ -7,8 +8,8 @@ use crate::input::{input, list_of};
 use crate::numbers::Numbers;
 use crate::tables::checksum;
 use anyhow::{Result, anyhow, ensure};
-use edit_session::Editor;
-use field_boxes::{Rule, decision_word};
+use edit_session::{Editor, Method};
+use field_boxes::{Order, Rule, decision_word};
 use filter_reader::RuleList;
 use razor_base::limits::{MOST_ENTRIES, MOST_LIST_BYTES};
 use rule_compilation::{Compiler, compile};
@@ -52,7 +53,8 @@ pub fn run(
 ) -> Result<()> {
     let bytes = input(rt, MOST_LIST_BYTES)?;
     let list = list_of(rt.alloc(), &bytes)?;
-    let mut editor = session(rt.alloc(), list, SLOTS)?;
+    let order = Order::stated();
+    let mut editor = session(rt.alloc(), list, &order, SLOTS)?;
     commit_often(rt, way, &mut editor, edits, commits)
 }
 
@@ -60,11 +62,12 @@ pub fn run(
 fn commit_often(
     rt: &(impl Print + CpuClock + AllocGlobal),
     way: Way,
-    editor: &mut Editor<Bank>,
+    editor: &mut Editor<'_, Bank>,
     edits: u32,
     commits: u32,
 ) -> Result<()> {
-    let mut compiler = Compiler::new(rt.alloc());
+    let order = Order::stated();
+    let mut compiler = Compiler::new(rt.alloc(), &order);
     commit_over(rt, way, &mut compiler, editor, edits, commits)
 }
 
@@ -72,8 +75,8 @@ fn commit_often(
 fn commit_over(
     rt: &(impl Print + CpuClock + AllocGlobal),
     way: Way,
-    compiler: &mut Compiler,
-    editor: &mut Editor<Bank>,
+    compiler: &mut Compiler<'_>,
+    editor: &mut Editor<'_, Bank>,
     edits: u32,
     commits: u32,
 ) -> Result<()> {
@@ -83,26 +86,32 @@ fn commit_over(
     };
     commit(rt, way, compiler, editor)?;
     for _commit in 0..commits {
-        edit_often(editor, &mut drawn, edits)?;
+        edit_often(rt.alloc(), editor, &mut drawn, edits)?;
         commit(rt, way, compiler, editor)?;
     }
     Ok(())
 }
 
 /// A session over the list and an empty memory of so many slots.
-fn session(alloc: Global, list: RuleList, slots: u32) -> Result<Editor<Bank>> {
+fn session<'a>(
+    alloc: Global,
+    list: RuleList,
+    order: &'a Order,
+    slots: u32,
+) -> Result<Editor<'a, Bank>> {
     ensure!(1 <= slots, "no slots");
     ensure!(slots <= MOST_ENTRIES, "too many slots");
     let bank = Bank::new(alloc, slots)?;
-    Ok(Editor::new(alloc, list, SLOT, MOST_ENTRIES, bank))
+    let method = Method::Compiled(order);
+    Ok(Editor::new(alloc, list, method, SLOT, MOST_ENTRIES, bank))
 }
 
 /// Commits the list.
 fn commit(
     rt: &(impl Print + CpuClock + AllocGlobal),
     way: Way,
-    compiler: &mut Compiler,
-    editor: &mut Editor<Bank>,
+    compiler: &mut Compiler<'_>,
+    editor: &mut Editor<'_, Bank>,
 ) -> Result<()> {
     match way {
         Way::Session => commit_kept(rt, editor),
@@ -113,7 +122,7 @@ fn commit(
 /// Has the session commit the list, prints how many entries its table has and how long it took, and aborts the swap.
 fn commit_kept(
     rt: &(impl Print + CpuClock + AllocGlobal),
-    editor: &mut Editor<Bank>,
+    editor: &mut Editor<'_, Bank>,
 ) -> Result<()> {
     let start = rt.thread_cpu_time()?;
     let entries = editor.commit()?;
@@ -121,7 +130,7 @@ fn commit_kept(
     let _stage = editor.abort().ok();
     println!(rt;
         "rules {} entries {entries} nanoseconds {}",
-        editor.rules().len(),
+        editor.count(),
         time.as_nanos()
     )?;
     Ok(())
@@ -131,18 +140,19 @@ fn commit_kept(
 /// many entries it has and how long either took.
 fn compile_both(
     rt: &(impl Print + CpuClock + AllocGlobal),
-    compiler: &mut Compiler,
-    editor: &Editor<Bank>,
+    compiler: &mut Compiler<'_>,
+    editor: &Editor<'_, Bank>,
 ) -> Result<()> {
+    let rules = editor.rules(rt.alloc())?;
     let start = rt.thread_cpu_time()?;
-    let anew = table_of(rt.alloc(), editor)?;
+    let anew = table_of(rt.alloc(), rules.as_slice(), editor)?;
     let middle = rt.thread_cpu_time()?;
-    let kept = kept_table(compiler, editor)?;
+    let kept = kept_table(compiler, rules.as_slice(), editor)?;
     let end = rt.thread_cpu_time()?;
     compare(&anew, &kept)?;
     println!(rt;
         "rules {} entries {} nanoseconds {} anew {}",
-        editor.rules().len(),
+        editor.count(),
         anew.entries.len(),
         end.saturating_sub(middle).as_nanos(),
         middle.saturating_sub(start).as_nanos()
@@ -160,38 +170,51 @@ fn compare(anew: &Table, kept: &Table) -> Result<()> {
     Ok(())
 }
 
-/// The table of the list, compiled anew.
-fn table_of(alloc: Global, editor: &Editor<Bank>) -> Result<Table> {
-    compile(alloc, editor.rules(), editor.names(), MOST_ENTRIES, SLOT).map_err(|_refused| anyhow!(
+/// The table of the list, of which these are the rules, compiled anew.
+fn table_of(alloc: Global, rules: &[Rule], editor: &Editor<'_, Bank>) -> Result<Table>
+    requires { All (IsNumberedBy editor.now.session.list.names) rules.now }
+{
+    compile(alloc, rules, editor.names(), MOST_ENTRIES, SLOT).map_err(|_refused| anyhow!(
         "no table is composed"
     ))
 }
 
-/// The table of the list, over what the compiler kept.
-fn kept_table(compiler: &mut Compiler, editor: &Editor<Bank>) -> Result<Table> {
+/// The table of the list, of which these are the rules, over what the compiler kept.
+fn kept_table(
+    compiler: &mut Compiler<'_>,
+    rules: &[Rule],
+    editor: &Editor<'_, Bank>,
+) -> Result<Table>
+    requires { All (IsNumberedBy editor.now.session.list.names) rules.now }
+{
     compiler
-        .compile(editor.rules(), editor.names(), MOST_ENTRIES, SLOT)
+        .compile(rules, editor.names(), MOST_ENTRIES, SLOT)
         .map_err(|_refused| anyhow!("no table is composed"))
 }
 
 /// Does so many edits.
-fn edit_often(editor: &mut Editor<Bank>, drawn: &mut Edits, edits: u32) -> Result<()> {
+fn edit_often(
+    alloc: Global,
+    editor: &mut Editor<'_, Bank>,
+    drawn: &mut Edits,
+    edits: u32,
+) -> Result<()> {
     for _edit in 0..edits {
-        edit(editor, drawn)?;
+        edit(alloc, editor, drawn)?;
     }
     Ok(())
 }
 
 /// Does the next edit.
-fn edit(editor: &mut Editor<Bank>, drawn: &mut Edits) -> Result<()> {
+fn edit(alloc: Global, editor: &mut Editor<'_, Bank>, drawn: &mut Edits) -> Result<()> {
     let turn = drawn.turn;
     drawn.turn = turn.wrapping_add(1) % 6;
-    let place = place_of(turn / 2, editor.rules().len() as u32);
+    let place = place_of(turn / 2, editor.count());
     if turn % 2 == 0 {
         let _left = editor.take_out(place)?;
         return Ok(());
     }
-    add(editor, drawn, place)
+    add(alloc, editor, drawn, place)
 }
 
 /// The first place of a list of so many rules, the one in the middle, or the last one in front of its last rule.
@@ -204,13 +227,21 @@ fn place_of(which: u32, rules: u32) -> u32 {
 }
 
 /// Puts a rule at the place that has its columns from rules of the list.
-fn add(editor: &mut Editor<Bank>, drawn: &mut Edits, place: u32) -> Result<()> {
-    let rule = rule_of_list(editor.rules(), &mut drawn.numbers)?;
+fn add(alloc: Global, editor: &mut Editor<'_, Bank>, drawn: &mut Edits, place: u32) -> Result<()> {
+    let rule = drawn_rule(alloc, editor, &mut drawn.numbers)?;
     let name = NAMES[drawn.numbers.below(2) as usize];
     ensure!(decision_word(name.as_bytes()), "{name} is no decision");
     ensure!(editor.names().count() < 1000, "too many names");
     let _rules = editor.add(place, &rule, name)?;
     Ok(())
+}
+
+/// A rule that has its columns from rules of the list.
+fn drawn_rule(alloc: Global, editor: &Editor<'_, Bank>, numbers: &mut Numbers) -> Result<Rule>
+    ensures { IfOk result IsEditable }
+{
+    let rules = editor.rules(alloc)?;
+    rule_of_list(rules.as_slice(), numbers)
 }
 
 /// A rule with the source of a rule of the list, the destination of another one, and the ports and protocol of a third.

@@ -1,17 +1,17 @@
 -- How a command ends: in the turn of an input, with a table that wasn't made, cut off, or done.
-use Rattle.std.proofs.Common.{◌≡◌, ℕ, ◌+◌, ◌≤◌, List, [], ◌∷◌, ◌++◌, Some, None, inl, inr, refl, subst, sym, ap, append-nil, arith, ◌∙◌}
+use Rattle.std.proofs.Common.{◌≡◌, ℕ, ◌+◌, ◌≤◌, List, [], ◌∷◌, ◌++◌, Some, None, inl, inr, refl, subst, sym, ap, arith, ◌∙◌}
 use Rattle.std.specs.Prelude.{Bool, Option, Ok, Err, Result, ◌⊎◌}
 use Rattle.std.specs.Io.KnownBytes.{Appends, Keeps}
 use Rattle.razor_base.specs.Faults.{Rose}
 use Rattle.razor_base.specs.Output.{AppendsFront}
 use Rattle.field_boxes.specs.Headline.Classifier.{Rule}
 use Rattle.command_words.specs.Commands.{Method, Expand, Compile, Arrange, Shorten}
-use Rattle.command_words.specs.Settings.{Sizes}
+use Rattle.command_words.specs.Sizes.{Sizes}
 use Rattle.command_words.specs.Orders.{Wanted, Best, In}
 use Rattle.filter_reader.specs.Headline.FilterList.{FilterList}
 use Rattle.razor_core.specs.declared.ending.Ending.{Ending}
 use Rattle.razor_core.specs.declared.ending.Ending.TheVariants.{Done, No, BadLine as Bad, TooLong, TooMany, ReadFault, WriteFault, Memory}
-use Rattle.razor_core.specs.Inputs.{Input, Value, list_input, list_value, session_value}
+use Rattle.razor_core.specs.Inputs.{Input, Value, list_input, list_value}
 use Rattle.razor_core.specs.Make.{IsNeeded, IsNotMade, IsOrderOf, IsRoom, IsWanted, MayBeOrderOf, MayBeWanted, making}
 use Rattle.razor_core.specs.Outcome.{Outcome}
 use Rattle.razor_core.specs.Outside.{Outside, AreKept, Tells}
@@ -23,7 +23,6 @@ use Rattle.razor_core.specs.Ending.{Ends, IsDone, Stops}
 use Rattle.razor_core.specs.Deciding.{EndsInTurn, IsFaultUnder, IsLong, IsStopOf}
 use Rattle.razor_core.proofs.Turns.{AllRead, AllTold, Passed, StopsWith, ends_in_turn, fault_later, near_later, pass_behind, turn_behind, turns_pass, turns_stop}
 use Rattle.razor_core.specs.Meaning.{Meaning, Writing, at_the_end, by_lines, in_turn, read_by}
-use Rattle.razor_core.specs.Session.{editing}
 
 -- turns that all pass are ended by nothing
 pub passed_or_stopped : (turns : Result (List Value) Stop) (values : List Value) (stop : Stop) → turns ≡ Ok values → turns ≡ Err stop → ⊥

@@ -13,7 +13,6 @@ use Rattle.razor_core.specs.declared.ending.Ending.{Ending}
 use Rattle.razor_core.specs.declared.ending.Ending.TheVariants.{WriteFault}
 use Rattle.razor_core.specs.Behind.{EndsOver}
 use Rattle.razor_core.specs.Equiv.{equal_line, Compares, verdict_text, IsAnswer, comparing}
-use Rattle.razor_core.specs.Inputs.{Value}
 use Rattle.razor_core.specs.Outcome.{Outcome}
 use Rattle.razor_core.specs.Taking.{value_of}
 

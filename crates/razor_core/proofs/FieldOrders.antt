@@ -1,5 +1,5 @@
 -- How many entries are needed in the order that is wanted.
-use Rattle.std.proofs.Common.{◌≡◌, ℕ, List, ◌≤◌, true, length, arith, subst, sym, ◌∙◌}
+use Rattle.std.proofs.Common.{◌≡◌, ℕ, List, ◌≤◌, arith, subst, sym, ◌∙◌}
 use Rattle.field_boxes.specs.Headline.Classifier.{Rule}
 use Rattle.command_words.specs.Commands.{Arrange}
 use Rattle.command_words.specs.Orders.{Wanted, Best, In}

@@ -2,7 +2,7 @@
 use Rattle.std.proofs.Common.{◌≡◌, ℕ, List, [], ◌∷◌, Some, None, ap, ◌∙◌, subst}
 use Rattle.std.specs.Prelude.{Option, codes}
 use Rattle.command_words.specs.Commands.{Arrange, Command, Compile, Make, Method, Shorten}
-use Rattle.command_words.specs.Settings.{Sizes}
+use Rattle.command_words.specs.Sizes.{Sizes}
 use Rattle.command_words.specs.Orders.{Best}
 use Rattle.command_words.specs.Spelling.{command_of}
 use Rattle.command_words.proofs.OneFile.{arranges, compiles, shortens}

@@ -1,16 +1,14 @@
 -- What a command gave that ended with status 0, for what its inputs spell.
-use Rattle.std.proofs.Common.{◌≡◌, ℕ, List, [], ◌∷◌, Some, None, refl, subst, sym}
+use Rattle.std.proofs.Common.{◌≡◌, ℕ, List, [], ◌∷◌, Some, refl, subst, sym}
 use Rattle.std.specs.Prelude.{◌⊎◌, true, false, Bool, Option, Ok, Err, Result, IsSome, length, unwrap_or, if◌then◌else◌}
 use Rattle.std.specs.Io.KnownBytes.{Appends}
 use Rattle.bank_update.specs.Script as scripts
 use Rattle.edit_session.specs.SessionText as sessions
-use Rattle.filter_reader.specs.Headline.FilterList.{FilterList, list_of}
-use Rattle.memory_text.specs.Memory.{Memory, Plan}
+use Rattle.filter_reader.specs.Headline.FilterList.{list_of}
 use Rattle.memory_text.specs.Reading.{memory_in_text, plan_in_text}
 use Rattle.table_text.specs.Reading.{table_in_text}
-use Rattle.ternary_words.specs.Headline.Table.{Table}
 use Rattle.text_lines.specs.Headline.Reading as lines
-use Rattle.razor_core.specs.Inputs.{Input, Kind, Value, spelled_as, input_of, is_too_long, lines_value, list_input, list_value, memory_input, memory_value, plan_input, plan_value, script_input, script_value, session_input, session_value, table_input, table_value, text_of_list, text_of_memory, text_of_plan, text_of_script, text_of_session, text_of_table}
+use Rattle.razor_core.specs.Inputs.{Input, Value, spelled_as, is_too_long, list_input, list_value, memory_input, memory_value, plan_input, plan_value, script_input, script_value, session_input, session_value, table_input, table_value, text_of_list, text_of_memory, text_of_plan, text_of_script, text_of_session, text_of_table}
 use Rattle.razor_core.specs.Meaning.{Meaning}
 use Rattle.razor_core.specs.Outcome.{Outcome}
 use Rattle.razor_core.specs.Outside.{Outside, Tells, bytes_at}

@@ -10,8 +10,8 @@ use Rattle.list_generator.specs.DrawnRules.{generated}
 use Rattle.bit_merge.proofs.Merged.{is_alike, is_fewer, is_tight}
 use Rattle.command_words.specs.Orders.{Wanted}
 use Rattle.command_words.specs.Commands.{Method, Arrange, Compile, Expand, Shorten}
-use Rattle.command_words.specs.Settings.{Sizes}
-use Rattle.command_words.specs.Swaps.{Swap}
+use Rattle.command_words.specs.Sizes.{Sizes}
+use Rattle.command_words.specs.Sessions.{SessionTerms}
 use Rattle.razor_core.specs.Selfrun.{Summarises, running_load}
 use Rattle.razor_core.specs.Trace.{answers_text, taken_of, tracing}
 use Rattle.razor_core.specs.Cert.{IsCertificateOf, Writes, certifying}
@@ -240,9 +240,9 @@ module _ (before after : Outside) (line : List ℕ) where
         },
       )
 
-  pub edited : (slots : ℕ) (sizes : Sizes) (swap : Swap) (script list first second : List ℕ) → KeepsPromise (editing slots sizes swap script list) before after line 0 → before.remaining script ≡ Some first → before.remaining list ≡ Some second →
-      Adds before after (IsEdited slots sizes swap first second)
-  edited slots sizes swap script list first second is known also =
+  pub edited : (terms : SessionTerms) (script list first second : List ℕ) → KeepsPromise (editing terms script list) before after line 0 → before.remaining script ≡ Some first → before.remaining list ≡ Some second →
+      Adds before after (IsEdited terms first second)
+  edited terms script list first second is known also =
       let h = two_gave is (session_input script) (list_input list) refl (sessioned script first) (listed list second) known also in
       let gave = h.4 in
       (gave.outcome.text, gave.written, record { events = h.0; list = h.2; outcome = gave.outcome; session_spelled = h.1; list_spelled = h.3; edits = gave.gives; lines = refl })

@@ -11,13 +11,12 @@ use Rattle.field_boxes.specs.Names.{is_known, with_name}
 use Rattle.filter_reader.specs.FirstSeen.{first_seen}
 use Rattle.filter_reader.specs.Lists.{filter_list}
 use Rattle.filter_reader.specs.declared.list.RuleList.{RuleList}
-use Rattle.command_words.specs.Commands.{Command, Session}
-use Rattle.command_words.specs.Settings.{Sizes}
-use Rattle.command_words.specs.Swaps.{Swap}
+use Rattle.command_words.specs.Sessions.{SessionTerms}
 use Rattle.bank_update.specs.Driven.{UnlessWriteFault}
 use Rattle.bank_update.specs.declared.drive.DriveError.{DriveError}
 use Rattle.bank_update.specs.declared.drive.DriveError.TheVariants as errors
 use Rattle.edit_session.specs.Machine.{SessionState, opened}
+use Rattle.edit_session.specs.Methods.{Method}
 use Rattle.edit_session.specs.SessionEnds.{SessionOutcome}
 use Rattle.edit_session.specs.SessionRuns.{IsSessionRun}
 use Rattle.edit_session.specs.SessionText.{SessionEvent}
@@ -31,7 +30,7 @@ use Rattle.razor_core.specs.Ending.{Ends}
 use Rattle.razor_core.specs.Inputs.{Value, list_input, session_input, session_value}
 use Rattle.razor_core.specs.Outcome.{Outcome}
 use Rattle.razor_core.specs.Outside.{Outside, Tells}
-use Rattle.razor_core.specs.Session.{AreEdited, AreEditedSoFar, Edits, IsEndOfSession, editing, way_of}
+use Rattle.razor_core.specs.Session.{AreEdited, AreEditedSoFar, Edits, IsEndOfSession, editing, first_state}
 use Rattle.razor_core.specs.Standing.{IsCutOff}
 use Rattle.razor_core.specs.Taking.{TakesTurn, value_of}
 use Rattle.razor_core.proofs.Ended.{done_ends}
@@ -53,29 +52,27 @@ few_from (rule ∷ rules) names =
 pub few_names : (rules : List (Rule (List ℕ))) → length (first_seen rules) ≤ length rules
 few_names rules = let few = few_from rules [] in omega (arith, few)
 
--- a session begins as the option asks for
-pub starts : (list : RuleList) (way : Way) (slots held slot limit : ℕ) (s : SessionState) → s ≡ opened (record { rules = (filter_list list).rules; names = list.names }) way held slot limit → held ≡ slots →
-    list.names ≡ first_seen (filter_list list).rules → s ≡ opened (record { rules = (filter_list list).rules; names = first_seen (filter_list list).rules }) way slots slot limit
-starts list way slots held slot limit s is many names =
-    is ∙ ap (λ (n : ℕ). opened (record { rules = (filter_list list).rules; names = list.names }) way n slot limit) many
-    ∙ ap (λ (ns : List (List ℕ)). opened (record { rules = (filter_list list).rules; names = ns }) way slots slot limit) names
+-- a session begins as its terms ask for
+pub starts : (list : RuleList) (method : Method) (way : Way) (slots held slot limit : ℕ) (s : SessionState) →
+    s ≡ opened (record { rules = (filter_list list).rules; names = list.names }) method way held slot limit → held ≡ slots →
+    list.names ≡ first_seen (filter_list list).rules → s ≡ opened (record { rules = (filter_list list).rules; names = first_seen (filter_list list).rules }) method way slots slot limit
+starts list method way slots held slot limit s is many names =
+    is ∙ ap (λ (n : ℕ). opened (record { rules = (filter_list list).rules; names = list.names }) method way n slot limit) many
+    ∙ ap (λ (ns : List (List ℕ)). opened (record { rules = (filter_list list).rules; names = ns }) method way slots slot limit) names
 
 abbrev said : List (List ℕ) → Outcome
 said lines = record { yes = true; text = concat lines; line = [] }
 
-module _ (slots : ℕ) (sizes : Sizes) (swap : Swap) (rules : List (Rule (List ℕ))) (events : List SessionEvent) (start last : SessionState) (before after : Option (List ℕ)) (old new : ℕ) where
-  abbrev first_state : SessionState
-  first_state = opened (record { rules = rules; names = first_seen rules }) (way_of swap) slots sizes.slot sizes.limit
-
-  edits_of : (stood : SessionState) (front : List SessionEvent) (lines : List (List ℕ)) → start ≡ first_state → IsSessionRun start stood 0 0 front lines → Edits slots sizes swap rules front (said lines)
+module _ (terms : SessionTerms) (rules : List (Rule (List ℕ))) (events : List SessionEvent) (start last : SessionState) (before after : Option (List ℕ)) (old new : ℕ) where
+  edits_of : (stood : SessionState) (front : List SessionEvent) (lines : List (List ℕ)) → start ≡ first_state terms rules → IsSessionRun start stood 0 0 front lines → Edits terms rules front (said lines)
   edits_of stood front lines is ran = record { last = stood; lines = lines; ran = subst (λ (s : SessionState). IsSessionRun s stood 0 0 front lines) is ran; says = refl }
 
   -- how the command ends whose session ended so
-  pub run_ends : (r : Result ℕ DriveError) (ending : Ending) → start ≡ first_state → SessionOutcome (λ stood. IsSessionRun start stood 0 0) (Appends before after) last events r →
-      (r ≡ Err errors.WriteFault → Rose old new) → UnlessWriteFault r (new ≡ old) → IsEndOfDrive r ending → IsEndOfSession slots sizes swap rules events before after old new ending
-  run_ends (Ok count) ending start_is h fault calm is = subst (IsEndOfSession slots sizes swap rules events before after old new) (sym is)
+  pub run_ends : (r : Result ℕ DriveError) (ending : Ending) → start ≡ first_state terms rules → SessionOutcome (λ stood. IsSessionRun start stood 0 0) (Appends before after) last events r →
+      (r ≡ Err errors.WriteFault → Rose old new) → UnlessWriteFault r (new ≡ old) → IsEndOfDrive r ending → IsEndOfSession terms rules events before after old new ending
+  run_ends (Ok count) ending start_is h fault calm is = subst (IsEndOfSession terms rules events before after old new) (sym is)
       (refl, record { outcome = said h.1.lines; edits = edits_of last events h.1.lines start_is h.1.ran; written = h.1.written })
-  run_ends (Err errors.WriteFault) ending start_is h fault calm is = subst (IsEndOfSession slots sizes swap rules events before after old new) (sym is) (
+  run_ends (Err errors.WriteFault) ending start_is h fault calm is = subst (IsEndOfSession terms rules events before after old new) (sym is) (
     fault refl,
     record {
       outcome = said (h.lines ++ h.line ∷ []);
@@ -90,7 +87,7 @@ module _ (slots : ℕ) (sizes : Sizes) (swap : Swap) (rules : List (Rule (List �
       );
     },
   )
-  run_ends (Err errors.Memory) ending start_is h fault calm is = subst (IsEndOfSession slots sizes swap rules events before after old new) (sym is) (
+  run_ends (Err errors.Memory) ending start_is h fault calm is = subst (IsEndOfSession terms rules events before after old new) (sym is) (
     calm,
     inr (record {
       outcome = said h.lines;
@@ -104,9 +101,9 @@ pub record BothRead (script list : List ℕ) (before after : Outside) (events : 
   pub session_taken : TakesTurn (session_input script) (before.remaining script) (after.remaining script) (session_value events)
   pub list_taken : TakesTurn (list_input list) (before.remaining list) (after.remaining list) (value_of rules)
 
-module _ (slots : ℕ) (sizes : Sizes) (swap : Swap) (script list : List ℕ) (before after : Outside) (events : List SessionEvent) (rules : RuleList) (reads : BothRead script list before after events rules) where
+module _ (terms : SessionTerms) (script list : List ℕ) (before after : Outside) (events : List SessionEvent) (rules : RuleList) (reads : BothRead script list before after events rules) where
   abbrev command : Meaning
-  command = editing slots sizes swap script list
+  command = editing terms script list
 
   abbrev values : List Value
   values = session_value events ∷ value_of rules ∷ []
@@ -123,14 +120,14 @@ module _ (slots : ℕ) (sizes : Sizes) (swap : Swap) (script list : List ℕ) (b
     (read_taken (list_input list) (before.remaining list) (after.remaining list) (value_of rules) reads.list_taken tells.1.0, tt),
   )
 
-  done : AreEdited slots sizes swap (filter_list rules).rules events before.written after.written → Ends command before after (Done Nothing)
+  done : AreEdited terms (filter_list rules).rules events before.written after.written → Ends command before after (Done Nothing)
   done h = (
     refl,
     λ tells. done_ends command before after values (said h.edits.lines) true passed (λ stop later. later) (record { last = h.edits.last; lines = h.edits.lines; ran = h.edits.ran; says = refl }) refl
         (subst (λ (o : Outcome). Appends before.written after.written o.text) h.edits.says h.written) (both_read tells) tells,
   )
 
-  cut : AreEditedSoFar slots sizes swap (filter_list rules).rules events before.written after.written → Tells before command.inputs → IsCutOff command before after
+  cut : AreEditedSoFar terms (filter_list rules).rules events before.written after.written → Tells before command.inputs → IsCutOff command before after
   cut h tells = record {
     values = values;
     outcome = h.outcome;
@@ -140,11 +137,11 @@ module _ (slots : ℕ) (sizes : Sizes) (swap : Swap) (script list : List ℕ) (b
     written = h.written;
   }
 
-  kept_or_cut : Keeps before.written after.written ⊎ AreEditedSoFar slots sizes swap (filter_list rules).rules events before.written after.written → Tells before command.inputs → Keeps before.written after.written ⊎ IsCutOff command before after
+  kept_or_cut : Keeps before.written after.written ⊎ AreEditedSoFar terms (filter_list rules).rules events before.written after.written → Tells before command.inputs → Keeps before.written after.written ⊎ IsCutOff command before after
   kept_or_cut (inl keeps) tells = inl keeps
   kept_or_cut (inr far) tells = inr (cut far tells)
 
-  pub session_ends : (ending : Ending) → IsEndOfSession slots sizes swap (filter_list rules).rules events before.written after.written before.write_faults after.write_faults ending → Ends command before after ending
+  pub session_ends : (ending : Ending) → IsEndOfSession terms (filter_list rules).rules events before.written after.written before.write_faults after.write_faults ending → Ends command before after ending
   session_ends (Done summary) h = subst (λ (s : Summary). Ends command before after (Done s)) (sym h.0) (done h.1)
   session_ends No h = absurd h
   session_ends (Bad file line reason) h = absurd h

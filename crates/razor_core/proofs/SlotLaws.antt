@@ -6,7 +6,7 @@ use Rattle.ternary_words.specs.Headline.Table.{Table}
 use Rattle.memory_text.specs.Memory.{Memory, Plan, entries_in}
 use Rattle.memory_text.specs.Patching.{slots_for}
 use Rattle.memory_text.proofs.Evenly.{spread_stands}
-use Rattle.razor_core.specs.Inputs.{Value, memory_input, memory_value, plan_input, plan_value, table_input, table_value}
+use Rattle.razor_core.specs.Inputs.{memory_input, memory_value, plan_input, plan_value, table_input, table_value}
 use Rattle.razor_core.specs.Headlines.{Adds}
 use Rattle.razor_core.specs.Outside.{Outside}
 use Rattle.razor_core.specs.Promise.{KeepsPromise}

@@ -1,9 +1,8 @@
 -- What the endings of commands rest on.
 use Rattle.std.proofs.Common.{◌≡◌, ℕ, List, ◌∷◌, None, Some, refl, subst}
 use Rattle.std.specs.Prelude.{Option, option_map, true}
-use Rattle.command_words.specs.Commands.{Command, Make, Equiv, Cert, Check, Trace, Drive, Gen, Selfrun, Migrate, Merge, Audit, Query, Session, Shorten, Trim, Place, Patch, Apply, Dump}
+use Rattle.command_words.specs.Commands.{Command, Make, Cert, Check, Trace, Selfrun, Shorten, Trim, Place, Patch, Apply}
 use Rattle.trace_run.specs.Outcome.{GoesOn}
-use Rattle.trace_run.specs.Trace as traces
 use Rattle.trace_run.specs.Trace.{trace_within}
 use Rattle.razor_core.specs.Commands.{meaning}
 use Rattle.razor_core.specs.Inputs.{BadLine, Value, list_value, table_value, memory_value, plan_value, lines_value, most_bytes, text_of_trace}

@@ -1,5 +1,5 @@
 -- How a command ends that writes a table without its redundant entries.
-use Rattle.std.proofs.Common.{◌≡◌, ◌∙◌, ℕ, zero, suc, ◌+◌, List, [], ◌∷◌, inl, inr, map, ap, refl, sym, length}
+use Rattle.std.proofs.Common.{◌∙◌, ℕ, zero, suc, List, [], ◌∷◌, inl, inr, map, ap, refl, sym, length}
 use Rattle.std.specs.Prelude.{All}
 use Rattle.std.proofs.lemmas.List.Elements.{All-cons, All-nil}
 use Rattle.field_boxes.specs.Names.{AreDistinct, name_at}

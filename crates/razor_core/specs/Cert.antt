@@ -1,30 +1,18 @@
 -- What `cert` defines: the certificate of a list and a table, and the word that isn't a prefix and ends it.
-use Rattle.std.specs.Prelude.{◌≡◌, ℕ, ◌<◌, ◌+◌, List, Some, slice_get, ◌⊎◌, true, [], ◌∷◌, Option}
-use Rattle.std.specs.Io.KnownBytes.{Appends, Keeps}
-use Rattle.field_boxes.specs.Alike.{IsFirstDifference, source_of}
+use Rattle.std.specs.Prelude.{◌≡◌, ℕ, ◌<◌, ◌+◌, List, Some, slice_get, ◌⊎◌, true, [], ◌∷◌}
+use Rattle.field_boxes.specs.Alike.{source_of}
 use Rattle.filter_reader.specs.Headline.FilterList.{FilterList}
 use Rattle.ternary_words.specs.Prefixes.{IsPrefixInEach}
 use Rattle.ternary_words.specs.Headline.Table.{Entry, Table, answer}
 use Rattle.partition_check.specs.Checking.{Statement}
 use Rattle.partition_check.specs.Good.{certificate_text}
 use Rattle.box_partition.specs.Certificate.{IsCertificate}
-use Rattle.razor_base.specs.Faults.{Rose}
-use Rattle.razor_base.specs.Output.{AppendsFront}
-use Rattle.filter_reader.specs.Lists.{name_decided}
-use Rattle.filter_reader.specs.declared.list.RuleList.{RuleList}
-use Rattle.ternary_words.specs.declared.table.Table as code
-use Rattle.partition_check.specs.Agreement.{name_answered}
-use Rattle.partition_check.specs.PrefixWords.{ArePrefixes, IsFirstOther}
-use Rattle.box_partition.specs.Outcome.{IsCut, IsWritten}
 use Rattle.razor_core.specs.Outcome.{Outcome}
-use Rattle.razor_core.specs.Equiv.{differ_line, IsDifference}
+use Rattle.razor_core.specs.Equiv.{IsDifference}
 use Rattle.razor_core.specs.Turns.{Stop, bad_line}
 use Rattle.razor_core.specs.Check.{Checks}
 use Rattle.razor_core.specs.Inputs.{BadLine, Value, list_input, list_value, table_input, table_value}
 use Rattle.razor_core.specs.declared.line_reason.LineReason.TheVariants.{NotPrefix}
-use Rattle.razor_core.specs.declared.ending.Ending.{Ending}
-use Rattle.razor_core.specs.declared.ending.Ending.TheVariants.{Done, No, BadLine as Bad, WriteFault, Memory}
-use Rattle.razor_core.specs.declared.ending.Summary.TheVariants.{Nothing}
 use Rattle.razor_core.specs.Meaning.{Meaning, usual, by_lines}
 
 -- the text of the coarsest good certificate of a list and a table that have these rules and entries

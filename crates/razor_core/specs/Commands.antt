@@ -1,5 +1,4 @@
 -- What each command means: a line a command.
-use Rattle.std.specs.Prelude.{List, [], Option, Some, None}
 use Rattle.command_words.specs.Commands.{Command, Make, Equiv, Cert, Check, Trace, Drive, Gen, Selfrun, Migrate, Merge, Audit, Query, Session, Trim, Place, Patch, Apply, Dump}
 use Rattle.razor_core.specs.Apply.{applying}
 use Rattle.razor_core.specs.Audit.{auditing}
@@ -34,7 +33,7 @@ meaning (Migrate table) = migrating table
 meaning (Merge table) = merging table
 meaning (Audit list) = auditing list
 meaning (Query list box name) = querying list box name
-meaning (Session slots sizes swap script list) = editing slots sizes swap script list
+meaning (Session terms script list) = editing terms script list
 meaning (Trim table) = trimming table
 meaning (Place slots table) = placing slots table
 meaning (Patch memory table) = patching memory table

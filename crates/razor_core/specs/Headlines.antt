@@ -6,8 +6,8 @@ use Rattle.bank_update.specs.Whole.{unsettled}
 use Rattle.bank_update.specs.Runs.{session}
 use Rattle.bank_update.specs.Script.{Event, script_of}
 use Rattle.command_words.specs.Commands.{Arrange, Shorten}
-use Rattle.command_words.specs.Settings.{Sizes}
-use Rattle.command_words.specs.Swaps.{Swap}
+use Rattle.command_words.specs.Sizes.{Sizes}
+use Rattle.command_words.specs.Sessions.{SessionTerms}
 use Rattle.command_words.specs.Orders.{Wanted}
 use Rattle.field_boxes.specs.Alike.{AreAlike, IsTight, source_of}
 use Rattle.field_boxes.specs.Headline.Classifier.{Interval, Rule}
@@ -174,15 +174,15 @@ pub record IsQueried (box : List Interval) (name : Option (List ℕ)) (list_byte
   pub spelled : list_of list_bytes ≡ Ok list
   pub answer : AreAnswered box name list.rules written
 
--- the output is what the commands of the session print in turn over the list, whose tables are replaced in this way in a memory of so
--- many slots, empty at first, that never fails
-pub record IsEdited (slots : ℕ) (sizes : Sizes) (swap : Swap) (session_bytes list_bytes written : List ℕ) : Type 0 where
+-- the output is what the commands of the session print in turn over the list, on these terms, in a memory that is empty at first and
+-- never fails
+pub record IsEdited (terms : SessionTerms) (session_bytes list_bytes written : List ℕ) : Type 0 where
   pub events : List SessionEvent
   pub list : FilterList
   pub outcome : Outcome
   pub session_spelled : session_of session_bytes ≡ Ok events
   pub list_spelled : list_of list_bytes ≡ Ok list
-  pub edits : Edits slots sizes swap list.rules events outcome
+  pub edits : Edits terms list.rules events outcome
   pub lines : written ≡ outcome.text
 
 -- what was added to the output is so

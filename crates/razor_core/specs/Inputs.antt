@@ -1,5 +1,5 @@
 -- Inputs of commands, and what their texts come to.
-use Rattle.std.specs.Prelude.{ℕ, Bool, false, nat_lt, List, [], ◌∷◌, length, map, Result, Ok, Err}
+use Rattle.std.specs.Prelude.{ℕ, Bool, false, nat_lt, List, Result, Ok, Err}
 use Rattle.razor_base.specs.declared.limits.TheConstants.{MOST_LIST_BYTES, MOST_TABLE_BYTES, MOST_SCRIPT_BYTES, MOST_TRACE_BYTES, MOST_CERTIFICATE_BYTES}
 use Rattle.filter_reader.specs.Headline.FilterList as lists
 use Rattle.table_text.specs.Reading as tables

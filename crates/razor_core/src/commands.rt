@@ -87,12 +87,7 @@ pub fn run<'a, D: Desk, K: Sink>(
         Command::Merge(file) => merge_table(alloc, file, desk, out),
         Command::Audit(file) => audit_list(alloc, file, desk, out),
         Command::Query(question) => query_list(alloc, *question, desk, out),
-        Command::Session {
-            slots,
-            sizes,
-            swap,
-            files,
-        } => run_session(alloc, *slots, *sizes, *swap, *files, desk, out),
+        Command::Session { terms, files } => run_session(alloc, terms, *files, desk, out),
         Command::Trim(file) => trim_table(alloc, file, desk, out),
         Command::Place { slots, table } => place_table(alloc, *slots, table, desk, out),
         Command::Patch(files) => plan_patch(alloc, *files, desk, out),

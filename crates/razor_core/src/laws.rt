@@ -3,8 +3,8 @@
 ghost use Rattle.std.specs.Prelude.{◌≡◌, ℕ, List, Option, Some};
 ghost use Rattle.field_boxes.specs.Headline.Classifier.{Interval};
 ghost use Rattle.command_words.specs.Commands.{Arrange, Compile, Expand, Make, Shorten};
-ghost use Rattle.command_words.specs.Settings.{Sizes};
-ghost use Rattle.command_words.specs.Swaps.{Swap};
+ghost use Rattle.command_words.specs.Sizes.{Sizes};
+ghost use Rattle.command_words.specs.Sessions.{SessionTerms};
 ghost use Rattle.command_words.specs.Orders.{Wanted};
 ghost use Rattle.razor_core.specs.Headlines.{Adds, AgreeByName, AreEqualLists, IsAnswered, IsArrangedText, IsAudited, IsCertified, IsCompiledText, IsDriven, IsEdited, IsExpandedText, IsMergedText, IsMigrated, IsQueried, IsShortenedText, IsTrimmedText};
 ghost use Rattle.razor_core.specs.Outside.{Outside, Tells};
@@ -98,9 +98,9 @@ pub fn scripts_print_their_sessions()
 
 /// What `session` has written is the line of each command of the session, run over the list.
 pub fn sessions_print_their_runs()
-    ensures { (before after : Outside) (line : List ℕ) (slots : ℕ) (sizes : Sizes) (swap : Swap) (script list first second : List ℕ) →
-        KeepsPromise (editing slots sizes swap script list) before after line 0 → before.remaining script ≡ Some first → before.remaining list ≡ Some second →
-        Adds before after (IsEdited slots sizes swap first second) }
+    ensures { (before after : Outside) (line : List ℕ) (terms : SessionTerms) (script list first second : List ℕ) →
+        KeepsPromise (editing terms script list) before after line 0 → before.remaining script ≡ Some first → before.remaining list ≡ Some second →
+        Adds before after (IsEdited terms first second) }
 {}
 
 /// What `migrate` has written spells the table that was read, compactly.

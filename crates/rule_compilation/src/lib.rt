@@ -23,7 +23,7 @@
 //! - [`compile_in`] promises the same of its order of the fields.
 //! - [`compose_in`] gives a composed table whole: as many entries as the least cost in the order, which decide as the
 //!   rules.
-//! - [`Compiler::compile`] has the clauses of [`compile`], word by word, over any lists one after another. Of equally
+//! - [`Compiler::compile`] has the clauses of [`compile_in`], word by word, over any lists one after another. Of equally
 //!   cheap composed tables it may take another one than a fresh call.
 //!
 //! Not claimed: that no table is shorter. Entries are left out one at a time, from the last to the first.

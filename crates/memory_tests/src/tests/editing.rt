@@ -1,30 +1,33 @@
 //! Sessions over a device of which some writes fail.
 use super::running::{bank, ran};
-use edit_session::{Editor, read_session, session_on};
+use edit_session::{Editor, Method, Replaced, read_session, session_on};
+use field_boxes::Order;
 use filter_reader::read_list;
 use razor_base::MemSink;
 use std::process::Abort;
 use std::test::Fail;
 use tcam_sim::FaultyBank;
 
-/// A session over the list and an empty device, whose writes of these numbers fail.
-pub(super) fn editor<R: Abort + AllocGlobal>(
+/// A session over the list and an empty device, whose writes of these numbers fail. Its tables are compiled in the order.
+pub(super) fn editor<'a, R: Abort + AllocGlobal>(
     rt: &R,
+    order: &'a Order,
     slots: u32,
     limit: u32,
     failing: [u64; 4],
     list: &str,
-) -> Result<Editor<FaultyBank>, Fail> {
+) -> Result<Editor<'a, FaultyBank>, Fail> {
     assert!(rt; limit <= 262_144);
     let list = read_list(rt.alloc(), list.as_bytes())?;
     let bank = bank(rt, rt.alloc(), slots, failing)?;
-    Ok(Editor::new(rt.alloc(), list, 144, limit, bank))
+    let method = Method::Compiled(order);
+    Ok(Editor::new(rt.alloc(), list, method, 144, limit, bank))
 }
 
 /// Does the commands of the text, and answers how many there are; none where a write of a line failed.
-pub(super) fn run<R: Abort + AllocGlobal>(
+pub(super) fn run<R: Abort + AllocGlobal, T: Replaced>(
     rt: &R,
-    editor: &mut Editor<FaultyBank>,
+    editor: &mut Editor<'_, FaultyBank, T>,
     text: &str,
     out: &mut MemSink,
 ) -> Result<Option<u64>, Fail> {
@@ -89,7 +92,8 @@ const SCRIPTS: [Script; 4] = [
 /// Runs the session, and compares its lines.
 fn check<R: Abort + AllocGlobal>(rt: &R, script: &Script) -> Result<(), Fail> {
     let mut out = MemSink::new(rt.alloc(), 1000)?;
-    let mut editor = editor(rt, 4, 262_144, script.failing, LIST)?;
+    let order = Order::stated();
+    let mut editor = editor(rt, &order, 4, 262_144, script.failing, LIST)?;
     check_lines(rt, script, &mut editor, &mut out)
 }
 
@@ -97,7 +101,7 @@ fn check<R: Abort + AllocGlobal>(rt: &R, script: &Script) -> Result<(), Fail> {
 fn check_lines<R: Abort + AllocGlobal>(
     rt: &R,
     script: &Script,
-    editor: &mut Editor<FaultyBank>,
+    editor: &mut Editor<'_, FaultyBank>,
     out: &mut MemSink,
 ) -> Result<(), Fail> {
     let ran = run(rt, editor, script.text, out)?;

@@ -79,6 +79,15 @@ fn drawn_add(draw: &mut Draw, count: u32) -> Edit {
     }
 }
 
+/// An edit of a list of so many rules.
+pub(super) fn drawn_edit(draw: &mut Draw, count: u32) -> Edit {
+    if draw.below(3) == 0 {
+        Edit::Drop(draw.below(10))
+    } else {
+        drawn_add(draw, count)
+    }
+}
+
 /// A command over a list of so many rules, every other time a step.
 pub(super) fn drawn(draw: &mut Draw, count: u32) -> Edit {
     match draw.below(20) {

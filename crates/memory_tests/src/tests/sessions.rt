@@ -7,7 +7,7 @@ use super::lists::{Compiled, LIMIT, Lists};
 use super::plain_list::{destination, word};
 use crate::Draw;
 use edit_session::Editor;
-use field_boxes::Header;
+use field_boxes::{Header, Order};
 use razor_base::MemSink;
 use rule_compilation::compile;
 use std::alloc::Global;
@@ -17,8 +17,9 @@ use table_compose::ComposeError;
 use tcam_sim::FaultyBank;
 
 /// What comes of compiling the list of the editor anew.
-fn compiled(alloc: Global, editor: &Editor<FaultyBank>) -> Result<Compiled, Fail> {
-    match compile(alloc, editor.rules(), editor.names(), LIMIT, 144) {
+fn compiled(alloc: Global, editor: &Editor<'_, FaultyBank>) -> Result<Compiled, Fail> {
+    let rules = editor.rules(alloc)?;
+    match compile(alloc, rules.as_slice(), editor.names(), LIMIT, 144) {
         Ok(table) => Ok(Compiled::Entries(table.entries.len() as u32)),
         Err(ComposeError::TooMany { needed, .. }) => Ok(Compiled::TooMany(needed)),
         Err(ComposeError::Memory) => Err("memory was refused".into()),
@@ -28,7 +29,7 @@ fn compiled(alloc: Global, editor: &Editor<FaultyBank>) -> Result<Compiled, Fail
 /// Does the command, and compares its line with two of which it is one.
 fn check<R: Abort + AllocGlobal>(
     rt: &R,
-    editor: &mut Editor<FaultyBank>,
+    editor: &mut Editor<'_, FaultyBank>,
     text: &str,
     one: &str,
     other: &str,
@@ -43,7 +44,7 @@ fn check<R: Abort + AllocGlobal>(
 /// Does the command, and compares its line.
 fn turn<R: Abort + AllocGlobal>(
     rt: &R,
-    editor: &mut Editor<FaultyBank>,
+    editor: &mut Editor<'_, FaultyBank>,
     lists: &mut Lists,
     edit: Edit,
 ) -> Result<(), Fail> {
@@ -55,7 +56,7 @@ fn turn<R: Abort + AllocGlobal>(
 }
 
 /// Looks at the eight headers: each is decided as by the list of the settled table, or by that of the pending one.
-fn compare(rt: &impl Abort, editor: &Editor<FaultyBank>, lists: &Lists) {
+fn compare(rt: &impl Abort, editor: &Editor<'_, FaultyBank>, lists: &Lists) {
     for header in 0..8 {
         let (settled, pending) = lists.both(header);
         let values = [0, destination(header), 0, 0, header % 4];
@@ -68,7 +69,7 @@ fn compare(rt: &impl Abort, editor: &Editor<FaultyBank>, lists: &Lists) {
 fn play<R: Abort + AllocGlobal>(
     rt: &R,
     draw: &mut Draw,
-    editor: &mut Editor<FaultyBank>,
+    editor: &mut Editor<'_, FaultyBank>,
     failing: [u64; 4],
 ) -> Result<(), Fail> {
     let mut lists = Lists::new(failing);
@@ -83,7 +84,8 @@ fn play<R: Abort + AllocGlobal>(
 /// A random session.
 fn trial<R: Abort + AllocGlobal>(rt: &R, draw: &mut Draw) -> Result<(), Fail> {
     let writes = failing(draw);
-    let mut editor = editor(rt, SLOTS, LIMIT, writes, "")?;
+    let order = Order::stated();
+    let mut editor = editor(rt, &order, SLOTS, LIMIT, writes, "")?;
     let played = play(rt, draw, &mut editor, writes);
     drop(editor);
     played

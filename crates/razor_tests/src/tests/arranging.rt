@@ -5,7 +5,7 @@ use std::process::Abort;
 use std::test::Fail;
 
 /// Three networks for protocol 6, and all else denied.
-const THREE: &[u8] =
+pub(super) const THREE: &[u8] =
     b"@0.0.0.0/0 10.0.0.0/8 0 : 65535 0 : 65535 0x06/0xFF accept\n@0.0.0.0/0 20.0.0.0/8 0 : 65535 0 : 65535 0x06/0xFF accept\n@0.0.0.0/0 40.0.0.0/8 0 : 65535 0 : 65535 0x06/0xFF accept\n@0.0.0.0/0 0.0.0.0/0 0 : 65535 0 : 65535 0x00/0x00 deny\n";
 
 /// Their table in the order that costs least, in which the protocol is read before the destination.

@@ -1,4 +1,5 @@
 //! Editing sessions over a list.
+use super::arranging::THREE;
 use super::{ANY_TCP, ROOM, check_over};
 use crate::setting::{Setting, calm};
 use razor_base::MemDesk;
@@ -42,14 +43,42 @@ fn check_words(
     out: &[u8],
     err: &[u8],
 ) -> Result<(), Fail> {
+    check_list(rt, given, ANY_TCP, setting, room, status, out, err)
+}
+
+/// The same over this list.
+fn check_list(
+    rt: &(impl Abort + AllocGlobal),
+    given: &[&str],
+    list: &[u8],
+    setting: Setting<'_>,
+    room: usize,
+    status: u8,
+    out: &[u8],
+    err: &[u8],
+) -> Result<(), Fail> {
     let mut words = Words::new(rt.alloc());
     for word in given {
         words.push(word)?;
     }
     let mut desk = MemDesk::new(rt.alloc());
     desk.add("s", setting.list)?;
-    desk.add("in", ANY_TCP)?;
+    desk.add("in", list)?;
     check_over(rt, &words, &mut desk, setting, room, status, out, err)
+}
+
+/// Commits the list of three networks with these options, and compares the line.
+fn check_commit(
+    rt: &(impl Abort + AllocGlobal),
+    option: &str,
+    value: &str,
+    limit: &str,
+    out: &[u8],
+) -> Result<(), Fail> {
+    let words = [
+        "session", option, value, "--slots", "9", "--limit", limit, "s", "in",
+    ];
+    check_list(rt, &words, THREE, calm(b"commit\n"), ROOM, 0, out, b"")
 }
 
 #[test]
@@ -74,6 +103,32 @@ fn tables_are_replaced_in_place(rt: HostRuntime) -> Result<(), Fail> {
     check_words(&rt, &words, calm(EDITING), ROOM, 0, PATCHED, b"")?;
     let words = ["session", "--slots", "4", "--swap=whole", "s", "in"];
     check_words(&rt, &words, calm(EDITING), ROOM, 0, EDITED, b"")
+}
+
+#[test]
+fn the_limit_is_of_the_order_or_the_expansion(rt: HostRuntime) -> Result<(), Fail> {
+    check_commit(&rt, "--order", "01234", "6", b"7 entries needed, limit 6\n")?;
+    check_commit(&rt, "--order", "02341", "6", b"begun 4\n")?;
+    check_commit(&rt, "--order", "02341", "4", b"5 entries needed, limit 4\n")?;
+    check_commit(&rt, "--by", "compile", "6", b"7 entries needed, limit 6\n")?;
+    check_commit(&rt, "--by", "shorten", "4", b"begun 4\n")?;
+    check_commit(&rt, "--by", "shorten", "3", b"4 entries needed, limit 3\n")
+}
+
+#[test]
+fn tables_are_shortened(rt: HostRuntime) -> Result<(), Fail> {
+    let words = ["session", "--slots", "4", "--by", "shorten", "s", "in"];
+    check_words(&rt, &words, calm(EDITING), ROOM, 0, EDITED, b"")?;
+    let words = [
+        "session",
+        "--slots",
+        "1",
+        "--by=shorten",
+        "--swap=patch",
+        "s",
+        "in",
+    ];
+    check_words(&rt, &words, calm(EDITING), ROOM, 0, PATCHED, b"")
 }
 
 #[test]

@@ -2,7 +2,7 @@
 ghost use Rattle.std.specs.Prelude.{◌≤◌, All, IfOk, length};
 ghost use Rattle.field_boxes.specs.NamedRules.{IsNumberedBy};
 
-use field_boxes::{Decisions, Rule};
+use field_boxes::{Decisions, Order, Rule};
 use filter_reader::RuleList;
 use list_generator::generate;
 use razor_base::{MemSink, Memory};
@@ -33,7 +33,7 @@ fn anew(alloc: Global, rules: &[Rule], names: &Decisions) -> Result<MemSink, Fai
 /// The text of the list's table, over what the compiler kept.
 fn kept(
     alloc: Global,
-    compiler: &mut Compiler,
+    compiler: &mut Compiler<'_>,
     rules: &[Rule],
     names: &Decisions,
 ) -> Result<MemSink, Fail>
@@ -46,7 +46,7 @@ fn kept(
 /// The table of the list has the same text over what the compiler kept as anew.
 fn compare<R: Abort + AllocGlobal>(
     rt: &R,
-    compiler: &mut Compiler,
+    compiler: &mut Compiler<'_>,
     rules: &[Rule],
     names: &Decisions,
 ) -> Result<(), Fail>
@@ -79,7 +79,7 @@ fn edited(
 /// The same of the list that is edited at the place.
 fn compare_edited<R: Abort + AllocGlobal>(
     rt: &R,
-    compiler: &mut Compiler,
+    compiler: &mut Compiler<'_>,
     list: &RuleList,
     place: usize,
 ) -> Result<(), Fail>
@@ -93,7 +93,7 @@ fn compare_edited<R: Abort + AllocGlobal>(
 /// The whole list and, for each place of it, the list that is edited there.
 fn compare_all<R: Abort + AllocGlobal>(
     rt: &R,
-    compiler: &mut Compiler,
+    compiler: &mut Compiler<'_>,
     list: &RuleList,
 ) -> Result<(), Fail> {
     compare(rt, compiler, &list.rules, &list.names)?;
@@ -107,7 +107,8 @@ fn compare_all<R: Abort + AllocGlobal>(
 fn compare_drawn<R: Abort + AllocGlobal>(rt: &R, seed: u32) -> Result<(), Fail> {
     assert!(rt; seed < 1 << 31);
     let list = generate(rt.alloc(), seed, RULES)?;
-    let mut compiler = Compiler::new(rt.alloc());
+    let order = Order::stated();
+    let mut compiler = Compiler::new(rt.alloc(), &order);
     compare_all(rt, &mut compiler, &list)
 }
 

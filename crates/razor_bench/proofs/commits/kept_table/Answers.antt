@@ -4,4 +4,4 @@ use Rattle.field_boxes.specs.NamedRules.{IsNumberedBy}
 use Rattle.razor_bench.proofs.commits.kept_table.Goals as goal
 
 pub compile-requires-clause-numbered : goal.compile-requires-clause-numbered
-compile-requires-clause-numbered c = subst (λ (names : List (List ℕ)). All (IsNumberedBy names) c.rules.result.now) (sym c.names.ensures) c.rules.ensures.numbered
+compile-requires-clause-numbered c = subst (λ (names : List (List ℕ)). All (IsNumberedBy names) c.args.rules.now) (sym c.names.ensures) c.requires

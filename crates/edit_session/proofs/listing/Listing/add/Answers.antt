@@ -1,4 +1,4 @@
-use Rattle.std.proofs.Common.{ℕ, List, ap, arith, refl, subst, sym, ◌∙◌}
+use Rattle.std.proofs.Common.{ℕ, List, ap, refl, subst, sym, ◌∙◌}
 use Rattle.edit_session.specs.Kept.{listed}
 use Rattle.edit_session.proofs.Edits.{IsInterned}
 use Rattle.edit_session.proofs.Listings.{added-list, added-listing, list-stays, name-stays, named-listing, place-inside, same-listing}
@@ -17,9 +17,7 @@ pub overflow_sub-index : goal.overflow_sub-index
 overflow_sub-index c = (fits c.args.self.now c.args.place c.in_ok-count.count (sym c.in_ok-count.ensures)).low
 
 pub put-requires-clause-place : goal.put-requires-clause-place
-put-requires-clause-place c =
-    let inside = place-inside c.self.inside c.args.self.now c.args.place c.in_ok-count.count c.self.view_is (sym c.in_ok-count.ensures) in
-    omega (arith, inside, c.self.inside.rules.ok.0)
+put-requires-clause-place c = place-inside c.self.inside c.args.self.now c.args.place c.in_ok-count.count c.self.view_is (sym c.in_ok-count.ensures)
 
 pub invariant_of-self-in_err-put : goal.invariant_of-self-in_err-put
 invariant_of-self-in_err-put c =

@@ -1,0 +1,89 @@
+//! The makers of the tables that commits hand over.
+ghost use Rattle.std.specs.Prelude.{◌≡◌, ◌≤◌, length, All, IfOk, IfErr, MatchResult};
+ghost use Rattle.field_boxes.specs.NamedRules.{IsNumberedBy, named_rules};
+ghost use Rattle.razor_base.specs.declared.limits.TheConstants.{MOST_ENTRIES, MOST_RULES};
+ghost use Rattle.ternary_words.specs.Limits.{IsSlotWidth};
+ghost use Rattle.ternary_words.specs.Views.{table_of};
+ghost use Rattle.edit_session.specs.Machine.{IsTableFor};
+ghost use Rattle.edit_session.specs.Methods.{IsMade, IsUnmade, method_of, method_seen};
+
+use crate::listing::Listing;
+use crate::refusal::CommitRefusal;
+use field_boxes::{Decisions, Order, Rule};
+use rule_compilation::Compiler;
+use rule_shortening::Shortener;
+use std::alloc::Global;
+use ternary_words::Table;
+
+/// By which method the tables of a session are made of its list.
+#[derive(Clone, Copy)]
+pub enum Method<'a> {
+    /// Compiled, with the fields read in this order.
+    Compiled(&'a Order),
+    /// By a search for a short table.
+    Shortened,
+}
+
+/// Makes the tables of lists one after another. It may keep what it worked out of other lists, which changes the
+/// time that it takes, and which of several good tables it makes, and nothing else.
+#[derive(Drop)]
+pub(crate) enum Maker<'a> {
+    Compiles(Compiler<'a>),
+    Shortens(Shortener),
+}
+
+impl<'a> Maker<'a> {
+    /// A maker by the method, which has met no list.
+    pub(crate) fn new(alloc: Global, method: Method<'a>) -> Maker<'a>
+        ensures { method_of result ≡ method_seen method.entry }
+    {
+        match method {
+            Method::Compiled(order) => Maker::Compiles(Compiler::new(alloc, order)),
+            Method::Shortened => Maker::Shortens(Shortener::new(alloc)),
+        }
+    }
+
+    /// The table of the list, of which these are the rules in their order, for slots of `slot` trits.
+    pub(crate) fn table(
+        &mut self,
+        list: &Listing,
+        rules: &[Rule],
+        limit: u32,
+        slot: u16,
+    ) -> Result<Table, CommitRefusal>
+        requires rules { named_rules list.now.names rules.now ≡ list.now.rules }
+        requires numbered { All (IsNumberedBy list.now.names) rules.now }
+        requires few { length rules.now ≤ MOST_RULES }
+        requires slot { ∥ IsSlotWidth slot ∥₁ }
+        requires limit { limit ≤ MOST_ENTRIES }
+        ensures table { IfOk result (IsTableFor (method_of self.old) list.now slot limit) }
+        ensures refused { IfErr result (IsUnmade (method_of self.old) list.now.rules limit) }
+        ensures method { method_of self.new ≡ method_of self.old }
+    {
+        self.made(rules, list.names(), limit, slot)
+    }
+
+    /// The table of the rules.
+    fn made(
+        &mut self,
+        rules: &[Rule],
+        names: &Decisions,
+        limit: u32,
+        slot: u16,
+    ) -> Result<Table, CommitRefusal>
+        requires few { length rules.now ≤ MOST_RULES }
+        requires numbered { All (IsNumberedBy names.now) rules.now }
+        requires limit { limit ≤ MOST_ENTRIES }
+        requires slot { ∥ IsSlotWidth slot ∥₁ }
+        ensures table { MatchResult result
+            (λ table. IsMade (method_of self.old) (named_rules names.now rules.now) limit slot (table_of table))
+            (IsUnmade (method_of self.old) (named_rules names.now rules.now) limit) }
+        ensures names { IfOk result (λ table. table.names ≡ names.now) }
+        ensures method { method_of self.new ≡ method_of self.old }
+    {
+        match self {
+            Maker::Compiles(compiler) => Ok(compiler.compile(rules, names, limit, slot)?),
+            Maker::Shortens(shortener) => Ok(shortener.shorten(rules, names, limit, slot)?),
+        }
+    }
+}
