@@ -14,7 +14,7 @@ pub const FILES: [&str; 8] = [
 ];
 
 /// Every command.
-pub const STEPS: [Step; 25] = [
+pub const STEPS: [Step; 26] = [
     Step {
         line: "shorten lab.list",
         into: None,
@@ -57,6 +57,10 @@ pub const STEPS: [Step; 25] = [
     },
     Step {
         line: "session --slots 8 edit.script office.list",
+        into: None,
+    },
+    Step {
+        line: "session --slots 8 --by shorten --swap patch edit.script office.list",
         into: None,
     },
     Step {
