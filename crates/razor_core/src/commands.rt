@@ -57,7 +57,7 @@ use std::alloc::Global;
 use trace::answer_trace;
 use trim::trim_table;
 
-/// Does what the command says.
+/// Does what the command says. Each command is a call of its own, so that no frame holds what two of them want.
 pub fn run<'a, D: Desk, K: Sink>(
     alloc: Global,
     command: &Command<'a>,

@@ -18,6 +18,7 @@ use razor_base::{Desk, Sink};
 use std::alloc::Global;
 
 /// Writes a memory after the writes of a plan, whatever these lead to.
+#[inline(never)]
 pub fn apply_plan<'a, D: Desk, K: Sink>(
     alloc: Global,
     files: TwoFiles<'a>,

@@ -18,6 +18,7 @@ use rule_audit::{RuleState, audit};
 use std::alloc::Global;
 
 /// Writes the state of each rule of the list.
+#[inline(never)]
 pub fn audit_list<'a, D: Desk, K: Sink>(
     alloc: Global,
     file: &'a str,

@@ -58,6 +58,7 @@ fn certify_both<'a, K: Sink>(
 }
 
 /// Writes the certificate that list and table decide every header alike, or the least header on which they differ.
+#[inline(never)]
 pub fn certify<'a, D: Desk, K: Sink>(
     alloc: Global,
     files: TwoFiles<'a>,

@@ -154,6 +154,7 @@ fn check_rows<'a, D: Desk, K: Sink>(
 }
 
 /// Says whether the certificate shows that list and table decide every header alike.
+#[inline(never)]
 pub fn check_certificate<'a, D: Desk, K: Sink>(
     alloc: Global,
     files: ThreeFiles<'a>,

@@ -59,6 +59,7 @@ pub(super) fn drive_ended<'a>(ended: Result<u64, DriveError>) -> Ending<'a>
 }
 
 /// Writes the line of each command of the script, run over the tables in a memory of so many slots.
+#[inline(never)]
 pub fn run_script<'a, D: Desk, K: Sink>(
     alloc: Global,
     run: &ScriptRun<'a>,

@@ -14,6 +14,7 @@ use std::alloc::Global;
 use ternary_words::write_table;
 
 /// Writes the table that stands in a memory.
+#[inline(never)]
 pub fn dump_memory<'a, D: Desk, K: Sink>(
     alloc: Global,
     file: &'a str,

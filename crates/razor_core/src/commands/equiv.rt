@@ -21,6 +21,7 @@ use razor_base::{Desk, Failed, Part, Sink, write_parts};
 use std::alloc::Global;
 
 /// Says whether the lists decide every header alike, or on which they first differ.
+#[inline(never)]
 pub fn compare_lists<'a, D: Desk, K: Sink>(
     alloc: Global,
     files: TwoFiles<'a>,

@@ -11,6 +11,7 @@ use razor_base::Sink;
 use std::alloc::Global;
 
 /// Writes the list that a seed gives.
+#[inline(never)]
 pub fn draw_list<'a, K: Sink>(alloc: Global, drawing: Drawing, out: &mut K) -> Ending<'a>
     ensures { (remaining : List ℕ → Option (List ℕ)) (read_faults : List ℕ → ℕ) → Ends (generating drawing.seed drawing.rules)
         (record { remaining = remaining; read_faults = read_faults; written = K.written out.old; write_faults = K.faults out.old })

@@ -24,6 +24,7 @@ use std::alloc::Global;
 use ternary_words::write_table;
 
 /// Writes the table that the method makes of the list.
+#[inline(never)]
 pub fn make_table<'a, D: Desk, K: Sink>(
     alloc: Global,
     method: Method,

@@ -15,6 +15,7 @@ use std::alloc::Global;
 use ternary_words::{Table, write_table};
 
 /// Writes a table with its entries merged.
+#[inline(never)]
 pub fn merge_table<'a, D: Desk, K: Sink>(
     alloc: Global,
     file: &'a str,

@@ -13,6 +13,7 @@ use std::alloc::Global;
 use ternary_words::write_table;
 
 /// Writes a table of either version in the compact text.
+#[inline(never)]
 pub fn migrate_table<'a, D: Desk, K: Sink>(
     alloc: Global,
     file: &'a str,

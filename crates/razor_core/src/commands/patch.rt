@@ -19,6 +19,7 @@ use std::alloc::Global;
 use ternary_words::Table;
 
 /// Writes a plan that leads from a memory to a table, with each header answered as before or as behind between any two writes.
+#[inline(never)]
 pub fn plan_patch<'a, D: Desk, K: Sink>(
     alloc: Global,
     files: TwoFiles<'a>,

@@ -14,6 +14,7 @@ use razor_base::{Desk, Sink};
 use std::alloc::Global;
 
 /// Writes a memory of so many slots in which a table stands in order, evenly.
+#[inline(never)]
 pub fn place_table<'a, D: Desk, K: Sink>(
     alloc: Global,
     slots: Slots,

@@ -20,6 +20,7 @@ use razor_base::{Desk, Failed, Part, Sink, write_parts};
 use std::alloc::Global;
 
 /// Writes the boxes inside the spans in which the list decides as asked, and how many they are.
+#[inline(never)]
 pub fn query_list<'a, D: Desk, K: Sink>(
     alloc: Global,
     question: Question<'a>,

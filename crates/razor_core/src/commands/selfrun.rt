@@ -42,6 +42,7 @@ fn write_summary<K: Sink>(
 }
 
 /// Compiles the list that a seed gives, looks up the headers that are drawn behind it, and sums it up.
+#[inline(never)]
 pub fn run_load<'a, K: Sink>(alloc: Global, drawing: Drawing, out: &mut K) -> Ending<'a>
     ensures { (remaining : List ℕ → Option (List ℕ)) (read_faults : List ℕ → ℕ) → Ends (running_load drawing.seed drawing.rules)
         (record { remaining = remaining; read_faults = read_faults; written = K.written out.old; write_faults = K.faults out.old })

@@ -39,6 +39,7 @@ fn run_ended(file: &str, ended: Result<u64, TraceError>) -> Ending<'_>
 }
 
 /// Writes what the table answers to each header of the trace.
+#[inline(never)]
 pub fn answer_trace<'a, D: Desk, K: Sink>(
     alloc: Global,
     files: TwoFiles<'a>,

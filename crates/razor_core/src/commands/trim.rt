@@ -19,6 +19,7 @@ use table_steps::laws::parts;
 use ternary_words::{Table, write_table};
 
 /// Writes a table without its redundant entries.
+#[inline(never)]
 pub fn trim_table<'a, D: Desk, K: Sink>(
     alloc: Global,
     file: &'a str,
