@@ -228,20 +228,25 @@ fn place_of(which: u32, rules: u32) -> u32 {
 
 /// Puts a rule at the place that has its columns from rules of the list.
 fn add(alloc: Global, editor: &mut Editor<'_, Bank>, drawn: &mut Edits, place: u32) -> Result<()> {
-    let rule = drawn_rule(alloc, editor, &mut drawn.numbers)?;
+    let rules = editor.rules(alloc)?;
+    add_like(editor, rules.as_slice(), drawn, place)
+}
+
+/// Puts a rule at the place that has its columns from these.
+fn add_like(
+    editor: &mut Editor<'_, Bank>,
+    rules: &[Rule],
+    drawn: &mut Edits,
+    place: u32,
+) -> Result<()>
+    requires { All IsFilterRule rules.now }
+{
+    let rule = rule_of_list(rules, &mut drawn.numbers)?;
     let name = NAMES[drawn.numbers.below(2) as usize];
     ensure!(decision_word(name.as_bytes()), "{name} is no decision");
     ensure!(editor.names().count() < 1000, "too many names");
     let _rules = editor.add(place, &rule, name)?;
     Ok(())
-}
-
-/// A rule that has its columns from rules of the list.
-fn drawn_rule(alloc: Global, editor: &Editor<'_, Bank>, numbers: &mut Numbers) -> Result<Rule>
-    ensures { IfOk result IsEditable }
-{
-    let rules = editor.rules(alloc)?;
-    rule_of_list(rules.as_slice(), numbers)
 }
 
 /// A rule with the source of a rule of the list, the destination of another one, and the ports and protocol of a third.
