@@ -1,4 +1,7 @@
 //! Random sessions where some writes fail, against lists in plain numbers and tables that are compiled anew.
+ghost use Rattle.std.specs.Prelude.{All};
+ghost use Rattle.field_boxes.specs.NamedRules.{IsNumberedBy};
+
 use super::drawing::failing;
 use super::editing::{editor, run};
 use super::edits::{Edit, drawn};
@@ -7,7 +10,7 @@ use super::lists::{Compiled, LIMIT, Lists};
 use super::plain_list::{destination, word};
 use crate::Draw;
 use edit_session::Editor;
-use field_boxes::{Header, Order};
+use field_boxes::{Header, Order, Rule};
 use razor_base::MemSink;
 use rule_compilation::compile;
 use std::alloc::Global;
@@ -19,7 +22,18 @@ use tcam_sim::FaultyBank;
 /// What comes of compiling the list of the editor anew.
 fn compiled(alloc: Global, editor: &Editor<'_, FaultyBank>) -> Result<Compiled, Fail> {
     let rules = editor.rules(alloc)?;
-    match compile(alloc, rules.as_slice(), editor.names(), LIMIT, 144) {
+    compiled_of(alloc, rules.as_slice(), editor)
+}
+
+/// What comes of compiling these rules, with the names of the editor.
+fn compiled_of(
+    alloc: Global,
+    rules: &[Rule],
+    editor: &Editor<'_, FaultyBank>,
+) -> Result<Compiled, Fail>
+    requires { All (IsNumberedBy editor.now.session.list.names) rules.now }
+{
+    match compile(alloc, rules, editor.names(), LIMIT, 144) {
         Ok(table) => Ok(Compiled::Entries(table.entries.len() as u32)),
         Err(ComposeError::TooMany { needed, .. }) => Ok(Compiled::TooMany(needed)),
         Err(ComposeError::Memory) => Err("memory was refused".into()),
