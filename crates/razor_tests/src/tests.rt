@@ -61,7 +61,7 @@ const WEB_TABLE: &[u8] =
 
 /// The usage text.
 const USAGE: &[u8] =
-    b"usage: razor COMMAND\n  expand [--limit N] [--slot W] LIST\n  compile [--limit N] [--slot W] LIST\n  equiv A B\n  cert LIST TABLE\n  check LIST TABLE CERT\n  trace TABLE TRACE\n  drive --slots N SCRIPT TABLE ..\n  gen SEED N\n  selfrun SEED N\n  migrate TABLE\n  arrange [--order P] [--limit N] [--slot W] LIST\n  merge TABLE\n  audit LIST\n  query LIST S D SP DP P DECISION\n  session --slots N [--limit N] [--slot W] [--swap S] SCRIPT LIST\n  trim TABLE\n  shorten [--order P] [--limit N] [--slot W] LIST\n  place --slots N TABLE\n  patch MEMORY TABLE\n  apply MEMORY PLAN\n  dump MEMORY\n";
+    b"usage: razor COMMAND\n  expand [--limit N] [--slot W] LIST\n  compile [--limit N] [--slot W] LIST\n  equiv A B\n  cert LIST TABLE\n  check LIST TABLE CERT\n  trace TABLE TRACE\n  drive --slots N SCRIPT TABLE ..\n  gen SEED N\n  selfrun SEED N\n  migrate TABLE\n  arrange [--order P] [--limit N] [--slot W] LIST\n  merge TABLE\n  audit LIST\n  query LIST S D SP DP P DECISION\n  session --slots N [--limit N] [--slot W] [--order P] [--swap S] [--by M] SCRIPT LIST\n  trim TABLE\n  shorten [--order P] [--limit N] [--slot W] LIST\n  place --slots N TABLE\n  patch MEMORY TABLE\n  apply MEMORY PLAN\n  dump MEMORY\n";
 
 /// How a call ended, with what it wrote and said.
 #[derive(Drop)]
