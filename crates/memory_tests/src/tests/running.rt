@@ -10,7 +10,7 @@ use std::test::Fail;
 use tcam_sim::FaultyBank;
 use ternary_words::Table;
 
-/// An empty device with 1 to 9 slots, whose writes of these numbers fail. The first write has number 1.
+/// An empty device with 1 to 64 slots, whose writes of these numbers fail. The first write has number 1.
 pub(super) fn bank(
     rt: &impl Abort,
     alloc: Global,
@@ -20,7 +20,7 @@ pub(super) fn bank(
     ensures { IfOk result (λ bank. faulty_slots bank ≡ replicate (length (faulty_slots bank)) None) }
 {
     assert!(rt; 1 <= slots);
-    assert!(rt; slots <= 9);
+    assert!(rt; slots <= 64);
     let mut bank = FaultyBank::new(alloc, slots)?;
     bank.fail_at(failing[0])?;
     bank.fail_at(failing[1])?;
