@@ -8,7 +8,7 @@ ghost use Rattle.razor_base.specs.declared.limits.TheConstants.{MOST_CERTIFICATE
 
 use crate::desk::Desk;
 use crate::failure::Failed;
-use crate::limits::PIECE_BYTES;
+use crate::limits::BUFFER_BYTES;
 use std::alloc::AllocError;
 use thiserror::Error;
 
@@ -41,7 +41,7 @@ impl From<AllocError> for ReadError {
 
 /// Reads an input to its end, into a vector that is empty.
 ///
-/// It takes time linear in the bytes read, and asks for 65,536 bytes at a time.
+/// It takes time linear in the bytes read, and asks for 16,384 bytes at a time.
 #[inline(never)]
 pub fn read_all<D: Desk>(
     desk: &mut D,
@@ -74,7 +74,7 @@ pub fn read_all<D: Desk>(
     ensures others { (other : List ℕ) → other ≢ name.now → Keeps (D.remaining desk.old other) (D.remaining desk.new other) }
     ensures counts { (other : List ℕ) → D.faults desk.old other ≤ D.faults desk.new other }
 {
-    let mut piece = [0; PIECE_BYTES];
+    let mut piece = [0; BUFFER_BYTES];
     'pieces: loop {
         let count = desk.read(name, &mut piece)?;
         if count == 0 {

@@ -14,14 +14,10 @@ ghost use Rattle.trace_run.specs.declared.error.TraceError.TheVariants.{ReadFaul
 use crate::error::TraceError;
 use crate::progress::Progress;
 use field_boxes::Decisions;
-use razor_base::limits::MOST_TRACE_BYTES;
+use razor_base::limits::{BUFFER_BYTES, MOST_TRACE_BYTES};
 use razor_base::{Desk, Pending, Sink};
 use std::alloc::Global;
 use tcam_sim::Device;
-
-/// The bytes that are asked for at once: fewer than a piece may have, since they lie on the stack beside
-/// the answers that wait.
-const BUFFER_BYTES: usize = 16_384;
 
 /// Puts the answers to the headers of a trace, and answers how many there are.
 #[inline(never)]

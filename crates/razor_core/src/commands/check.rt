@@ -15,13 +15,10 @@ use command_words::ThreeFiles;
 use filter_reader::RuleList;
 use partition_check::laws::equal_lists_have_one_verdict;
 use partition_check::{Checker, Stop, Why, Wrong, check_stream};
-use razor_base::limits::MOST_CERTIFICATE_BYTES;
+use razor_base::limits::{BUFFER_BYTES, MOST_CERTIFICATE_BYTES};
 use razor_base::{Desk, Failed, Part, Sink, write_parts};
 use std::alloc::Global;
 use ternary_words::Table;
-
-/// The bytes of the buffer through which a certificate is read: it lies on the stack beside the checker.
-const BUFFER_BYTES: usize = 16_384;
 
 /// Writes how many rows a valid certificate has.
 fn write_valid<K: Sink>(rows: u64, out: &mut K) -> Result<(), Failed>
