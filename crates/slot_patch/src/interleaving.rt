@@ -18,7 +18,7 @@ pub(crate) fn order_wishes(
     new: usize,
     count: usize,
 ) -> Result<Vec<usize>, Memory> {
-    let mut wishes = Vec::new(alloc);
+    let mut wishes = Vec::with_capacity(alloc, slots.len())?;
     let mut gap = Gap {
         start: Pair { old: 0, new: 0 },
         low: 0,

@@ -11,17 +11,17 @@ pub(crate) struct Layout {
 }
 
 impl Layout {
-    ghost use Rattle.std.specs.Prelude.{◌≡◌, ◌++◌, ◌∷◌, [], OnOk};
+    ghost use Rattle.std.specs.Prelude.{◌≡◌, ◌++◌, ◌∷◌, [], IfOk, OnOk};
 
-    /// No slot.
-    pub(crate) fn new(alloc: Global) -> Layout
-        ensures start { result.start.items ≡ [] }
-        ensures next { result.next.items ≡ [] }
+    /// No slot, and room for so many.
+    pub(crate) fn with_room(alloc: Global, slots: usize) -> Result<Layout, Memory>
+        ensures start { IfOk result (λ layout. layout.start.items ≡ []) }
+        ensures next { IfOk result (λ layout. layout.next.items ≡ []) }
     {
-        Layout {
-            start: Vec::new(alloc),
-            next: Vec::new(alloc),
-        }
+        Ok(Layout {
+            start: Vec::with_capacity(alloc, slots)?,
+            next: Vec::with_capacity(alloc, slots)?,
+        })
     }
 
     /// One slot more, for these entries.

@@ -25,7 +25,8 @@ pub(crate) fn merged(
     ensures layout { IfOk result (λ layout. IsLayout (length layout.start.items) old.now new.now layout.start.items layout.next.items) }
     ensures count { IfOk result (λ layout. length layout.start.items + length pairs.now ≡ length old.now + length new.now) }
 {
-    let mut layout = Layout::new(alloc);
+    let entries = old.len().saturating_add(new.len());
+    let mut layout = Layout::with_room(alloc, entries.saturating_sub(pairs.len()))?;
     let end = Pair {
         old: old.len(),
         new: new.len(),

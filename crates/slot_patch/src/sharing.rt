@@ -6,6 +6,7 @@ ghost use Rattle.slot_patch.specs.Least.{least_slots, same_word};
 ghost use Rattle.slot_patch.specs.Piles.{AreBounded, AreLowered, AreStacked, AreTaken};
 ghost use Rattle.slot_patch.specs.Sharing.{AreShared};
 
+use crate::ends::{common_end, common_front, push_moved, push_run};
 use crate::pair::Pair;
 use crate::piles::Piles;
 use crate::word_places::WordPlaces;
@@ -15,9 +16,43 @@ use ternary_words::Entry;
 
 /// As many pairs of equal words as can rise in both tables.
 ///
-/// It takes time in the number of entries and of pairs of equal words, times the logarithm of the first; a table in which no
-/// word comes twice has at most as many pairs as entries.
+/// What the tables have in common at both ends is paired as it stands. For what lies between it takes time in the number of
+/// entries and of pairs of equal words, times the logarithm of the first; a table in which no word comes twice has at most as
+/// many pairs as entries.
 pub(crate) fn shared(alloc: Global, old: &[Entry], new: &[Entry]) -> Result<Vec<Pair>, Memory>
+    ensures shared { IfOk result (λ pairs. AreShared old.now new.now 0 0 pairs.items) }
+    ensures most { IfOk result (λ pairs. length old.now + length new.now ≤ least_slots same_word old.now new.now + length pairs.items) }
+{
+    let end = common_end(old, new);
+    let first = Pair {
+        old: old.len() - end,
+        new: new.len() - end,
+    };
+    let mut pairs = shared_before_end(alloc, &old[..first.old], &new[..first.new], old.len())?;
+    push_run(&mut pairs, first, end)?;
+    Ok(pairs)
+}
+
+/// The same, where no end is looked for, in a list with room for so many.
+fn shared_before_end(
+    alloc: Global,
+    old: &[Entry],
+    new: &[Entry],
+    room: usize,
+) -> Result<Vec<Pair>, Memory>
+    ensures shared { IfOk result (λ pairs. AreShared old.now new.now 0 0 pairs.items) }
+    ensures most { IfOk result (λ pairs. length old.now + length new.now ≤ least_slots same_word old.now new.now + length pairs.items) }
+{
+    let front = common_front(old, new);
+    let mut pairs = Vec::with_capacity(alloc, room)?;
+    push_run(&mut pairs, Pair { old: 0, new: 0 }, front)?;
+    let behind = shared_by_piles(alloc, &old[front..], &new[front..])?;
+    push_moved(&mut pairs, &behind, front)?;
+    Ok(pairs)
+}
+
+/// The same, where neither a front nor an end is looked for.
+fn shared_by_piles(alloc: Global, old: &[Entry], new: &[Entry]) -> Result<Vec<Pair>, Memory>
     ensures shared { IfOk result (λ pairs. AreShared old.now new.now 0 0 pairs.items) }
     ensures most { IfOk result (λ pairs. length old.now + length new.now ≤ least_slots same_word old.now new.now + length pairs.items) }
 {

@@ -72,8 +72,8 @@ pub(crate) fn spread_out(
     ensures slots { IfOk result (λ spread. places 0 spread.layout.start.items ≡ spread.slots.items) }
 {
     let mut spread = Spread {
-        layout: Layout::new(alloc),
-        slots: Vec::new(alloc),
+        layout: Layout::with_room(alloc, slots)?,
+        slots: Vec::with_capacity(alloc, compact.start.len())?,
     };
     let count = compact.start.len();
     for place in 0..count {

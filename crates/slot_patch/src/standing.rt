@@ -49,8 +49,8 @@ pub(crate) fn standing_in(alloc: Global, held: &[Option<Entry>]) -> Result<Stand
     ensures entries { IfOk result (λ standing. standing.entries.items ≡ entries_in held.now) }
 {
     let mut standing = Standing {
-        slots: Vec::new(alloc),
-        entries: Vec::new(alloc),
+        slots: Vec::with_capacity(alloc, held.len())?,
+        entries: Vec::with_capacity(alloc, held.len())?,
     };
     for slot in 0..held.len() {
         standing.put(slot as u32, held[slot])?;

@@ -7,8 +7,15 @@ use std::alloc::Global;
 /// An old entry that may stay in its slot.
 #[derive(Clone, Copy)]
 struct Stay {
-    place: usize,
-    slot: usize,
+    place: u32,
+    slot: u32,
+}
+
+impl Stay {
+    /// How far the slot is behind the place.
+    fn shift(&self) -> u32 {
+        self.slot.saturating_sub(self.place)
+    }
 }
 
 /// The slot that each place of the layout wishes for, of so many, where the old entries stand in these slots.
@@ -19,12 +26,13 @@ pub(crate) fn slot_wishes(
     count: usize,
 ) -> Result<Vec<usize>, Memory> {
     let stays = longest_rising(alloc, &could_stay(alloc, compact, slots, count)?)?;
-    let mut wishes = Vec::new(alloc);
+    let mut wishes = Vec::with_capacity(alloc, compact.start.len())?;
     let mut low = 0;
     for stay in &stays {
-        push_even(&mut wishes, stay.place, low, stay.slot)?;
-        wishes.push(stay.slot)?;
-        low = stay.slot.saturating_add(1);
+        let slot = stay.slot as usize;
+        push_even(&mut wishes, stay.place as usize, low, slot)?;
+        wishes.push(slot)?;
+        low = slot.saturating_add(1);
     }
     push_even(&mut wishes, compact.start.len(), low, count)?;
     Ok(wishes)
@@ -51,7 +59,7 @@ fn could_stay(
     count: usize,
 ) -> Result<Vec<Stay>, Memory> {
     let slack = count.saturating_sub(compact.start.len());
-    let mut stays = Vec::new(alloc);
+    let mut stays = Vec::with_capacity(alloc, slots.len())?;
     let mut old = 0_usize;
     for place in 0..compact.start.len() {
         if compact.start[place].is_some() {
@@ -70,29 +78,32 @@ fn push_stay(
     slack: usize,
 ) -> Result<(), Memory> {
     if let Some(&slot) = slot {
-        let slot = slot as usize;
-        if place <= slot && slot - place <= slack {
-            stays.push(Stay { place, slot })?;
+        let shift = (slot as usize).checked_sub(place);
+        if shift.is_some_and(|shift| shift <= slack) {
+            stays.push(Stay {
+                place: place as u32,
+                slot,
+            })?;
         }
     }
     Ok(())
 }
 
-/// How far the slot of one is behind its place; 0 where there is none.
-fn shift(stays: &[Stay], number: usize) -> usize {
-    match stays.get(number) {
-        Some(stay) => stay.slot.saturating_sub(stay.place),
+/// The shift of one; 0 where there is none.
+fn shift(stays: &[Stay], number: u32) -> u32 {
+    match stays.get(number as usize) {
+        Some(stay) => stay.shift(),
         None => 0,
     }
 }
 
 /// The most of them whose shifts don't fall, by piles.
 fn longest_rising(alloc: Global, stays: &[Stay]) -> Result<Vec<Stay>, Memory> {
-    let mut tops: Vec<usize> = Vec::new(alloc);
-    let mut before: Vec<Option<usize>> = Vec::new(alloc);
-    for number in 0..stays.len() {
-        let here = shift(stays, number);
-        let pile = tops.partition_point(|&top| shift(stays, top) <= here);
+    let mut tops: Vec<u32> = Vec::with_capacity(alloc, stays.len())?;
+    let mut before: Vec<Option<u32>> = Vec::with_capacity(alloc, stays.len())?;
+    let mut number = 0_u32;
+    for stay in stays {
+        let pile = pile_for(stays, &tops, stay.shift());
         before.push(
             pile.checked_sub(1)
                 .and_then(|under| tops.get(under).copied()),
@@ -102,27 +113,38 @@ fn longest_rising(alloc: Global, stays: &[Stay]) -> Result<Vec<Stay>, Memory> {
         } else {
             tops.push(number)?;
         }
+        number = number.saturating_add(1);
     }
     back_from(alloc, stays, &before, tops.last().copied())
+}
+
+/// The first pile on whose top the shift is greater, or the one behind all; mostly it is that one.
+fn pile_for(stays: &[Stay], tops: &[u32], here: u32) -> usize {
+    match tops.last() {
+        Some(&top) if shift(stays, top) > here => {
+            tops.partition_point(|&top| shift(stays, top) <= here)
+        }
+        _ => tops.len(),
+    }
 }
 
 /// The chain that ends with this one.
 fn back_from(
     alloc: Global,
     stays: &[Stay],
-    before: &[Option<usize>],
-    last: Option<usize>,
+    before: &[Option<u32>],
+    last: Option<u32>,
 ) -> Result<Vec<Stay>, Memory> {
-    let mut chain = Vec::new(alloc);
+    let mut chain = Vec::with_capacity(alloc, stays.len())?;
     let mut at = last;
     for _ in 0..stays.len() {
         let Some(number) = at else {
             break;
         };
-        if let Some(stay) = stays.get(number) {
+        if let Some(stay) = stays.get(number as usize) {
             chain.push(*stay)?;
         }
-        at = match before.get(number) {
+        at = match before.get(number as usize) {
             Some(&next) => next,
             None => None,
         };

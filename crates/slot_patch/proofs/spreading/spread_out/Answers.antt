@@ -8,11 +8,11 @@ use Rattle.slot_patch.proofs.spreading.spread_out.Goals as goal
 
 pub loop-place-init : goal.loop-place-init
 loop-place-init c =
-    let none : length c.new.result.start.items ≡ 0 = ap length c.new.ensures.start in
-    let now : Spread = record { layout = c.new.result; slots = c.new-2.result } in
+    let none : length c.in_ok-with_room.field-0.start.items ≡ 0 = ap length c.in_ok-with_room.ensures.start in
+    let now : Spread = record { layout = c.in_ok-with_room.field-0; slots = c.in_ok-with_capacity.field-0 } in
     record {
       room = omega (arith, none, c.requires.room);
-      spread = spread-none c.args.compact.now now c.new.ensures.start c.new.ensures.next c.new-2.ensures.items;
+      spread = spread-none c.args.compact.now now c.in_ok-with_room.ensures.start c.in_ok-with_room.ensures.next c.in_ok-with_capacity.ensures.items;
     }
 
 pub put-requires : goal.put-requires
