@@ -25,7 +25,10 @@ pub(crate) fn slot_wishes(
     slots: &[u32],
     count: usize,
 ) -> Result<Vec<usize>, Memory> {
-    let stays = longest_rising(alloc, &could_stay(alloc, compact, slots, count)?)?;
+    let mut stays = could_stay(alloc, compact, slots, count)?;
+    if !rise(&stays) {
+        stays = longest_rising(alloc, &stays)?;
+    }
     let mut wishes = Vec::with_capacity(alloc, compact.start.len())?;
     let mut low = 0;
     for stay in &stays {
@@ -95,6 +98,18 @@ fn shift(stays: &[Stay], number: u32) -> u32 {
         Some(stay) => stay.shift(),
         None => 0,
     }
+}
+
+/// Whether no shift is less than the one before it.
+fn rise(stays: &[Stay]) -> bool {
+    let mut least = 0;
+    for stay in stays {
+        if stay.shift() < least {
+            return false;
+        }
+        least = stay.shift();
+    }
+    true
 }
 
 /// The most of them whose shifts don't fall, by piles.
