@@ -1,6 +1,6 @@
 -- An update to a table of the list is begun, or is refused.
 use Rattle.std.proofs.Common.{◌≡◌, ◌⊎◌, ℕ, true, false, Option, Some, None, Result, Ok, Err, inl, inr, refl, ap, sym, subst, ◌∙◌, ◌<◌, true≢false}
-use Rattle.std.specs.Prelude.{◌↔◌, ◌≢◌, is_some, option_map, IfErr, IfOk, IsErrAnd, OnErr}
+use Rattle.std.specs.Prelude.{◌↔◌, ◌≢◌, is_some, option_map, IsErrAnd}
 use Rattle.ternary_words.specs.declared.table.Table as code
 use Rattle.ternary_words.specs.Views.{table_of}
 use Rattle.bank_update.specs.Machine.{State, Update, stage, stage_of}
@@ -137,14 +137,21 @@ refuses-commit s table refusal idle handed h = elim (room_case s.way s.state tab
   | inr lacks ↦ lacks_case s table refusal idle handed lacks
 ]
 
--- how the commit ends, and what it leaves
-pub ends-commit : {D : Type 0} (list : Listed) (method : Method) (way : Way) (slot limit : ℕ) (old new : ListedSwap D) (table : code.Table) (copy : Listed) (r : Result ℕ CommitRefusal) → old.state.pending ≡ None →
-    IsTableFor method list slot limit table → copy ≡ list → IfOk r (λ total. HasBegun way old.state new.state table total) → IfOk r (λ total. new.copies ≡ copies_begun copy total old.copies) →
-    IfErr r (IsNotBegun way old.state table) → OnErr r (new ≡ old) →
+-- the update has begun, and the method stays
+pub has-begun : {D : Type 0} (list : Listed) (method after : Method) (way : Way) (slot limit : ℕ) (old new : ListedSwap D) (table : code.Table) (copy : Listed) (total : ℕ) →
+    IsTableFor method list slot limit table → copy ≡ list → HasBegun way old.state new.state table total → new.copies ≡ copies_begun copy total old.copies → after ≡ method →
+    IsCommit (session_by list old.state old.copies method way slot limit) (session_by list new.state new.copies after way slot limit) (Ok total)
+has-begun list method after way slot limit old new table copy total handed same begun copies stays =
+    let s = session_by list old.state old.copies method way slot limit in
+    subst (λ (m : Method). IsCommit s (session_by list new.state new.copies m way slot limit) (Ok total)) (sym stays)
+    (subst (λ (x : Copies). IsCommit s (session_by list new.state x method way slot limit) (Ok total)) (sym copies) (begins-commit s new.state table copy total handed same begun))
+
+-- no update has begun
+pub not-begun : {D : Type 0} (list : Listed) (method : Method) (way : Way) (slot limit : ℕ) (old new : ListedSwap D) (table : code.Table) (refusal : CommitRefusal) (r : Result ℕ CommitRefusal) →
+    IsErrAnd r (λ x. x ≡ refusal) → old.state.pending ≡ None → IsTableFor method list slot limit table → IsNotBegun way old.state table refusal → new ≡ old →
     IsCommit (session_by list old.state old.copies method way slot limit) (session_by list new.state new.copies method way slot limit) r
-ends-commit list method way slot limit old new table copy (Ok total) idle handed same begun copies refused stays =
-    subst (λ (x : Copies). IsCommit (session_by list old.state old.copies method way slot limit) (session_by list new.state x method way slot limit) (Ok total)) (sym copies)
-    (begins-commit (session_by list old.state old.copies method way slot limit) new.state table copy total handed same begun)
-ends-commit {D = D} list method way slot limit old new table copy (Err refusal) idle handed same begun copies refused stays =
-    subst (λ (x : ListedSwap D). IsCommit (session_by list old.state old.copies method way slot limit) (session_by list x.state x.copies method way slot limit) (Err refusal)) (sym stays)
-    (refuses-commit (session_by list old.state old.copies method way slot limit) table refusal idle handed refused)
+not-begun list method way slot limit old new table refusal (Ok total) is idle handed refused stays = absurd is
+not-begun {D = D} list method way slot limit old new table refusal (Err said) is idle handed refused stays =
+    let s = session_by list old.state old.copies method way slot limit in
+    subst (λ (x : ListedSwap D). IsCommit s (session_by list x.state x.copies method way slot limit) (Err said)) (sym stays)
+    (subst (λ (e : CommitRefusal). IsCommit s s (Err e)) (sym is) (refuses-commit s table refusal idle handed refused))

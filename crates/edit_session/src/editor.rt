@@ -224,6 +224,18 @@ impl<'a, V: Device, T: Replaced> Editor<'a, V, T> {
         ensures busy { result ≡ Err commit_refusals.Busy ↔ self.old.session.state.pending ≢ None }
         ensures device { self.new.device ≡ self.old.device }
     {
+        let ended = self.try_commit();
+        if ended.is_err() && self.maker.has_other() {
+            return self.try_commit();
+        }
+        ended
+    }
+
+    /// The same with one table of the list, where there may be another.
+    fn try_commit(&mut self) -> Result<u64, CommitRefusal>
+        ensures commit { IsCommit self.old.session self.new.session result }
+        ensures device { self.new.device ≡ self.old.device }
+    {
         if self.swapper.stage().is_some() {
             return Err(CommitRefusal::Busy);
         }
@@ -243,7 +255,9 @@ impl<'a, V: Device, T: Replaced> Editor<'a, V, T> {
         ensures commit { IsCommit self.old.session self.new.session result }
         ensures device { self.new.device ≡ self.old.device }
     {
-        self.swapper.begin(self.alloc, table, copy)
+        let total = self.swapper.begin(self.alloc, table, copy)?;
+        self.maker.begin();
+        Ok(total)
     }
 
     /// Does the next write, or undoes the last one where the swap goes back, and answers the stage.
@@ -273,7 +287,9 @@ impl<'a, V: Device, T: Replaced> Editor<'a, V, T> {
         ensures session { self.new.session ≡ aborted self.old.session }
         ensures device { self.new.device ≡ self.old.device }
     {
-        self.swapper.abort()
+        let stage = self.swapper.abort()?;
+        self.maker.abort();
+        Ok(stage)
     }
 
     /// The name of the decision that the device finds for the header; `miss` where it finds none.

@@ -63,6 +63,32 @@ impl<'a> Maker<'a> {
         self.made(rules, list.names(), limit, slot)
     }
 
+    /// Whether another table of the list can be made than the last one.
+    pub(crate) fn has_other(&self) -> bool {
+        match self {
+            Maker::Compiles(_) => false,
+            Maker::Shortens(shortener) => shortener.has_other(),
+        }
+    }
+
+    /// An update to the table that was made last has begun.
+    pub(crate) fn begin(&mut self)
+        ensures { method_of self.new ≡ method_of self.old }
+    {
+        if let Maker::Shortens(shortener) = self {
+            shortener.begin();
+        }
+    }
+
+    /// That update goes back.
+    pub(crate) fn abort(&mut self)
+        ensures { method_of self.new ≡ method_of self.old }
+    {
+        if let Maker::Shortens(shortener) = self {
+            shortener.abort();
+        }
+    }
+
     /// The table of the rules.
     fn made(
         &mut self,

@@ -1,5 +1,6 @@
-//! What is kept of the list that was shortened last.
+//! What is kept of a list that was shortened.
 
+use crate::differences::Differences;
 use field_boxes::Rule;
 use razor_base::Memory;
 use rule_expansion::expanded_entries;
@@ -11,46 +12,52 @@ use ternary_words::{Entry, Word};
 const MOST_EDITED: usize = 16;
 
 /// Words of edited rules at most.
-const MOST_WORDS: usize = 1000;
+const MOST_WORDS: usize = 2000;
 
-/// Repairs one after another at most, before a table is also made anew.
+/// Repairs one after another at most, before a table is made anew.
 const MOST_REPAIRS: u32 = 32;
 
-/// The rules that were shortened last, and the entries of their table. Nothing is promised of it.
+/// The rules of a list, and the entries of their table. Nothing is promised of it.
 #[derive(Drop)]
 pub(crate) struct Known {
     alloc: Global,
     rules: Vec<Rule>,
     entries: Vec<Entry>,
-    /// How many entries the table had that was last made anew or kept beside one that was, and how often it was repaired since.
-    begun: usize,
-    repairs: u32,
+    /// A table is made anew where this one has more entries than this, or no repair is left.
+    most: usize,
+    left: u32,
 }
 
 impl Known {
-    /// Of rules with a table that isn't to be made anew soon.
+    /// Of rules whose table was made anew.
     pub fn new(alloc: Global, rules: &[Rule], entries: &[Entry]) -> Result<Known, Memory> {
         Ok(Known {
             alloc,
             rules: Vec::from_slice(alloc, rules)?,
             entries: Vec::from_slice(alloc, entries)?,
-            begun: entries.len(),
-            repairs: 0,
+            most: entries.len().saturating_add(entries.len() / 50),
+            left: MOST_REPAIRS,
         })
     }
 
-    /// Of rules whose table is the kept one, repaired.
+    /// Of rules whose table is this one, repaired.
     pub fn followed(&self, rules: &[Rule], entries: &[Entry]) -> Result<Known, Memory> {
         let mut followed = Known::new(self.alloc, rules, entries)?;
-        followed.begun = self.begun;
-        followed.repairs = self.repairs.saturating_add(1);
+        followed.most = self.most;
+        followed.left = self.left.saturating_sub(1);
         Ok(followed)
     }
 
-    /// Whether a table is also to be made anew, where the repaired one has so many entries: it has a fiftieth more than in the
-    /// beginning, or there were many repairs.
-    pub fn is_due(&self, count: usize) -> bool {
-        self.repairs >= MOST_REPAIRS || count > self.begun.saturating_add(self.begun / 50)
+    /// Where a table is to be made anew, below how many entries it is worth it: with fewer by more than a hundredth. None is
+    /// made anew again before as many repairs.
+    pub fn due(&mut self) -> Option<usize> {
+        let count = self.entries.len();
+        if self.left > 0 && count <= self.most {
+            return None;
+        }
+        self.most = usize::MAX;
+        self.left = MOST_REPAIRS;
+        Some(count.saturating_sub(count / 100))
     }
 
     /// The kept entries repaired for these rules, of which `list` is the direct expansion; none where too much was edited.
@@ -63,44 +70,35 @@ impl Known {
 
     /// The words in which the edit of the kept rules to these can show; none where they are too many.
     fn edited_words(&self, rules: &[Rule]) -> Result<Option<Vec<Word>>, Memory> {
-        let (old, new) = edited(&self.rules, rules);
-        if old.len() > MOST_EDITED || new.len() > MOST_EDITED {
-            return Ok(None);
+        let mut differences = Differences::of(&self.rules, rules);
+        let mut words = Vec::new(self.alloc);
+        let (mut gone, mut came) = (0_usize, 0_usize);
+        for _ in 0..=2 * MOST_EDITED {
+            let Some((old, new)) = differences.next() else {
+                break;
+            };
+            gone = gone.saturating_add(old.len());
+            came = came.saturating_add(new.len());
+            if gone > MOST_EDITED || came > MOST_EDITED {
+                return Ok(None);
+            }
+            self.push_words(&mut words, old, new)?;
         }
+        Ok(if words.len() > MOST_WORDS {
+            None
+        } else {
+            Some(words)
+        })
+    }
+
+    /// Pushes the words in which rules that stand in the place of others can show.
+    fn push_words(&self, words: &mut Vec<Word>, old: &[Rule], new: &[Rule]) -> Result<(), Memory> {
         let before = expanded_entries(self.alloc, old)?;
         let now = expanded_entries(self.alloc, new)?;
-        if before.len() > MOST_WORDS || now.len() > MOST_WORDS {
-            return Ok(None);
-        }
         let is_one = old.len() == 1 && new.len() == 1;
-        let mut words = Vec::new(self.alloc);
-        push_others(&mut words, &before, &now, is_one)?;
-        push_others(&mut words, &now, &before, is_one)?;
-        Ok(Some(words))
+        push_others(words, &before, &now, is_one)?;
+        push_others(words, &now, &before, is_one)
     }
-}
-
-/// The rules between those that both lists begin and end with.
-fn edited<'a>(old: &'a [Rule], new: &'a [Rule]) -> (&'a [Rule], &'a [Rule]) {
-    let front = old
-        .iter()
-        .zip(new)
-        .take_while(|(one, other)| one == other)
-        .count();
-    let old = old.get(front..).unwrap_or(&[]);
-    let new = new.get(front..).unwrap_or(&[]);
-    let end = old
-        .iter()
-        .rev()
-        .zip(new.iter().rev())
-        .take_while(|(one, other)| one == other)
-        .count();
-    (without_end(old, end), without_end(new, end))
-}
-
-/// The rules without so many at the end.
-fn without_end(rules: &[Rule], end: usize) -> &[Rule] {
-    rules.get(..rules.len().saturating_sub(end)).unwrap_or(&[])
 }
 
 /// Pushes the words of the entries; of one rule in the place of one other only those that the others don't have.

@@ -30,12 +30,13 @@
 //! |---|---|
 //! | `shortening`, `ordered`, `refusal` | the calls, and why rules have no short table |
 //! | `draft`, `laying` | entries for the last rules of a list, and rules laid out in few |
-//! | `shortener`, `known` | lists one after another, and what is kept between them |
+//! | `shortener`, `known`, `differences` | lists one after another, and what is kept between them |
 //! | `searching`, `checked` | the search, and what it found, compared |
 //! | `trimming` | tables without their redundant entries |
 #![tactic(auto)]
 
 mod checked;
+mod differences;
 mod draft;
 mod known;
 mod laying;

@@ -1,10 +1,10 @@
 //! A shortener of lists one after another.
-ghost use Rattle.std.specs.Prelude.{◌≡◌, ◌≤◌, ◌⊎◌, All, IfOk, IfSome, MatchResult, length};
+ghost use Rattle.std.specs.Prelude.{◌≡◌, ◌≤◌, All, IfOk, IfSome, MatchResult, length};
 ghost use Rattle.field_boxes.specs.NamedRules.{IsNumberedBy, named_rules};
 ghost use Rattle.razor_base.specs.declared.limits.TheConstants.{MOST_ENTRIES, MOST_RULES};
 ghost use Rattle.ternary_words.specs.Limits.{IsSlotWidth};
 ghost use Rattle.ternary_words.specs.Views.{table_of};
-ghost use Rattle.rule_shortening.specs.Drafts.{AreFor, AreShortFor};
+ghost use Rattle.rule_shortening.specs.Drafts.{AreFor};
 ghost use Rattle.rule_shortening.specs.Shortened.{IsRefused, IsShortTable};
 
 use crate::checked::if_as_short;
@@ -12,28 +12,39 @@ use crate::draft::{has_room, in_full};
 use crate::known::Known;
 use crate::refusal::ShortenError;
 use crate::shortening::{shorten, table_for};
-use crate::trimming::trim;
+use crate::trimming::trim_for;
 use field_boxes::{Decisions, Rule};
 use razor_base::Memory;
 use std::alloc::Global;
-use table_steps::laws::parts;
 use ternary_words::{Entry, Table};
 
-/// Shortens lists one after another: a list that an edit changed gets the table of the list before, repaired.
+/// Shortens lists one after another: a list that an edit changed gets the table of a list before, repaired, which differs
+/// from that one in few entries and takes little time. That is the table to which an update [`began`](Shortener::begin)
+/// last, or, where the update was [`aborted`](Shortener::abort), the one before: so it stands in the memory.
 ///
-/// So its table differs from the one before in few entries, and takes little time. Repairs make tables longer than they
-/// need be: after 32 of them, or where a table has grown by a fiftieth, one is also made anew, and taken where the repaired
-/// one is longer by more than a hundredth.
+/// Repairs make tables longer than they need be. So after 32 of them, or where a table has grown by a fiftieth, one is made
+/// anew, and handed over where it is shorter by more than a hundredth. It shares little with the one in the memory, which
+/// may have no room for it: then [`Shortener::has_other`], and the next call hands over the repaired one.
 #[derive(Drop)]
 pub struct Shortener {
     alloc: Global,
-    known: Option<Known>,
+    settled: Option<Known>,
+    /// What an update goes to that began, and what was made last.
+    pending: Option<Known>,
+    made: Option<Known>,
+    has_other: bool,
 }
 
 impl Shortener {
     /// A shortener that has met no list.
     pub fn new(alloc: Global) -> Shortener {
-        Shortener { alloc, known: None }
+        Shortener {
+            alloc,
+            settled: None,
+            pending: None,
+            made: None,
+            has_other: false,
+        }
     }
 
     /// A table of the rules, with the promises of [`crate::shorten`].
@@ -53,20 +64,95 @@ impl Shortener {
             (λ e. IsRefused (named_rules names.now rules.now) limit e) }
         ensures names { IfOk result (λ table. table.names ≡ names.now) }
     {
-        let Some(known) = self.known.take() else {
-            return self.anew(rules, names, limit, slot);
-        };
-        let Some(table) = mended_table(self.alloc, &known, rules, names, limit, slot)? else {
-            return self.anew(rules, names, limit, slot);
-        };
-        if !known.is_due(table.entries.len()) {
-            self.known = known.followed(rules, &table.entries).ok();
+        self.settle();
+        if let Some(table) = self.rebuilt(rules, names, limit, slot) {
             return Ok(table);
         }
-        let anew = shorten(self.alloc, rules, names, limit, slot)?;
-        let table = chosen(table, anew);
-        self.known = Known::new(self.alloc, rules, &table.entries).ok();
-        Ok(table)
+        if let Some(table) = self.repaired(rules, names, limit, slot)? {
+            return Ok(table);
+        }
+        self.anew(rules, names, limit, slot)
+    }
+
+    /// Whether the table that was made last is one made anew, where the settled one can be repaired too.
+    pub fn has_other(&self) -> bool {
+        self.has_other
+    }
+
+    /// An update to the table that was made last has begun.
+    pub fn begin(&mut self) {
+        self.pending = self.made.take();
+    }
+
+    /// That update goes back.
+    pub fn abort(&mut self) {
+        self.pending = None;
+    }
+
+    /// The update that began is over.
+    fn settle(&mut self) {
+        if let Some(known) = self.pending.take() {
+            self.settled = Some(known);
+        }
+        self.made = None;
+        self.has_other = false;
+    }
+
+    /// Below how many entries a table that is made anew is worth it, where one is due.
+    fn due(&mut self) -> Option<usize> {
+        match &mut self.settled {
+            Some(known) => known.due(),
+            None => None,
+        }
+    }
+
+    /// A table that is made anew, where that is due and makes it shorter.
+    fn rebuilt(&mut self, rules: &[Rule], names: &Decisions, limit: u32, slot: u16) -> Option<Table>
+        requires few { length rules.now ≤ MOST_RULES }
+        requires numbered { All (IsNumberedBy names.now) rules.now }
+        requires limit { limit ≤ MOST_ENTRIES }
+        requires slot { ∥ IsSlotWidth slot ∥₁ }
+        ensures table { IfSome result (λ table. IsShortTable (named_rules names.now rules.now) limit slot (table_of table)) }
+        ensures names { IfSome result (λ table. table.names ≡ names.now) }
+    {
+        let below = self.due()?;
+        let Ok(table) = shorten(self.alloc, rules, names, limit, slot) else {
+            return None;
+        };
+        if table.entries.len() >= below {
+            return None;
+        }
+        let Ok(made) = Known::new(self.alloc, rules, &table.entries) else {
+            return None;
+        };
+        self.made = Some(made);
+        self.has_other = true;
+        Some(table)
+    }
+
+    /// The settled table, repaired; none where that isn't seen to be right, or above the limit.
+    fn repaired(
+        &mut self,
+        rules: &[Rule],
+        names: &Decisions,
+        limit: u32,
+        slot: u16,
+    ) -> Result<Option<Table>, Memory>
+        requires few { length rules.now ≤ MOST_RULES }
+        requires numbered { All (IsNumberedBy names.now) rules.now }
+        requires limit { limit ≤ MOST_ENTRIES }
+        requires slot { ∥ IsSlotWidth slot ∥₁ }
+        ensures table { IfOk result (λ made. IfSome made (λ table. IsShortTable (named_rules names.now rules.now) limit slot (table_of table))) }
+        ensures names { IfOk result (λ made. IfSome made (λ table. table.names ≡ names.now)) }
+    {
+        let Some(known) = &self.settled else {
+            return Ok(None);
+        };
+        let Some(table) = mended_table(self.alloc, known, rules, names, limit, slot)? else {
+            return Ok(None);
+        };
+        self.made = Some(known.followed(rules, &table.entries)?);
+        Ok(Some(table))
     }
 
     /// The table that [`crate::shorten`] makes.
@@ -87,20 +173,8 @@ impl Shortener {
         ensures names { IfOk result (λ table. table.names ≡ names.now) }
     {
         let table = shorten(self.alloc, rules, names, limit, slot)?;
-        self.known = Known::new(self.alloc, rules, &table.entries).ok();
+        self.made = Some(Known::new(self.alloc, rules, &table.entries)?);
         Ok(table)
-    }
-}
-
-/// The repaired table, or the one that is made anew where that is shorter by more than a hundredth.
-fn chosen(repaired: Table, anew: Table) -> Table
-    ensures { (result ≡ repaired) ⊎ (result ≡ anew) }
-{
-    let most = anew.entries.len().saturating_add(anew.entries.len() / 100);
-    if repaired.entries.len() > most {
-        anew
-    } else {
-        repaired
     }
 }
 
@@ -120,9 +194,10 @@ fn mended_table(
     ensures table { IfOk result (λ made. IfSome made (λ table. IsShortTable (named_rules names.now rules.now) limit slot (table_of table))) }
     ensures names { IfOk result (λ made. IfSome made (λ table. table.names ≡ names.now)) }
 {
-    let Some(entries) = mended(alloc, known, rules, names)? else {
+    let Some(mended) = mended(alloc, known, rules, names)? else {
         return Ok(None);
     };
+    let entries = trim_for(alloc, rules, names, mended)?;
     if entries.len() > limit as usize {
         return Ok(None);
     }
@@ -138,9 +213,8 @@ fn mended(
 ) -> Result<Option<Vec<Entry>>, Memory>
     requires few { length rules.now ≤ MOST_RULES }
     requires numbered { All (IsNumberedBy names.now) rules.now }
-    ensures { IfOk result (λ made. IfSome made (λ entries. AreShortFor (length names.now) rules.now entries.items)) }
+    ensures { IfOk result (λ made. IfSome made (λ entries. AreFor (length names.now) rules.now entries.items)) }
 {
-    parts();
     if !has_room(rules, 0) {
         return Ok(None);
     }
@@ -151,5 +225,5 @@ fn mended(
     let Some(seen) = if_as_short(alloc, list.as_slice(), new, names.count())? else {
         return Ok(None);
     };
-    Ok(Some(trim(alloc, seen)?))
+    Ok(Some(seen))
 }

@@ -13,13 +13,12 @@ use crate::draft::{drafted, in_full};
 use crate::laying::Laying;
 use crate::refusal::ShortenError;
 use crate::searching::searched;
-use crate::trimming::trim;
+use crate::trimming::trim_for;
 use field_boxes::{Decisions, Rule};
 use razor_base::Memory;
 use rule_expansion::entry_count;
 use rule_expansion::laws::{decided_words_are_entries, expansion_answers, names_count_alike};
 use std::alloc::Global;
-use table_steps::laws::parts;
 use ternary_words::{Entry, Table};
 
 /// The short table of the rules, which decides every header as they do, for slots of `slot` trits (104, 144 or 288).
@@ -75,10 +74,9 @@ fn short_entries(
     let Some(entries) = begun(alloc, rules, names, limit, &mut laying)? else {
         return Ok(None);
     };
-    parts();
     let start = laying.all(rules)?;
     let entries = searched(alloc, entries, start.as_slice(), names.count())?;
-    Ok(Some(trim(alloc, entries)?))
+    Ok(Some(trim_for(alloc, rules, names, entries)?))
 }
 
 /// Entries for the rules to begin with; none only where the direct expansion has more entries than the limit.

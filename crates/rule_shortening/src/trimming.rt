@@ -1,9 +1,11 @@
 //! Tables without their redundant entries, by covers.
-ghost use Rattle.std.specs.Prelude.{IfOk, IfSome};
+ghost use Rattle.std.specs.Prelude.{IfOk, IfSome, length};
 ghost use Rattle.redundancy_laws.specs.Built.{ArePrefixes};
+ghost use Rattle.rule_shortening.specs.Drafts.{AreFor, AreShortFor};
 ghost use Rattle.rule_shortening.specs.Trimmed.{AreTrimmed};
 
 use crate::checked::STEPS;
+use field_boxes::{Decisions, Rule};
 use razor_base::Memory;
 use redundancy::remove;
 use std::alloc::Global;
@@ -28,6 +30,20 @@ pub fn trim(alloc: Global, entries: Vec<Entry>) -> Result<Vec<Entry>, Memory>
         Some(kept) => Ok(kept),
         None => remove(alloc, entries),
     }
+}
+
+/// Entries that stand for the rules, without the redundant ones.
+pub(crate) fn trim_for(
+    alloc: Global,
+    _rules: &[Rule],
+    _names: &Decisions,
+    entries: Vec<Entry>,
+) -> Result<Vec<Entry>, Memory>
+    requires { AreFor (length _names.now) _rules.now entries.items }
+    ensures { IfOk result (λ kept. AreShortFor (length _names.now) _rules.now kept.items) }
+{
+    parts();
+    Ok(trim(alloc, entries)?)
 }
 
 /// The table without the entries that are seen to be redundant; none where it isn't seen that each of the others is needed.

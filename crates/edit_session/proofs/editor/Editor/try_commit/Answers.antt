@@ -5,29 +5,18 @@ use Rattle.edit_session.specs.Editing.{Editing}
 use Rattle.edit_session.specs.Lists.{Listed}
 use Rattle.edit_session.specs.Machine.{IsCommit, IsTableFor, SessionState}
 use Rattle.edit_session.specs.Methods.{Method, method_of}
-use Rattle.edit_session.proofs.Begun.{busy-commit, busy-exactly, make-refused, copy-refused, idle-still, same-session, session_by}
-use Rattle.edit_session.proofs.editor.Editor.commit.Goals as goal
+use Rattle.edit_session.proofs.Begun.{busy-commit, make-refused, copy-refused, idle-still, same-session, session_by}
+use Rattle.edit_session.proofs.editor.Editor.try_commit.Goals as goal
 
 pub returns-then-is_some-clause-commit : goal.returns-then-is_some-clause-commit
 returns-then-is_some-clause-commit g c =
     let some : is_some (stage c.self.inside.swapper.state) ≡ true = search rules in
     busy-commit c.args.self.now.session _ some (ap (λ (v : Editing g.row.V.Denot). v.session) c.self.view_is)
 
-pub returns-then-is_some-clause-busy : goal.returns-then-is_some-clause-busy
-returns-then-is_some-clause-busy g c =
-    let some : is_some (stage c.self.inside.swapper.state) ≡ true = search rules in
-    busy-exactly c.args.self.now.session c.args.self.now.session _ (busy-commit c.args.self.now.session _ some (ap (λ (v : Editing g.row.V.Denot). v.session) c.self.view_is))
-
 pub returns-in_err-rules-clause-commit : goal.returns-in_err-rules-clause-commit
 returns-in_err-rules-clause-commit g c =
     let none : is_some (stage c.self.inside.swapper.state) ≡ false = search rules in
     copy-refused c.args.self.now.session _ c.from_residual.result c.from_residual.ensures.1 none (ap (λ (v : Editing g.row.V.Denot). v.session) c.self.view_is)
-
-pub returns-in_err-rules-clause-busy : goal.returns-in_err-rules-clause-busy
-returns-in_err-rules-clause-busy g c =
-    let none : is_some (stage c.self.inside.swapper.state) ≡ false = search rules in
-    busy-exactly c.args.self.now.session c.args.self.now.session c.from_residual.result
-    (copy-refused c.args.self.now.session _ c.from_residual.result c.from_residual.ensures.1 none (ap (λ (v : Editing g.row.V.Denot). v.session) c.self.view_is))
 
 pub returns-in_err-table-clause-commit : goal.returns-in_err-table-clause-commit
 returns-in_err-table-clause-commit g c =
@@ -39,12 +28,6 @@ returns-in_err-table-clause-commit g c =
     let now = ap (λ (m : Method). session_by e.list e.swapper.state e.swapper.copies m g.T.Replaced.way e.slot e.limit) c.in_err-table.ensures.method ∙ same in
     subst (λ (x : SessionState). IsCommit s x r) (sym now) (make-refused s _ _ r c.from_residual-in_err-table.ensures.1 none c.in_err-table.ensures.refused same)
 
-pub returns-in_err-table-clause-busy : goal.returns-in_err-table-clause-busy
-returns-in_err-table-clause-busy g c =
-    let none : is_some (stage c.self.inside.swapper.state) ≡ false = search rules in
-    busy-exactly c.args.self.now.session c.args.self.now.session c.from_residual-in_err-table.result
-    (make-refused c.args.self.now.session _ _ c.from_residual-in_err-table.result c.from_residual-in_err-table.ensures.1 none c.in_err-table.ensures.refused (ap (λ (v : Editing g.row.V.Denot). v.session) c.self.view_is))
-
 pub returns-in_err-copy-clause-commit : goal.returns-in_err-copy-clause-commit
 returns-in_err-copy-clause-commit g c =
     let none : is_some (stage c.self.inside.swapper.state) ≡ false = search rules in
@@ -54,12 +37,6 @@ returns-in_err-copy-clause-commit g c =
     let now = same-session e.list c.settle.new.self (method_of e.maker) (method_of c.table.new.self) e.swapper.state e.swapper.copies g.T.Replaced.way e.slot e.limit c.in_err-copy.ensures.same c.in_ok-table.ensures.method
     ∙ ap (λ (v : Editing g.row.V.Denot). v.session) c.self.view_is in
     subst (λ (x : SessionState). IsCommit s x r) (sym now) (copy-refused s _ r c.from_residual-in_err-copy.ensures.1 none now)
-
-pub returns-in_err-copy-clause-busy : goal.returns-in_err-copy-clause-busy
-returns-in_err-copy-clause-busy g c =
-    let none : is_some (stage c.self.inside.swapper.state) ≡ false = search rules in
-    busy-exactly c.args.self.now.session c.args.self.now.session c.from_residual-in_err-copy.result
-    (copy-refused c.args.self.now.session _ c.from_residual-in_err-copy.result c.from_residual-in_err-copy.ensures.1 none (ap (λ (v : Editing g.row.V.Denot). v.session) c.self.view_is))
 
 pub begin-requires-clause-idle : goal.begin-requires-clause-idle
 begin-requires-clause-idle g c =
@@ -82,11 +59,3 @@ returns-clause-commit g c =
     let now = same-session e.list c.settle.new.self (method_of e.maker) (method_of c.table.new.self) e.swapper.state e.swapper.copies g.T.Replaced.way e.slot e.limit c.in_ok-copy.ensures.same c.in_ok-table.ensures.method
     ∙ ap (λ (v : Editing g.row.V.Denot). v.session) c.self.view_is in
     subst (λ (x : SessionState). IsCommit x c.begin.new.self.session c.begin.result) now c.begin.ensures.commit
-
-pub returns-clause-busy : goal.returns-clause-busy
-returns-clause-busy g c =
-    let e = c.self.inside in
-    let now = same-session e.list c.settle.new.self (method_of e.maker) (method_of c.table.new.self) e.swapper.state e.swapper.copies g.T.Replaced.way e.slot e.limit c.in_ok-copy.ensures.same c.in_ok-table.ensures.method
-    ∙ ap (λ (v : Editing g.row.V.Denot). v.session) c.self.view_is in
-    busy-exactly c.args.self.now.session c.begin.new.self.session c.begin.result
-    (subst (λ (x : SessionState). IsCommit x c.begin.new.self.session c.begin.result) now c.begin.ensures.commit)
