@@ -29,7 +29,7 @@
 //! | `widening`, `candidates`, `judging`, `gaining`, `groups` | entries that are widened, and what is gained |
 //! | `exceptions`, `against`, `lifting` | what must stand in front of a wider cube |
 //! | `windows`, `hashes`, `known` | small windows arranged anew, and what was tried before |
-//! | `repair`, `saying`, `mending` | a table repaired where its list was edited |
+//! | `repair`, `saying`, `mending`, `placing` | a table repaired where its list was edited |
 //! | `effort`, `draws`, `rows` | how much is tried, the numbers that are drawn, and rows of entries |
 #![tactic(auto)]
 
@@ -46,6 +46,7 @@ mod known;
 mod layout;
 mod lifting;
 mod mending;
+mod placing;
 mod repair;
 mod rounds;
 mod rows;

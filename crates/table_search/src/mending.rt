@@ -1,6 +1,7 @@
 //! A table with new rows, made shorter by local steps that leave the other rows where they are.
 
 use crate::effort::{REPAIR_REACH, REPAIR_ROUNDS};
+use crate::placing::{Placed, spread};
 use crate::rows::{entries_of, push_rows};
 use crate::search::Search;
 use entry_index::{Cube, Row, Table};
@@ -51,9 +52,21 @@ impl Mending {
         self.sink()
     }
 
-    /// The entries as they are now.
+    /// The entries as they are now, the new ones spread over the places where they may stand.
     pub fn entries(&self) -> Result<Vec<Entry>, Memory> {
-        entries_of(self.alloc, &self.table.rows(self.alloc)?)
+        let mut placed = Vec::with_capacity(self.alloc, self.table.len())?;
+        for id in &self.table.ids(self.alloc)? {
+            placed.push(Placed {
+                row: self.table.row(*id),
+                is_new: self.is_new(*id),
+            })?;
+        }
+        spread(&mut placed)?;
+        let mut rows = Vec::with_capacity(self.alloc, placed.len())?;
+        for one in &placed {
+            rows.push(one.row)?;
+        }
+        entries_of(self.alloc, &rows)
     }
 
     /// Whether the row with the id is new.
