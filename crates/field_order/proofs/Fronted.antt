@@ -12,7 +12,8 @@ use Rattle.node_store.proofs.Canonical.{in_use, leads_on}
 use Rattle.node_store.proofs.Growth as growth
 use Rattle.field_boxes.specs.Orders.{IsMissing, AreDistinct, Has}
 use Rattle.table_compose.proofs.Later.{inner_of}
-use Rattle.field_order.specs.Fronts.{Fits, without, IsFront, IsFrontEdge}
+use Rattle.field_order.specs.Fronts.{Fits, without, IsFront, IsFrontEdge, IsSample}
+use Rattle.field_order.proofs.Values.{put, put_fits, put_map, put_other, put_same}
 use Rattle.field_order.proofs.Without as left
 use Rattle.field_order.proofs.Zipped as zipped
 
@@ -83,41 +84,58 @@ module _ (n0 n1 : List Node) (id f g : ℕ) (rest : List ℕ) (s : IsStore n0) (
       zipped.each Fronts (λ a. level_of n0 a ≡ rest) (λ b. level_of n1 b ≡ f ∷ without f rest) (edges_of n0 id) es
       (λ a b e front. front.level ∙ ap (λ l. f ∷ without f l) (child_level a e)) children_at zip
 
+  used : id < length n0
+  used = in_use n0 id (g ∷ rest) is at
+
+  below : (f v : ℕ) → v < 2 ^ width f → v ≤ greatest_of f
+  below f v h = omega (arith, h)
+
+  -- from the front of a child, the field's value leads on as from the node
+  reached : (n : List Node) → Grows n0 n → (h : ℕ → ℕ) → Fits h → answer n1 (child_of (edges_of n1 (child_of es (h g))) (h f)) (map h (without f rest)) ≡ answer n id (map h (g ∷ rest))
+  reached n grown h fits =
+      let u = h g in
+      let small = below g u (fits g) in
+      let child = child_of (edges_of n0 id) u in
+      let on = leads_on n0 id u s (subst HasField (sym at) field) (subst (λ l. u ≤ top_of l) (sym at) small) in
+      let child_at : level_of n0 child ≡ rest = on.1 ∙ ap next_level at in
+      let front : IsFront n1 child f (child_of es u) = zipped.comes Fronts (greatest_of g) u (edges_of n0 id) es inner.full zip small in
+      let later = child_level child child_at in
+      ap (λ l. answer n1 (child_of es u) (map h (f ∷ without f l))) (sym later)
+      ∙ front.answers h fits
+      ∙ ap (λ l. answer n1 child (map h l)) later
+      ∙ g01.answers child (map h rest) (omega (arith, on.0, used))
+      ∙ sym (grown.answers id (map h (g ∷ rest)) used)
+
+  -- a sample of the rows answers as the node where the field has the value
+  pub sampled : (n2 n : List Node) → Grows n0 n → Grows n2 n → (e : Edge) → IsSample n1 n2 (g ∷ without f rest) f es e → e.hi < 2 ^ width f → (h : ℕ → ℕ) → Fits h →
+      answer n e.to.0 (map h (g ∷ without f rest)) ≡ answer n id (map (put f e.hi h) (g ∷ rest))
+  sampled n2 n g0 g2 e sample small h fits =
+      let v = e.hi in
+      let k = put f v h in
+      let others = without f rest in
+      let stands = in_use n2 e.to.0 (g ∷ others) cross.upper.1 sample.level_is in
+      g2.answers e.to.0 (map h (g ∷ others)) stands
+      ∙ sample.answers (h g) (map h others) (below g (h g) (fits g))
+      ∙ ap (λ u. answer n1 (child_of (edges_of n1 (child_of es u)) v) (map h others)) (sym (put_other f v g h cross.other))
+      ∙ ap (λ x. answer n1 (child_of (edges_of n1 (child_of es (k g))) x) (map h others)) (sym (put_same f v h))
+      ∙ ap (answer n1 (child_of (edges_of n1 (child_of es (k g))) (k f))) (sym (put_map f v h others (left.missing f rest)))
+      ∙ reached n g0 k (put_fits f v h small fits)
+
   -- the node that has the rows as its edges
   module _ (n2 n3 : List Node) (rows : List Edge) (made : ℕ) (g12 : Grows n1 n2) (g23 : Grows n2 n3)
       (answers : (v u : ℕ) (values : List ℕ) → v ≤ greatest_of f → u ≤ greatest_of g → answer n2 (child_of rows v) (u ∷ values) ≡ answer n1 (child_of (edges_of n1 (child_of es u)) v) values)
       (made_answers : (v : ℕ) (values : List ℕ) → v ≤ greatest_of f → answer n3 made (v ∷ values) ≡ answer n2 (child_of rows v) values)
       (made_level : level_of n3 made ≡ f ∷ g ∷ without f rest) where
-    used : id < length n0
-    used = in_use n0 id (g ∷ rest) is at
-
     g03 : Grows n0 n3
     g03 = growth.twice n0 n1 n3 g01 (growth.twice n1 n2 n3 g12 g23)
 
     now : level_of n3 id ≡ g ∷ rest
     now = growth.level_kept n0 n3 id g03 used ∙ at
 
-    below : (f v : ℕ) → v < 2 ^ width f → v ≤ greatest_of f
-    below f v h = omega (arith, h)
-
     same : (h : ℕ → ℕ) → Fits h → answer n3 made (map h (f ∷ g ∷ without f rest)) ≡ answer n3 id (map h (g ∷ rest))
     same h fits =
-        let v = h f in
-        let u = h g in
-        let low = below f v (fits f) in
-        let small = below g u (fits g) in
-        let child = child_of (edges_of n0 id) u in
-        let on = leads_on n0 id u s (subst HasField (sym at) field) (subst (λ l. u ≤ top_of l) (sym at) small) in
-        let child_at : level_of n0 child ≡ rest = on.1 ∙ ap next_level at in
-        let front : IsFront n1 child f (child_of es u) = zipped.comes Fronts (greatest_of g) u (edges_of n0 id) es inner.full zip small in
-        let later = child_level child child_at in
-        made_answers v (map h (g ∷ without f rest)) low
-        ∙ answers v u (map h (without f rest)) low small
-        ∙ ap (λ l. answer n1 (child_of es u) (map h (f ∷ without f l))) (sym later)
-        ∙ front.answers h fits
-        ∙ ap (λ l. answer n1 child (map h l)) later
-        ∙ g01.answers child (map h rest) (omega (arith, on.0, used))
-        ∙ sym (g03.answers id (map h (g ∷ rest)) used)
+        let low = below f (h f) (fits f) in
+        made_answers (h f) (map h (g ∷ without f rest)) low ∙ answers (h f) (h g) (map h (without f rest)) low (below g (h g) (fits g)) ∙ reached n3 g03 h fits
 
     pub crossed : IsFront n3 id f made
     crossed =

@@ -5,6 +5,7 @@ pub mod Without
 pub mod Values
 pub mod Parts
 pub mod NodeParts
+pub mod Narrowed
 pub mod Passed
 pub mod Kept
 pub mod Stays
@@ -12,7 +13,9 @@ pub mod Zipped
 pub mod Rows
 pub mod Blocks
 pub mod Fronted
+pub mod Sampled
 pub mod Steps
 pub mod Weighed
 pub mod Rearranged
+pub mod Digits
 pub mod Roots

@@ -1,10 +1,10 @@
 -- From what the parts of a node by a field cost to what the node costs.
-use Rattle.std.proofs.Common.{◌≡◌, ◌∷◌, ℕ, zero, suc, List, [], ◌-◌, ◌*◌, ◌<◌, ◌≤◌, ◌^◌, length, map, ap, arith, refl, sym, ◌∙◌, subst}
+use Rattle.std.proofs.Common.{◌≡◌, ◌∷◌, ℕ, zero, suc, List, [], ◌*◌, ◌<◌, ◌≤◌, ◌^◌, length, map, ap, arith, refl, sym, ◌∙◌, subst}
 use Rattle.std.proofs.lemmas.Slice.Zip.{AllZip-long}
 use Rattle.std.specs.Prelude.{Some, option_map, slice_get, slice_index, sum}
 use Rattle.std.specs.List.{AllZip}
 use Rattle.std.proofs.lemmas.Nat.{pow_pos}
-use Rattle.std.proofs.lemmas.Option.{none-some, same_Some}
+use Rattle.std.proofs.lemmas.Option.{none-some, same_Some, slice_get_within}
 use Rattle.std.proofs.lemmas.List.Elements.{All-map, All-weaker}
 use Rattle.std.proofs.Math.Pow.{pow_mono}
 use Rattle.field_boxes.specs.Headline.Fields.{width}
@@ -36,7 +36,7 @@ use Rattle.field_order.specs.Fronts.{Fits, without, IsFront}
 use Rattle.field_order.specs.Worth.{IsRearranged, IsCostBy, IsAtLeast, IsExact, answer_by}
 use Rattle.field_order.proofs.Without.{parted, missing, order_missing, order_distinct, distinct as left_distinct}
 use Rattle.field_order.proofs.Values.{put, put_fits, put_same, put_map, assigned, assigned_fits, assigned_map}
-use Rattle.field_order.proofs.Parts.{parts_cost, parts_bound}
+use Rattle.field_order.proofs.Parts.{parts_cost, some_parts}
 
 -- what goes with the item at a place
 zip_at : {X : Type 0} (R : X → ℕ → Type 0) (xs : List X) (ys : List ℕ) (k : ℕ) (x : X) → AllZip R xs ys → slice_get xs k ≡ Some x → R x (slice_index ys k)
@@ -44,6 +44,13 @@ zip_at R [] ys k x z h = absurd (none-some x h)
 zip_at R (y ∷ xs) [] k x z h = absurd z
 zip_at R (y ∷ xs) (n ∷ ys) zero x z h = subst (λ w. R w n) (same_Some y x h) z.0
 zip_at R (y ∷ xs) (n ∷ ys) (suc k) x z h = zip_at R xs ys k x z.1 h
+
+-- what follows of each item and what goes with it
+pub zip_more : {X : Type 0} (R S : X → ℕ → Type 0) (xs : List X) (ys : List ℕ) → ((k : ℕ) (x : X) (y : ℕ) → slice_get xs k ≡ Some x → R x y → S x y) → AllZip R xs ys → AllZip S xs ys
+zip_more R S [] [] by z = tt
+zip_more R S [] (y ∷ ys) by z = absurd z
+zip_more R S (x ∷ xs) [] by z = absurd z
+zip_more R S (x ∷ xs) (y ∷ ys) by z = (by 0 x y refl z.0, zip_more R S xs ys (λ k a b at r. by (suc k) a b at r) z.1)
 
 -- a row for each value is right
 right_singles : (w : ℕ) (lab : ℕ → ℕ) (Costs : ℕ → ℕ → Type 0) (most : ℕ) (plan : List Choice) → AreSingles w Costs most (2 ^ w) plan → IsRight w lab (rows_of lab plan)
@@ -115,12 +122,32 @@ module _ (nodes : List Node) (s : IsStore nodes) (id f F : ℕ) (front : IsFront
       subst (λ l. P (λ h. answer nodes (child v) (map h l)) n) (child_level v small)
       (subst (λ k. P (λ h. answer nodes k (map h (level_of nodes k))) n) c.2 here)
 
+  -- a value's part is where it leads
+  abbrev IsPart : NodeId → ℕ → Type 0
+  IsPart c v = (v < 2 ^ width f) × (c.0 ≡ child v)
+
+  one_part : (c d : NodeId) (v u : ℕ) → IsPart c v → IsPart d u → ((h : ℕ → ℕ) → Fits h → parts v h ≡ parts u h) → c ≡ d
+  one_part c d v u a b same = ap (λ (n : ℕ). let r : NodeId = record { 0 = n } in r) (a.1 ∙ same_child v u a.0 b.0 same ∙ sym b.1)
+
+  bounded : (k : ℕ) (c : NodeId) (n : ℕ) → slice_get (children_of (edges_of nodes F)) k ≡ Some c → IsAtLeast p (answer_by nodes (level_of nodes c.0) c.0) n → (v : ℕ) × IsPart c v × IsAtLeast p (parts v) n
+  bounded k c n at low =
+      let u = used k (slice_get_within (children_of (edges_of nodes F)) k c at) in
+      let d = labelled u.0 u.1 in
+      let same : c ≡ d.0 = same_Some c d.0 (sym at ∙ ap (slice_get (children_of (edges_of nodes F))) (sym u.2) ∙ d.1) in
+      let here : c.0 ≡ child u.0 = ap (λ (x : NodeId). x.0) same ∙ d.2 in (
+        u.0,
+        (u.1, here),
+        subst (λ l. IsAtLeast p (λ h. answer nodes (child u.0) (map h l)) n) (child_level u.0 u.1)
+            (subst (λ x. IsAtLeast p (λ h. answer nodes x (map h (level_of nodes x))) n) here low),
+      )
+
   pub bound : (lows : List ℕ) → AllZip (λ (c : NodeId) n. IsAtLeast p (answer_by nodes (level_of nodes c.0) c.0) n) (children_of (edges_of nodes F)) lows →
       IsAtLeast (f ∷ p) (answer_by nodes (level_of nodes id) id) (sum lows)
   bound lows z =
-      let long = AllZip-long (λ (c : NodeId) n. IsAtLeast p (answer_by nodes (level_of nodes c.0) c.0) n) (children_of (edges_of nodes F)) lows z in
-      parts_bound f p (order_missing f p rest order (missing f (level_of nodes id))) (order_distinct p rest order) (answer_by nodes (level_of nodes id) id) parts (label_at pieces) at alike apart_parts
-      lows (λ k less. used k (omega (arith, less, long))) (moved (IsAtLeast p) lows z)
+      some_parts f p (order_missing f p rest order (missing f (level_of nodes id))) (order_distinct p rest order) (answer_by nodes (level_of nodes id) id) parts at IsPart (λ c v is. is.0) one_part
+      (children_of (edges_of nodes F)) lows (zip_more (λ (c : NodeId) n. IsAtLeast p (answer_by nodes (level_of nodes c.0) c.0) n) (λ c n. (v : ℕ) × IsPart c v × IsAtLeast p (parts v) n)
+      (children_of (edges_of nodes F)) lows bounded z)
+      (λ i j c a b. once (edges_of nodes F) i j c c a b refl)
 
   pub follows : Follow (length (children_of (edges_of nodes F))) 0 pieces
   follows = follow (children_of (edges_of nodes F)) (greatest_of f) 0 (edges_of nodes F) pieces (node.rise nodes s F f rest front.field front.level inner.full pieces are) are
@@ -163,7 +190,7 @@ module _ (nodes : List Node) (s : IsStore nodes) (id f F : ℕ) (front : IsFront
         let least = minimal.least (rows_of (label_at pieces) each.0) (right_singles (width f) (label_at pieces) Costs most each.0 each.1) in
         let cost = weight-rows (label_at pieces) weights each.0 each.1.costs in
         record {
-          least = parts_cost f p (order_missing f p rest order (missing f (level_of nodes id))) (order_distinct p rest order) (answer_by nodes (level_of nodes id) id) parts (label_at pieces) at alike apart_parts
+          least = parts_cost f p (order_missing f p rest order (missing f (level_of nodes id))) (order_distinct p rest order) (answer_by nodes (level_of nodes id) id) parts at (label_at pieces) alike apart_parts
               weights rows n (λ v small. (exact_at v small).0)
               (record {
                 right = minimal.right;

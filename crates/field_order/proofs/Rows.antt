@@ -15,7 +15,7 @@ use Rattle.node_store.proofs.Canonical.{chosen, in_use, is_level, leads_on}
 use Rattle.node_store.proofs.Growth as growth
 use Rattle.fdd_build.specs.Sets.{FillBelow}
 use Rattle.fdd_build.proofs.Fills.{leads_after_push}
-use Rattle.field_order.specs.Fronts.{IsCell}
+use Rattle.field_order.specs.Fronts.{IsCell, IsSample}
 use Rattle.field_order.proofs.Zipped as zipped
 
 -- as many values, or fewer
@@ -60,6 +60,20 @@ child_in nodes level (suc top) v es fill lead h = chosen (λ n. level_of nodes n
 
 module _ (first old new : List Node) (level : List ℕ) (f : ℕ) (side : List ℕ) (asked : ℕ → List ℕ → List ℕ) (es : List Edge) (has : HasField level) (field : HasField (f ∷ side)) (s : IsStore first)
     (full : AreFull (top_of level) es) (nodes : LeadTo first (f ∷ side) es) (g : Grows first old) (k : Grows old new) where
+  -- what a row's node answers, at each value of the row
+  pub row_answers : (low hi to : ℕ) (cells : List Edge) → hi ≤ greatest_of f → AllZip (IsCell old low hi) es cells →
+      ((u : ℕ) (values : List ℕ) → u ≤ top_of level → answer new to (u ∷ values) ≡ answer old (child_of cells u) (asked u values)) →
+      (v u : ℕ) (values : List ℕ) → low ≤ v → v ≤ hi → u ≤ top_of level → answer new to (u ∷ values) ≡ answer first (child_of (edges_of first (child_of es u)) v) (asked u values)
+  row_answers low hi to cells high cell made v u values late within inside =
+      let node = child_of es u in
+      let there : level_of first node ≡ f ∷ side = chosen (λ m. level_of first m ≡ f ∷ side) (top_of level) 0 es u (rise_of (top_of level) es full) inside nodes in
+      let used = in_use first node (f ∷ side) (is_level (f ∷ side) field) there in
+      let low_v : v ≤ greatest_of f = omega (arith, within, high) in
+      let older = (leads_on first node v s (subst HasField (sym there) field) (subst (λ l. v ≤ top_of l) (sym there) low_v)).0 in
+      made u values inside
+      ∙ ap (λ c. answer old c (asked u values)) (sym (row_leads old low hi (top_of level) u v es cells full cell inside late within) ∙ ap (λ ds. child_of ds v) (edges_kept first old node g used))
+      ∙ g.answers (child_of (edges_of first node) v) (asked u values) (omega (arith, older, used))
+
   -- what the rows so far answer, those up to one more value answer
   pub answers_more : (low hi n to : ℕ) (rows more cells : List Edge) → FillBelow low rows → LeadTo old level rows →
       ((v u : ℕ) (values : List ℕ) → v < low → u ≤ top_of level → answer old (child_of rows v) (u ∷ values) ≡ answer first (child_of (edges_of first (child_of es u)) v) (asked u values)) →
@@ -78,13 +92,14 @@ module _ (first old new : List Node) (level : List ℕ) (f : ℕ) (side : List �
             ∙ before v u values early inside
         | inr late ↦
             let here : child_of more v ≡ to = at ∙ ap (λ b. cond b (child_of rows v) to) (le-ltb v low late) in
-            let node = child_of es u in
-            let there : level_of first node ≡ f ∷ side = chosen (λ m. level_of first m ≡ f ∷ side) (top_of level) 0 es u (rise_of (top_of level) es full) inside nodes in
-            let used = in_use first node (f ∷ side) (is_level (f ∷ side) field) there in
-            let low_v : v ≤ greatest_of f = omega (arith, less, count, high) in
-            let older = (leads_on first node v s (subst HasField (sym there) field) (subst (λ l. v ≤ top_of l) (sym there) low_v)).0 in
-            ap (λ c. answer new c (u ∷ values)) here
-            ∙ made u values inside
-            ∙ ap (λ c. answer old c (asked u values)) (sym (row_leads old low hi (top_of level) u v es cells full cell inside late (omega (arith, less, count))) ∙ ap (λ ds. child_of ds v) (edges_kept first old node g used))
-            ∙ g.answers (child_of (edges_of first node) v) (asked u values) (omega (arith, older, used))
+            ap (λ c. answer new c (u ∷ values)) here ∙ row_answers low hi to cells high cell made v u values late (omega (arith, less, count)) inside
       ]
+
+-- a sample stays one
+pub sample_kept : (first old new : List Node) (level : List ℕ) (f : ℕ) (es : List Edge) (e : Edge) → HasField level → Grows old new → IsSample first old level f es e → IsSample first new level f es e
+sample_kept first old new level f es e has g s =
+    let used = in_use old e.to.0 level (is_level level has) s.level_is in record {
+      inside = s.inside;
+      level_is = growth.level_kept old new e.to.0 g used ∙ s.level_is;
+      answers = λ u values inside. g.answers e.to.0 (u ∷ values) used ∙ s.answers u values inside;
+    }

@@ -52,13 +52,13 @@ module _ (old new : List Node) (g : Grows old new) where
 
   pub exact : (order : List ℕ) (id n : ℕ) → id < length old → IsExact old order id n → IsExact new order id n
   exact order id n used is = record {
-    least = cost_alike order (answer_by old (level_of old id) id) (answer_by new (level_of new id) id) (same_answers id used) n is.least;
+    least = cost_alike order (answer_by old (level_of old id) id) (answer_by new (level_of new id) id) (λ h fits. same_answers id used h) n is.least;
     few = subst (λ l. n ≤ 2 ^ bits_of l) (sym (level id used)) is.few;
   }
 
   pub worth : (order : List ℕ) (id : ℕ) (w : Worth) → id < length old → IsWorth old order id w → IsWorth new order id w
   worth order id (Is n) used is = exact order id n used is
-  worth order id (Above n) used is = least_alike order (answer_by old (level_of old id) id) (answer_by new (level_of new id) id) (same_answers id used) (n + 1) is
+  worth order id (Above n) used is = least_alike order (answer_by old (level_of old id) id) (answer_by new (level_of new id) id) (λ h fits. same_answers id used h) (n + 1) is
 
   pub kept : (key : Valued) (w : Worth) → IsKept old key w → IsKept new key w
   kept key w is = record {

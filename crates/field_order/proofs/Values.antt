@@ -30,7 +30,7 @@ put_same f v h = elim (eqb_tells f f) [
   | inr t ↦ absurd (t.1 refl)
 ]
 
-put_other : (f v k : ℕ) (h : ℕ → ℕ) → k ≢ f → put f v h k ≡ h k
+pub put_other : (f v k : ℕ) (h : ℕ → ℕ) → k ≢ f → put f v h k ≡ h k
 put_other f v k h other = elim (eqb_tells k f) [
   | inl t ↦ absurd (other t.1)
   | inr t ↦ ap (λ b. cond b v (h k)) t.0

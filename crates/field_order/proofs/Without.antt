@@ -164,3 +164,38 @@ more_left f level i d h same = elim (eqb_tells (get_or level i d) f) [
   | inl t ↦ one_more f level i d h ∙ ap (λ b. cond b (without f (take i level)) (without f (take i level) ++ get_or level i d ∷ [])) t.0
   | inr t ↦ absurd (t.1 same)
 ]
+
+-- two fields left out in either order
+out_step : (f g : ℕ) (a b : Bool) (x : ℕ) (level : List ℕ) → nat_eq x g ≡ a → nat_eq x f ≡ b → without f (without g level) ≡ without g (without f level) →
+    without f (cond a (without g level) (x ∷ without g level)) ≡ without g (cond b (without f level) (x ∷ without f level))
+out_step f g true true x level p q e = e
+out_step f g true false x level p q e = e ∙ sym (ap (λ t. cond t (without g (without f level)) (x ∷ without g (without f level))) p)
+out_step f g false true x level p q e = ap (λ t. cond t (without f (without g level)) (x ∷ without f (without g level))) q ∙ e
+out_step f g false false x level p q e =
+    ap (λ t. cond t (without f (without g level)) (x ∷ without f (without g level))) q ∙ ap (λ l. x ∷ l) e
+    ∙ sym (ap (λ t. cond t (without g (without f level)) (x ∷ without g (without f level))) p)
+
+either : (f g : ℕ) (level : List ℕ) → without f (without g level) ≡ without g (without f level)
+either f g [] = refl
+either f g (x ∷ level) = out_step f g (nat_eq x g) (nat_eq x f) x level refl refl (either f g level)
+
+-- a field of the level is one of each order of it
+pub order_has : (g : ℕ) (order level : List ℕ) → IsRearranged order level → Has g level → Has g order
+order_has g [] level r has = subst (Has g) r has
+order_has g (f ∷ order) level r has = elim (eqb_tells f g) [
+  | inl t ↦ inl t.1
+  | inr t ↦ inr (order_has g order (without f level) r.1 (has_other g f level (λ e. t.1 (sym e)) has))
+]
+
+-- with a field left out of both, an order is one of the level
+pub order_without : (g : ℕ) (order level : List ℕ) → IsRearranged order level → IsRearranged (without g order) (without g level)
+order_without g [] level r = ap (without g) r
+order_without g (f ∷ order) level r = elim (eqb_tells f g) [
+  | inl t ↦
+      let same : without g (without f level) ≡ without g level = ap (λ k. without g (without k level)) t.1 ∙ none g (without g level) (missing g level) in
+      subst (λ o. IsRearranged o (without g level)) (sym (ap (λ b. cond b (without g order) (f ∷ without g order)) t.0))
+      (subst (IsRearranged (without g order)) same (order_without g order (without f level) r.1))
+  | inr t ↦
+      subst (λ o. IsRearranged o (without g level)) (sym (there g f order t.1))
+      (has_other f g level t.1 r.0, subst (IsRearranged (without g order)) (sym (either f g level)) (order_without g order (without f level) r.1))
+]

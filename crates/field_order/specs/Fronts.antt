@@ -1,10 +1,11 @@
 -- Nodes with another field of their level in front.
-use Rattle.std.specs.Prelude.{◌≡◌, ◌⊎◌, ℕ, ◌<◌, ◌≤◌, ◌^◌, Bool, ◌&&◌, nat_eq, List, [], ◌∷◌, length, slice_index, slice_index_or, Some, map, if◌then◌else◌}
+use Rattle.std.specs.Prelude.{◌≡◌, ℕ, ◌<◌, ◌≤◌, ◌^◌, Bool, ◌&&◌, nat_eq, List, [], ◌∷◌, length, slice_index, slice_index_or, Some, map, if◌then◌else◌}
 use Rattle.std.specs.HashMap.{get}
 use Rattle.field_boxes.specs.Headline.Fields.{width}
+use Rattle.field_boxes.specs.Fields.{greatest_of}
 use Rattle.node_store.specs.declared.edge.NodeId.{NodeId}
 use Rattle.node_store.specs.declared.edge.Edge.{Edge}
-use Rattle.node_store.specs.Levels.{HasField, IsLevel}
+use Rattle.node_store.specs.Levels.{HasField, IsLevel, top_of}
 use Rattle.node_store.specs.Edges.{child_of}
 use Rattle.node_store.specs.Diagram.{Node, level_of, edges_of, answer}
 use Rattle.field_order.specs.declared.fronts.Asked.{Asked}
@@ -33,6 +34,12 @@ IsFrontEdge nodes f e d = (d.hi ≡ e.hi) × IsFront nodes e.to.0 f d.to.0
 -- an edge to where the values from lo to hi lead from the other edge's node
 abbrev pub IsCell : List Node → ℕ → ℕ → Edge → Edge → Type 0
 IsCell nodes lo hi e d = (d.hi ≡ e.hi) × ((v : ℕ) → lo ≤ v → v ≤ hi → child_of (edges_of nodes e.to.0) v ≡ d.to.0)
+
+-- an edge to a node of the level, which leads from each value of its field where the edges' node of that value leads from the value at which the edge ends
+pub record IsSample (old new : List Node) (level : List ℕ) (f : ℕ) (edges : List Edge) (e : Edge) : Type 0 where
+  pub inside : e.hi ≤ greatest_of f
+  pub level_is : level_of new e.to.0 ≡ level
+  pub answers : (u : ℕ) (values : List ℕ) → u ≤ top_of level → answer new e.to.0 (u ∷ values) ≡ answer old (child_of (edges_of old (child_of edges u)) e.hi) values
 
 -- all edges before the place end below the value
 abbrev pub ArePassed : List Edge → ℕ → ℕ → Type 0

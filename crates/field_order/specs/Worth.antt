@@ -1,15 +1,18 @@
 -- What functions of the fields' values cost, and what is known of it.
-use Rattle.std.specs.Prelude.{◌≡◌, ℕ, zero, suc, ◌+◌, ◌<◌, ◌≤◌, ◌^◌, ◌/◌, ◌%◌, Bool, ◌&&◌, nat_eq, List, [], ◌∷◌, length, Option, Some, None, map, sum}
+use Rattle.std.specs.Prelude.{◌≡◌, ℕ, zero, suc, ◌+◌, ◌<◌, ◌≤◌, ◌^◌, ◌/◌, ◌%◌, Bool, ◌&&◌, nat_eq, List, [], ◌∷◌, All, length, Option, Some, None, map, sum}
 use Rattle.std.specs.List.{AllZip}
 use Rattle.std.specs.Global.{Vec}
 use Rattle.std.specs.HashMap.{get}
 use Rattle.field_boxes.specs.Headline.Classifier.{Rule, source}
 use Rattle.node_store.specs.declared.edge.NodeId.{NodeId}
+use Rattle.node_store.specs.declared.edge.Edge.{Edge}
 use Rattle.node_store.specs.Levels.{bits_of}
 use Rattle.node_store.specs.Diagram.{Node, level_of, answer}
+use Rattle.node_store.specs.Store.{Grows}
 use Rattle.table_compose.specs.Headline.LeastCost.{IsLeastCost}
+use Rattle.table_compose.specs.Labels.{children_of}
 use Rattle.field_boxes.specs.Orders.{AreDistinct, Has}
-use Rattle.field_order.specs.Fronts.{Fits, without}
+use Rattle.field_order.specs.Fronts.{Fits, without, IsSample}
 use Rattle.field_order.specs.declared.worth.Worth.{Worth}
 use Rattle.field_order.specs.declared.worth.Worth.TheVariants.{Is, Above}
 use Rattle.field_order.specs.declared.worth.Valued.{Valued}
@@ -55,6 +58,10 @@ abbrev pub IsWorth : List Node → List ℕ → ℕ → Worth → Type 0
 IsWorth nodes order id (Is n) = IsExact nodes order id n
 IsWorth nodes order id (Above n) = IsAtLeast order (answer_by nodes (level_of nodes id) id) (n + 1)
 
+-- the node costs more than the cap in the order
+abbrev pub IsAbove : List Node → List ℕ → ℕ → NodeId → Type 0
+IsAbove nodes order cap id = IsWorth nodes order id.0 (Above cap)
+
 -- it settles whether the cost is above the cap, and what it is where it isn't
 abbrev pub Settles : ℕ → Worth → Type 0
 Settles cap (Is n) = Unit {0}
@@ -83,3 +90,13 @@ pub record IsKept (nodes : List Node) (key : Valued) (worth : Worth) : Type 0 wh
 -- all that is kept
 abbrev pub AreWorths : List Node → Worths → Type 0
 AreWorths nodes worths = (key : Valued) (worth : Worth) → get same_valued worths.known key ≡ Some worth → IsKept nodes key worth
+
+-- parts at some values of the field cost more than the cap together: they were made when the old store had grown, and it grew on to the new one
+pub record AreAbove (old new : List Node) (level : List ℕ) (f : ℕ) (edges : List Edge) (order : List ℕ) (cap : ℕ) : Type 0 where
+  pub first : List Node
+  pub made : List Node
+  pub samples : List Edge
+  pub begun : Grows old first
+  pub grows : Grows made new
+  pub are : All (IsSample first made level f edges) samples
+  pub above : AreWeights new order (children_of samples) cap None

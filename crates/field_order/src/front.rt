@@ -81,7 +81,7 @@ fn crossed(
 
 /// The edges of a node to the fronts of its children, which stand at the level.
 #[cycle(fronting)]
-fn front_edges(
+pub(crate) fn front_edges(
     alloc: Global,
     store: &mut Store,
     fronts: &mut Fronts,
@@ -110,7 +110,7 @@ fn front_edges(
 }
 
 /// The edges once more.
-fn copied(alloc: Global, edges: &[Edge]) -> Result<Edges, Memory>
+pub(crate) fn copied(alloc: Global, edges: &[Edge]) -> Result<Edges, Memory>
     ensures { IfOk result (λ copy. copy.items ≡ edges.now) }
 {
     let mut copy = SmallVec::new(alloc);

@@ -1,10 +1,11 @@
 //! Rows: where the values of a field lead from each of many nodes.
-ghost use Rattle.std.specs.Prelude.{◌≡◌, ◌≤◌, ◌<◌, ◌∷◌, ℕ, List, IfOk};
+ghost use Rattle.std.specs.Prelude.{◌≡◌, ◌≤◌, ◌<◌, ◌^◌, ◌∷◌, ℕ, List, length, All, IfOk};
 ghost use Rattle.field_boxes.specs.Fields.{greatest_of};
 ghost use Rattle.node_store.specs.Levels.{HasField, next, top_of};
 ghost use Rattle.node_store.specs.Edges.{AreFull, child_of};
 ghost use Rattle.node_store.specs.Diagram.{Node, level_of, edges_of, answer};
 ghost use Rattle.node_store.specs.Store.{Grows, LeadTo};
+ghost use Rattle.field_order.specs.Fronts.{IsSample};
 
 use crate::front::before;
 use crate::row::{Edges, fill_row, greatest_in, splice_row};
@@ -16,6 +17,9 @@ use std::alloc::Global;
 
 /// How many edges are read for each row of a block.
 const FEW: usize = 64;
+
+/// How many edges of a node are read for each row: blocks of more take less time, but some room.
+const MANY: usize = 512;
 
 /// The edges of the field to nodes of the level, which lead from each value of its own field where the edges'
 /// node leads from the value of the field.
@@ -40,7 +44,7 @@ pub(crate) fn rows(
         answer store.new (child_of rows.items v) (u ∷ values) ≡ answer store.old (child_of (edges_of store.old (child_of edges.now u)) v) values) }
     ensures grows { Grows store.old store.new }
 {
-    if edges.len() <= FEW {
+    if edges.len() <= MANY {
         let rows = few_rows(alloc, store, level, field, edges)?;
         return Ok(rows);
     }
@@ -80,6 +84,38 @@ fn few_rows(
         filled = u64::from(hi) + 1;
     }
     Ok(rows)
+}
+
+/// Some of the rows, at least so many values apart: the edge to each ends at a value of its own.
+pub(crate) fn samples(
+    alloc: Global,
+    store: &mut Store,
+    level: &[u8],
+    field: u8,
+    edges: &[Edge],
+    apart: u64,
+) -> Result<Edges, Memory>
+    requires level { HasField level.now }
+    requires field { HasField (field ∷ next level.now) }
+    requires full { AreFull (top_of level.now) edges.now }
+    requires nodes { LeadTo store.old (field ∷ next level.now) edges.now }
+    ensures samples { IfOk result (λ samples. All (IsSample store.old store.new level.now field edges.now) samples.items) }
+    ensures few { IfOk result (λ samples. length samples.items ≤ 2 ^ 32) }
+    ensures grows { Grows store.old store.new }
+{
+    store.same_answers();
+    let top = u64::from(greatest(usize::from(field)));
+    let mut places = vec![in alloc; 0; edges.len()]?;
+    let mut cells = SmallVec::with_capacity(alloc, edges.len())?;
+    let mut samples = SmallVec::new(alloc);
+    let mut value = 0u64;
+    while value <= top {
+        let hi = fill_row(store, field, edges, &mut places, &mut cells, value as u32)?;
+        let to = store.make(level, cells.as_slice())?;
+        samples.push(Edge { hi, to })?;
+        value = (u64::from(hi) + 1).max(value.saturating_add(apart));
+    }
+    Ok(samples)
 }
 
 /// Edges to nodes with the field in front, one for each block of the edges.

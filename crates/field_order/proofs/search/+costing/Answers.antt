@@ -1,11 +1,16 @@
 use Rattle.std.proofs.Common.{◌≡◌, ◌+◌, ◌-◌, ◌∷◌, ◌++◌, ◌≤◌, ◌^◌, ◌/◌, ◌%◌, [], ap, sym, subst, arith, take, get_or, length, ◌∙◌}
-use Rattle.std.specs.Prelude.{suc}
+use Rattle.std.specs.Prelude.{suc, None}
+use Rattle.std.specs.Bool.{OnTrue}
 use Rattle.std.specs.List.{All, AllZip}
 use Rattle.std.proofs.lemmas.List.{take_all}
 use Rattle.field_boxes.specs.Headline.Fields.{width}
-use Rattle.node_store.specs.Levels.{IsLevel}
+use Rattle.std.proofs.lemmas.Option.{slice_get-get_or}
+use Rattle.field_boxes.specs.Orders.{AreDistinct, Has}
+use Rattle.node_store.specs.declared.edge.Edge.{Edge}
+use Rattle.node_store.specs.Levels.{HasField, IsLevel, next as next_level}
+use Rattle.node_store.proofs.Values.{rest_is}
 use Rattle.node_store.specs.Diagram.{level_of, edges_of}
-use Rattle.node_store.proofs.Canonical.{is_level, not_empty, within}
+use Rattle.node_store.proofs.Canonical.{in_use, is_level, is_next, not_empty, within}
 use Rattle.table_compose.specs.Labels.{children_of, ArePieces}
 use Rattle.table_compose.proofs.FewHeaders.{narrow}
 use Rattle.table_compose.proofs.Inputs.{minimal}
@@ -13,9 +18,13 @@ use Rattle.table_compose.proofs.Planned.{few_at, no_fields}
 use Rattle.node_store.specs.declared.edge.NodeId.{NodeId}
 use Rattle.node_store.proofs.Growth as growth
 use Rattle.table_compose.proofs.Children.{next}
-use Rattle.field_order.specs.Worth.{IsExact, IsWorth, Settles, AreFields, AreWeights, digits}
-use Rattle.field_order.proofs.Fronted.{some_field}
-use Rattle.field_order.proofs.Without.{five, parted}
+use Rattle.field_order.specs.Worth.{IsAbove, IsExact, IsRearranged, IsWorth, Settles, AreFields, AreWeights, answer_by, digits}
+use Rattle.field_order.proofs.Fronted.{in_rest, next_distinct, ready, some_field}
+use Rattle.field_order.proofs.Without.{distinct, five, order_distinct, order_has, parted}
+use Rattle.field_order.proofs.Digits.{order_small}
+use Rattle.field_order.proofs.Parts.{lower}
+use Rattle.field_order.proofs.Rows.{lead_later}
+use Rattle.field_order.proofs.Sampled.{above_later, child_told, children_fields, first_has, next_has, sample_fields, several_told}
 use Rattle.field_order.proofs.Steps.{step, small, front_field, children, beyond, asked, leaf, to_keep, kept_is}
 use Rattle.field_order.proofs.Stays as stays
 use Rattle.field_order.proofs.Weighed as weighed
@@ -195,19 +204,19 @@ worth-returns-then-is_empty-clause-worth t c = leaf c.args.store.now c.args.leve
 pub worth-returns-in-Some-clause-worth : goal.worth-returns-in-Some-clause-worth
 worth-returns-in-Some-clause-worth t c = kept_is c.args.store.now c.args.level.now c.args.order c.args.id c.in-Some.known c.requires.fields.at (c.in-Some.ensures.kept c.args.store.now c.requires.worths)
 
-pub worth-worked_out-requires : goal.worth-worked_out-requires
-worth-worked_out-requires t c =
+pub worth-tried-requires : goal.worth-tried-requires
+worth-tried-requires t c =
     (omega (arith, c.decreases), (c.requires.level, (not_empty c.args.level.now c.requires.level (sym c.if-is_empty.ensures), (c.requires.fields, (c.requires.fronts, c.requires.worths)))))
 
 pub worth-returns-in_err-keep-clause-worths : goal.worth-returns-in_err-keep-clause-worths
 worth-returns-in_err-keep-clause-worths t c =
-    c.keep.ensures c.worked_out.new.store c.in_ok-found.ensures.worths
-    (to_keep c.args.store.now c.worked_out.new.store c.args.level.now c.args.order c.args.id c.in_ok-found.found c.requires.level c.requires.fields.at c.in_ok-found.ensures.grows c.in_ok-found.ensures.worth)
+    c.keep.ensures c.tried.new.store c.in_ok-found.ensures.worths
+    (to_keep c.args.store.now c.tried.new.store c.args.level.now c.args.order c.args.id c.in_ok-found.found c.requires.level c.requires.fields.at c.in_ok-found.ensures.grows c.in_ok-found.ensures.worth)
 
 pub worth-returns-clause-worths : goal.worth-returns-clause-worths
 worth-returns-clause-worths t c =
-    c.keep.ensures c.worked_out.new.store c.in_ok-found.ensures.worths
-    (to_keep c.args.store.now c.worked_out.new.store c.args.level.now c.args.order c.args.id c.in_ok-found.found c.requires.level c.requires.fields.at c.in_ok-found.ensures.grows c.in_ok-found.ensures.worth)
+    c.keep.ensures c.tried.new.store c.in_ok-found.ensures.worths
+    (to_keep c.args.store.now c.tried.new.store c.args.level.now c.args.order c.args.id c.in_ok-found.found c.requires.level c.requires.fields.at c.in_ok-found.ensures.grows c.in_ok-found.ensures.worth)
 
 pub worked_out-returns-in_err-front-clause-worths : goal.worked_out-returns-in_err-front-clause-worths
 worked_out-returns-in_err-front-clause-worths t c = stays.worths c.args.store.now c.front.new.store c.in_err-front.ensures.grows c.args.worths.now c.requires.worths
@@ -220,3 +229,261 @@ worked_out-returns-in_err-least-in-Some-clause-grows t c = growth.twice c.args.s
 
 pub worked_out-returns-clause-grows : goal.worked_out-returns-clause-grows
 worked_out-returns-clause-grows t c = growth.twice c.args.store.now c.front.new.store c.weights.new.store c.in_ok-front.ensures.grows c.in_ok-weights.ensures.grows
+
+pub tried-is_above-requires : goal.tried-is_above-requires
+tried-is_above-requires t c = (omega (arith, c.decreases), (c.requires.level, (c.requires.some, (c.requires.fields, (c.requires.fronts, c.requires.worths)))))
+
+pub tried-worked_out-requires : goal.tried-worked_out-requires
+tried-worked_out-requires t c =
+    let told = c.in_ok-above.ensures in
+    let level = c.args.level.now in
+    let fields = stays.fields c.args.store.now c.is_above.new.store told.grows level (digits (length level) c.args.order) c.args.id.0 c.requires.level c.requires.fields in
+    (omega (arith, c.decreases), (c.requires.level, (c.requires.some, (fields, (told.fronts, told.worths)))))
+
+pub tried-returns-then-above-clause-worth : goal.tried-returns-then-above-clause-worth
+tried-returns-then-above-clause-worth t c =
+    subst (λ b. OnTrue b (IsAbove c.is_above.new.store (digits (length c.args.level.now) c.args.order) c.args.cap c.args.id)) c.if-above.true c.in_ok-above.ensures.above
+
+pub tried-returns-in_err-found-clause-grows : goal.tried-returns-in_err-found-clause-grows
+tried-returns-in_err-found-clause-grows t c = growth.twice c.args.store.now c.is_above.new.store c.worked_out.new.store c.in_ok-above.ensures.grows c.in_err-found.ensures.grows
+
+pub tried-returns-clause-grows : goal.tried-returns-clause-grows
+tried-returns-clause-grows t c = growth.twice c.args.store.now c.is_above.new.store c.worked_out.new.store c.in_ok-above.ensures.grows c.in_ok-found.ensures.grows
+
+pub is_above-bounds-level-0 : goal.is_above-bounds-level-0
+is_above-bounds-level-0 t c = omega (arith, some_field c.args.level.now c.requires.some)
+
+pub is_above-overflow_sub-level : goal.is_above-overflow_sub-level
+is_above-overflow_sub-level t c = omega (arith, some_field c.args.level.now c.requires.some)
+
+pub is_above-unit-unit-requires : goal.is_above-unit-unit-requires
+is_above-unit-unit-requires t c = omega (arith, some_field c.args.level.now c.requires.some, five c.args.level.now c.requires.level)
+
+pub is_above-overflow_cast-field : goal.is_above-overflow_cast-field
+is_above-overflow_cast-field t c =
+    let st = step c.args.store.now c.args.level.now c.args.order c.args.id.0 c.unit-unit.result c.requires.level c.requires.some c.requires.fields c.unit-unit.ensures.value in
+    omega (arith, small c.args.level.now c.args.order (c.args.order / c.unit-unit.result) (c.args.order % c.unit-unit.result) c.requires.level c.requires.fields.apart st)
+
+pub is_above-child_above-requires : goal.is_above-child_above-requires
+is_above-child_above-requires t c = (omega (arith, c.decreases), (c.requires.level, (c.requires.some, (c.requires.fields, (c.requires.fronts, c.requires.worths)))))
+
+pub is_above-returns-then-child-clause-above : goal.is_above-returns-then-child-clause-above
+is_above-returns-then-child-clause-above t c =
+    subst (λ b. OnTrue b (IsAbove c.child_above.new.store (digits (length c.args.level.now) c.args.order) c.args.cap c.args.id)) c.if-child.true c.in_ok-child.ensures.above
+
+pub is_above-several_above-requires : goal.is_above-several_above-requires
+is_above-several_above-requires t c =
+    let f = c.args.order / c.unit-unit.result in
+    let level = c.args.level.now in
+    let told = c.in_ok-child.ensures in
+    let st = step c.args.store.now level c.args.order c.args.id.0 c.unit-unit.result c.requires.level c.requires.some c.requires.fields c.unit-unit.ensures.value in
+    let at = (stays.fields c.args.store.now c.child_above.new.store told.grows level (digits (length level) c.args.order) c.args.id.0 c.requires.level c.requires.fields).at in
+    let has = in_rest f level _ st.has c.if-first-field.false in
+    (omega (arith, c.decreases), (c.requires.level, (c.requires.some, (c.requires.fields.apart, (at, (has, (st.rest, (told.fronts, told.worths))))))))
+
+pub is_above-returns-clause-above : goal.is_above-returns-clause-above
+is_above-returns-clause-above t c =
+    let st = step c.args.store.now c.args.level.now c.args.order c.args.id.0 c.unit-unit.result c.requires.level c.requires.some c.requires.fields c.unit-unit.ensures.value in
+    subst (λ o. OnTrue c.in_ok-several.several (IsAbove c.several_above.new.store o c.args.cap c.args.id)) (sym st.order_is) c.in_ok-several.ensures.above
+
+pub is_above-returns-in_err-several-clause-grows : goal.is_above-returns-in_err-several-clause-grows
+is_above-returns-in_err-several-clause-grows t c = growth.twice c.args.store.now c.child_above.new.store c.several_above.new.store c.in_ok-child.ensures.grows c.in_err-several.ensures.grows
+
+pub is_above-returns-clause-grows : goal.is_above-returns-clause-grows
+is_above-returns-clause-grows t c = growth.twice c.args.store.now c.child_above.new.store c.several_above.new.store c.in_ok-child.ensures.grows c.in_ok-several.ensures.grows
+
+pub child_above-bounds-level-0 : goal.child_above-bounds-level-0
+child_above-bounds-level-0 t c = omega (arith, some_field c.args.level.now c.requires.some)
+
+pub child_above-order_without-below-requires-clause-count : goal.child_above-order_without-below-requires-clause-count
+child_above-order_without-below-requires-clause-count t c = omega (arith, five c.args.level.now c.requires.level)
+
+pub child_above-order_without-below-requires-clause-fields : goal.child_above-order_without-below-requires-clause-fields
+child_above-order_without-below-requires-clause-fields t c =
+    order_small (digits (length c.args.level.now) c.args.order) c.args.level.now c.requires.fields.rearranged c.requires.fields.apart c.requires.level
+
+pub child_above-order_without-below-requires-clause-apart : goal.child_above-order_without-below-requires-clause-apart
+child_above-order_without-below-requires-clause-apart t c = order_distinct (digits (length c.args.level.now) c.args.order) c.args.level.now c.requires.fields.rearranged
+
+pub child_above-order_without-below-requires-clause-has : goal.child_above-order_without-below-requires-clause-has
+child_above-order_without-below-requires-clause-has t c =
+    order_has _ (digits (length c.args.level.now) c.args.order) c.args.level.now c.requires.fields.rearranged (first_has c.args.level.now _ c.requires.some)
+
+pub child_above-edges-requires : goal.child_above-edges-requires
+child_above-edges-requires t c = in_use c.args.store.now c.args.id.0 c.args.level.now c.requires.level c.requires.fields.at
+
+pub child_above-slice_bounds-one_above-count : goal.child_above-slice_bounds-one_above-count
+child_above-slice_bounds-one_above-count t c = omega (arith, some_field c.args.level.now c.requires.some)
+
+pub child_above-one_above-requires : goal.child_above-one_above-requires
+child_above-one_above-requires t c =
+    let level = c.args.level.now in
+    let same = c.as_slice.ensures ∙ c.in_ok-edges.ensures ∙ c.edges.ensures.edges in
+    let is = subst IsLevel (sym (rest_is level)) (is_next level c.requires.some) in
+    let fields = children_fields c.args.store.now level _ c.args.order c.order_without-below.result _ c.args.id.0 c.as_slice.result.now c.same_answers.ensures.store c.requires.level c.requires.some c.requires.fields (rest_is level) same
+    c.order_without-below.ensures in
+    (omega (arith, c.decreases, some_field level c.requires.some), (is, (fields, (c.requires.fronts, c.requires.worths))))
+
+pub child_above-returns-clause-above : goal.child_above-returns-clause-above
+child_above-returns-clause-above t c =
+    let level = c.args.level.now in
+    let same = c.as_slice.ensures ∙ c.in_ok-edges.ensures ∙ c.edges.ensures.edges in
+    child_told c.in_ok-above.above c.args.store.now c.one_above.new.store level _ c.args.order c.order_without-below.result c.args.cap _ c.args.id c.as_slice.result.now c.same_answers-2.ensures.store c.requires.level c.requires.some
+    c.requires.fields c.in_ok-above.ensures.grows (rest_is level) same c.order_without-below.ensures c.in_ok-above.ensures.above
+
+pub several_above-edges-requires : goal.several_above-edges-requires
+several_above-edges-requires t c = in_use c.args.store.now c.args.id.0 c.args.level.now c.requires.level c.requires.at
+
+pub several_above-slice_bounds-front_edges-count : goal.several_above-slice_bounds-front_edges-count
+several_above-slice_bounds-front_edges-count t c = omega (arith, some_field c.args.level.now c.requires.some)
+
+pub several_above-front_edges-requires-clause-level : goal.several_above-front_edges-requires-clause-level
+several_above-front_edges-requires-clause-level t c = subst IsLevel (sym (rest_is c.args.level.now)) (is_next c.args.level.now c.requires.some)
+
+pub several_above-front_edges-requires-clause-apart : goal.several_above-front_edges-requires-clause-apart
+several_above-front_edges-requires-clause-apart t c = subst AreDistinct (sym (rest_is c.args.level.now)) (next_distinct c.args.level.now c.requires.apart)
+
+pub several_above-front_edges-requires-clause-inner : goal.several_above-front_edges-requires-clause-inner
+several_above-front_edges-requires-clause-inner t c = subst HasField (sym c.requires.at) c.requires.some
+
+pub several_above-front_edges-requires-clause-at : goal.several_above-front_edges-requires-clause-at
+several_above-front_edges-requires-clause-at t c = ap next_level c.requires.at ∙ sym (rest_is c.args.level.now)
+
+pub several_above-front_edges-requires-clause-has : goal.several_above-front_edges-requires-clause-has
+several_above-front_edges-requires-clause-has t c = subst (Has c.args.field) (sym (rest_is c.args.level.now)) c.requires.has
+
+pub several_above-parts_above-requires : goal.several_above-parts_above-requires
+several_above-parts_above-requires t c =
+    let f = c.args.field in
+    let level = c.args.level.now in
+    let n = c.front_edges.new.store in
+    let made = c.in_ok-edges.ensures in
+    let lower = c.as_slice.ensures ∙ c.in_ok-rest.ensures in
+    let r = ready c.args.store.now n level c.as_slice.result.now c.args.id.0 f c.in_ok-edges.edges.items c.as_slice-2.result.now c.same_answers.ensures.store c.requires.at c.requires.level c.requires.apart c.requires.some c.requires.has
+    made.grows made.edges lower c.as_slice-2.ensures in
+    let p = parted f level (next_has f level c.requires.has) c.requires.apart c.requires.level in
+    let apart = subst AreDistinct (sym lower) (distinct f level c.requires.apart) in
+    let rearranged = subst (λ l. IsRearranged (digits (length l) c.args.order) l) (sym lower) c.requires.rearranged in
+    let worths = stays.worths c.args.store.now n made.grows c.args.worths.now c.requires.worths in
+    (omega (arith, c.decreases, p.count, ap length lower), (r.field, (apart, (rearranged, (r.side, (r.full, (r.nodes, (made.fronts, worths))))))))
+
+pub several_above-returns-clause-above : goal.several_above-returns-clause-above
+several_above-returns-clause-above t c =
+    let made = c.in_ok-edges.ensures in
+    several_told c.in_ok-above.above c.args.store.now c.front_edges.new.store c.parts_above.new.store c.args.level.now c.as_slice.result.now c.args.id c.args.field c.args.order c.args.cap c.in_ok-edges.edges.items c.as_slice-2.result.now
+    c.same_answers.ensures.store c.same_answers-2.ensures.store c.requires.level c.requires.some c.requires.apart c.requires.at c.requires.has c.requires.rearranged made.grows made.edges c.in_ok-above.ensures.grows
+    (c.as_slice.ensures ∙ c.in_ok-rest.ensures) c.as_slice-2.ensures c.in_ok-above.ensures.above
+
+pub several_above-returns-in_err-edges-clause-worths : goal.several_above-returns-in_err-edges-clause-worths
+several_above-returns-in_err-edges-clause-worths t c = stays.worths c.args.store.now c.front_edges.new.store c.in_err-edges.ensures.grows c.args.worths.now c.requires.worths
+
+pub several_above-returns-in_err-rest-clause-worths : goal.several_above-returns-in_err-rest-clause-worths
+several_above-returns-in_err-rest-clause-worths t c = stays.worths c.args.store.now c.front_edges.new.store c.in_ok-edges.ensures.grows c.args.worths.now c.requires.worths
+
+pub several_above-returns-in_err-above-clause-grows : goal.several_above-returns-in_err-above-clause-grows
+several_above-returns-in_err-above-clause-grows t c = growth.twice c.args.store.now c.front_edges.new.store c.parts_above.new.store c.in_ok-edges.ensures.grows c.in_err-above.ensures.grows
+
+pub several_above-returns-clause-grows : goal.several_above-returns-clause-grows
+several_above-returns-clause-grows t c = growth.twice c.args.store.now c.front_edges.new.store c.parts_above.new.store c.in_ok-edges.ensures.grows c.in_ok-above.ensures.grows
+
+pub one_above-edges-requires : goal.one_above-edges-requires
+one_above-edges-requires t c =
+    let l = c.loop-edge in
+    let d : Edge = record { hi = 0; to = record { 0 = 0 } } in
+    let level = c.args.level.now in
+    let to = (get_or c.args.edges.now l.edge-index d).to.0 in
+    let fields = stays.fields c.args.store.now l.store l.invariant.grows level (digits (length level) c.args.order) to c.requires.level (c.requires.fields l.edge-index d c.loop-edge-test.true) in
+    in_use l.store to level c.requires.level fields.at
+
+pub one_above-worth-requires : goal.one_above-worth-requires
+one_above-worth-requires t c =
+    let l = c.loop-edge in
+    let d : Edge = record { hi = 0; to = record { 0 = 0 } } in
+    let level = c.args.level.now in
+    let to = (get_or c.args.edges.now l.edge-index d).to.0 in
+    let fields = stays.fields c.args.store.now l.store l.invariant.grows level (digits (length level) c.args.order) to c.requires.level (c.requires.fields l.edge-index d c.loop-edge-test.true) in
+    (omega (arith, c.decreases), (c.requires.level, (fields, (l.invariant.fronts, l.invariant.worths))))
+
+pub one_above-returns-in-Above-clause-above : goal.one_above-returns-in-Above-clause-above
+one_above-returns-in-Above-clause-above t c =
+    let l = c.loop-edge in
+    let d : Edge = record { hi = 0; to = record { 0 = 0 } } in
+    let items = c.args.edges.now in
+    let order = digits (length c.args.level.now) c.args.order in
+    let edge = get_or items l.edge-index d in
+    let n = c.worth.new.store in
+    let made = c.in_ok-found.ensures in
+    let settled = subst (Settles c.args.cap) c.in-Above.is made.settles in
+    let above = lower order (answer_by n (level_of n edge.to.0) edge.to.0) (c.in-Above._least + 1) (c.args.cap + 1) (omega (arith, settled)) (subst (IsWorth n order edge.to.0) c.in-Above.is made.worth) in
+    (l.edge-index, edge, slice_get-get_or items l.edge-index d c.loop-edge-test.true, above)
+
+pub parts_above-sampled-requires : goal.parts_above-sampled-requires
+parts_above-sampled-requires t c =
+    let r = c.requires in (omega (arith, c.decreases), (r.level, (r.apart, (r.rearranged, (r.field, (r.full, (r.nodes, (r.fronts, r.worths))))))))
+
+pub parts_above-sampled-requires-2 : goal.parts_above-sampled-requires-2
+parts_above-sampled-requires-2 t c =
+    let r = c.requires in
+    let told = c.in_ok-few.ensures in
+    let side = c.args.field ∷ next_level c.args.level.now in
+    let nodes = lead_later c.args.store.now c.sampled.new.store side c.args.edges.now told.grows (is_level side r.field) r.nodes in
+    (omega (arith, c.decreases), (r.level, (r.apart, (r.rearranged, (r.field, (r.full, (nodes, (told.fronts, told.worths))))))))
+
+pub parts_above-returns-in-None-clause-above : goal.parts_above-returns-in-None-clause-above
+parts_above-returns-in-None-clause-above t c =
+    above_later c.args.store.now c.sampled.new.store c.sampled-2.new.store c.args.level.now (digits (length c.args.level.now) c.args.order) c.args.field c.args.edges.now c.args.cap c.in_ok-few.ensures.grows (c.in_ok-many.ensures.above c.in-None.is)
+
+pub parts_above-returns-in_err-many-clause-grows : goal.parts_above-returns-in_err-many-clause-grows
+parts_above-returns-in_err-many-clause-grows t c = growth.twice c.args.store.now c.sampled.new.store c.sampled-2.new.store c.in_ok-few.ensures.grows c.in_err-many.ensures.grows
+
+pub parts_above-returns-in-None-clause-grows : goal.parts_above-returns-in-None-clause-grows
+parts_above-returns-in-None-clause-grows t c = growth.twice c.args.store.now c.sampled.new.store c.sampled-2.new.store c.in_ok-few.ensures.grows c.in_ok-many.ensures.grows
+
+pub parts_above-returns-clause-grows : goal.parts_above-returns-clause-grows
+parts_above-returns-clause-grows t c = growth.twice c.args.store.now c.sampled.new.store c.sampled-2.new.store c.in_ok-few.ensures.grows c.in_ok-many.ensures.grows
+
+pub sampled-of-requires : goal.sampled-of-requires
+sampled-of-requires t c = omega (arith, ap length c.as_slice.ensures, c.in_ok-samples.ensures.few)
+
+pub sampled-weights-requires : goal.sampled-weights-requires
+sampled-weights-requires t c =
+    let level = c.args.level.now in
+    let order = digits (length level) c.args.order in
+    let old = c.args.store.now in
+    let new = c.samples.new.store in
+    let made = c.in_ok-samples.ensures in
+    let ids = c.as_slice-2.ensures.keys ∙ c.in_ok-labels.ensures.children ∙ ap children_of c.as_slice.ensures in
+    let fields = subst (All (λ (k : NodeId). AreFields new level order k.0)) (sym ids) (sample_fields old new level order c.args.field c.args.edges.now c.in_ok-samples.samples.items c.requires.apart c.requires.rearranged made.samples) in
+    (omega (arith, c.decreases), (is_level level c.requires.level, (fields, (stays.fronts old new made.grows c.args.fronts.now c.requires.fronts, stays.worths old new made.grows c.args.worths.now c.requires.worths))))
+
+pub sampled-returns-clause-above : goal.sampled-returns-clause-above
+sampled-returns-clause-above t c = λ none.
+    let order = digits (length c.args.level.now) c.args.order in
+    let new = c.weights.new.store in
+    let ids = c.as_slice-2.ensures.keys ∙ c.in_ok-labels.ensures.children ∙ ap children_of c.as_slice.ensures in record {
+      first = c.args.store.now;
+      made = c.samples.new.store;
+      samples = c.in_ok-samples.samples.items;
+      begun = growth.stays c.args.store.now;
+      grows = c.in_ok-weights.ensures.grows;
+      are = c.in_ok-samples.ensures.samples;
+      above = subst (λ xs. AreWeights new order xs c.args.cap None) ids (subst (AreWeights new order c.as_slice-2.result.now c.args.cap) none c.in_ok-weights.ensures.weights);
+    }
+
+pub sampled-returns-in_err-samples-clause-fronts : goal.sampled-returns-in_err-samples-clause-fronts
+sampled-returns-in_err-samples-clause-fronts t c = stays.fronts c.args.store.now c.samples.new.store c.in_err-samples.ensures.grows c.args.fronts.now c.requires.fronts
+
+pub sampled-returns-in_err-samples-clause-worths : goal.sampled-returns-in_err-samples-clause-worths
+sampled-returns-in_err-samples-clause-worths t c = stays.worths c.args.store.now c.samples.new.store c.in_err-samples.ensures.grows c.args.worths.now c.requires.worths
+
+pub sampled-returns-in_err-labels-clause-fronts : goal.sampled-returns-in_err-labels-clause-fronts
+sampled-returns-in_err-labels-clause-fronts t c = stays.fronts c.args.store.now c.samples.new.store c.in_ok-samples.ensures.grows c.args.fronts.now c.requires.fronts
+
+pub sampled-returns-in_err-labels-clause-worths : goal.sampled-returns-in_err-labels-clause-worths
+sampled-returns-in_err-labels-clause-worths t c = stays.worths c.args.store.now c.samples.new.store c.in_ok-samples.ensures.grows c.args.worths.now c.requires.worths
+
+pub sampled-returns-in_err-weights-clause-grows : goal.sampled-returns-in_err-weights-clause-grows
+sampled-returns-in_err-weights-clause-grows t c = growth.twice c.args.store.now c.samples.new.store c.weights.new.store c.in_ok-samples.ensures.grows c.in_err-weights.ensures.grows
+
+pub sampled-returns-clause-grows : goal.sampled-returns-clause-grows
+sampled-returns-clause-grows t c = growth.twice c.args.store.now c.samples.new.store c.weights.new.store c.in_ok-samples.ensures.grows c.in_ok-weights.ensures.grows
