@@ -64,3 +64,8 @@ behind-all hidden some rest w k end so h header m none =
 
 pub free-answering : (hidden : List Word) (some rest : List Entry) (w : Word) (d : ℕ) → AnswerBehind hidden some rest w → IsFree hidden some w d → IsFree hidden rest w d
 free-answering hidden some rest w d same free h header m none = sym (same h header m none) ∙ free h header m none
+
+-- entries found in a part of the rest
+pub behind-part : (hidden : List Word) (some part rest : List Entry) (common w : Word) → Covers (common ∷ []) w → AnswerBehind [] part rest common → AnswerBehind hidden some part w → AnswerBehind hidden some rest w
+behind-part hidden some part rest common w holds of_rest of_part h header m none =
+    of_part h header m none ∙ of_rest h header (only_one (matches h common) (holds h header m)) refl

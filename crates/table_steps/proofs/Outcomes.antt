@@ -43,3 +43,8 @@ pub if_yes : {F : Type 0} (r : Result Bool F) (P Q : Type 0) → (P → Q) → I
 if_yes (Ok true) P Q f h = f h
 if_yes (Ok false) P Q f h = h
 if_yes (Err e) P Q f h = h
+
+-- what follows of a result's value
+pub if_ok : {T E : Type 0} (r : Result T E) (P Q : T → Type 0) → ((x : T) → P x → Q x) → IfOk r P → IfOk r Q
+if_ok (Ok x) P Q f p = f x p
+if_ok (Err e) P Q f p = p

@@ -11,6 +11,13 @@ use std::alloc::Global;
 use ternary_words::{Entry, Word};
 use word_cover::{inside, meets};
 
+/// Entries of a table, and for each at which place the entry of another table stands that may hold it.
+#[derive(Drop)]
+pub(crate) struct Shortlist {
+    pub(crate) entries: Vec<Entry>,
+    pub(crate) holders: Vec<usize>,
+}
+
 /// The entries of the rest that may answer a header of the word that none of those before it matches: up to the first that
 /// holds the word, those that meet it, without those that one of the entries before holds.
 ///
@@ -21,19 +28,28 @@ pub(crate) fn answering(
     rest: &[Entry],
     holders: &[usize],
     word: &Word,
-) -> Result<Vec<Entry>, Memory>
-    ensures { IfOk result (λ some. AnswerBehind (words_of before.now) some.items rest.now word.now) }
+) -> Result<Shortlist, Memory>
+    ensures { IfOk result (λ some. AnswerBehind (words_of before.now) some.entries.items rest.now word.now) }
 {
     let mut some: Vec<Entry> = Vec::new(alloc);
+    let mut places: Vec<usize> = Vec::new(alloc);
     for (place, entry) in rest.iter().enumerate() {
-        if matters(before, entry, holders.get(place).copied(), word) {
+        let holder = holders.get(place).copied();
+        if matters(before, entry, holder, word) {
+            places.push(holder.unwrap_or(usize::MAX))?;
             some.push(*entry)?;
             if inside(word, &entry.word) {
-                return Ok(some);
+                return Ok(Shortlist {
+                    entries: some,
+                    holders: places,
+                });
             }
         }
     }
-    Ok(some)
+    Ok(Shortlist {
+        entries: some,
+        holders: places,
+    })
 }
 
 /// Whether the entry may match a header of the word that none of those before it matches.

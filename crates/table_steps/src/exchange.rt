@@ -10,10 +10,10 @@ ghost use Rattle.ternary_words.specs.Entries.{answer};
 ghost use Rattle.table_steps.specs.Free.{IsFree, words_of};
 ghost use Rattle.table_steps.specs.Exchange.{AnswerAs, LeaveRest};
 
-use crate::answering::answering;
 use crate::free::free_for;
 use crate::gathering::push_entries;
 use crate::holding::{holders, is_held};
+use crate::parts::Parts;
 use razor_base::Memory;
 use std::alloc::Global;
 use ternary_words::{Entry, Word};
@@ -52,31 +52,32 @@ fn answer_as(
 ) -> Result<bool, Memory>
     ensures { IfOk result (λ yes. OnTrue yes (AnswerAs new.now table.now)) }
 {
+    let mut parts = Parts::new(alloc, table)?;
     for (place, entry) in new.iter().enumerate() {
-        if !is_answered(alloc, table, &new[..place], holders, entry, budget)? {
+        let before = &new[..place];
+        let some = parts.answering(before, table, holders, &entry.word)?;
+        if !is_answered(alloc, &some.entries, before, entry, budget)? {
             return Ok(false);
         }
     }
     Ok(true)
 }
 
-/// Whether what the entry matches, and none of those before it, is answered so by the table.
+/// Whether what the entry matches, and none of those before it, is answered so by these entries.
 fn is_answered(
     alloc: Global,
-    table: &[Entry],
+    some: &[Entry],
     before: &[Entry],
-    holders: &[usize],
     entry: &Entry,
     budget: u32,
 ) -> Result<bool, Memory>
-    ensures { IfOk result (λ yes. OnTrue yes (IsFree (words_of before.now) table.now entry.now.word entry.now.decision)) }
+    ensures { IfOk result (λ yes. OnTrue yes (IsFree (words_of before.now) some.now entry.now.word entry.now.decision)) }
 {
-    let some = answering(alloc, before, table, holders, &entry.word)?;
     free_for(
         alloc,
         &[],
         before,
-        some.as_slice(),
+        some,
         &entry.word,
         entry.decision,
         budget,

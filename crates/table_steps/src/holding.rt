@@ -4,6 +4,7 @@ ghost use Rattle.std.specs.Bool.{OnTrue};
 ghost use Rattle.table_steps.specs.Free.{words_of};
 ghost use Rattle.word_cover.specs.Covers.{Covers};
 
+use crate::parts::Parts;
 use razor_base::Memory;
 use std::alloc::Global;
 use ternary_words::{Entry, Word};
@@ -17,21 +18,13 @@ pub(crate) fn holders(
     entries: &[Entry],
     new: &[Entry],
 ) -> Result<Vec<usize>, Memory> {
+    let places: Vec<usize> = (0..new.len()).collect(alloc)?;
+    let mut parts = Parts::new(alloc, new)?;
     let mut holders = Vec::with_capacity(alloc, entries.len())?;
     for entry in entries {
-        holders.push(holder(&entry.word, new))?;
+        holders.push(parts.holder(new, &places, &entry.word)?)?;
     }
     Ok(holders)
-}
-
-/// The place of the first entry that holds the word, or how many entries there are.
-fn holder(word: &Word, entries: &[Entry]) -> usize {
-    for (place, entry) in entries.iter().enumerate() {
-        if inside(word, &entry.word) {
-            return place;
-        }
-    }
-    entries.len()
 }
 
 /// Whether one of the entries stands at the place and holds the word.

@@ -20,6 +20,8 @@
 //! |---|---|
 //! | `steps`, `exchange`, `tables` | steps, exchanges, and two tables compared |
 //! | `free`, `passing`, `gathering` | where a word may stand, and past which entries |
+//! | `answering`, `holding` | which entries may answer a word, and which are hidden |
+//! | `parts`, `parting` | the part of a table that is looked at for a word |
 //! | `need`, `wanted` | whether an entry is needed, with a header to show for it |
 //! | `numbers`, `laws` | the numbers that entries decide, and laws of parts of a table |
 #![tactic(auto)]
@@ -32,6 +34,8 @@ mod holding;
 pub mod laws;
 mod need;
 mod numbers;
+mod parting;
+mod parts;
 mod passing;
 mod steps;
 mod tables;
