@@ -1,3 +1,4 @@
 pub mod Shortened
 pub mod Drafts
 pub mod Trimmed
+pub mod Tasks

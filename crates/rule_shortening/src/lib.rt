@@ -28,7 +28,7 @@
 //!
 //! | Room | Holds |
 //! |---|---|
-//! | `shortening`, `ordered`, `refusal` | the calls, and why rules have no short table |
+//! | `shortening`, `ordered`, `task`, `refusal` | the calls, and why rules have no short table |
 //! | `draft`, `laying` | entries for the last rules of a list, and rules laid out in few |
 //! | `shortener`, `known`, `differences` | lists one after another, and what is kept between them |
 //! | `searching`, `checked` | the search, and what it found, compared |
@@ -45,6 +45,7 @@ mod refusal;
 mod searching;
 mod shortener;
 mod shortening;
+mod task;
 mod trimming;
 
 pub use ordered::shorten_in;

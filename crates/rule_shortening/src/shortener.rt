@@ -6,12 +6,14 @@ ghost use Rattle.ternary_words.specs.Limits.{IsSlotWidth};
 ghost use Rattle.ternary_words.specs.Views.{table_of};
 ghost use Rattle.rule_shortening.specs.Drafts.{AreFor};
 ghost use Rattle.rule_shortening.specs.Shortened.{IsRefused, IsShortTable};
+ghost use Rattle.rule_shortening.specs.Tasks.{IsTableFor, IsTask};
 
 use crate::checked::if_as_short;
 use crate::draft::{has_room, in_full};
 use crate::known::Known;
 use crate::refusal::ShortenError;
 use crate::shortening::{shorten, table_for};
+use crate::task::Task;
 use crate::trimming::trim_for;
 use field_boxes::{Decisions, Rule};
 use razor_base::Memory;
@@ -64,14 +66,20 @@ impl Shortener {
             (λ e. IsRefused (named_rules names.now rules.now) limit e) }
         ensures names { IfOk result (λ table. table.names ≡ names.now) }
     {
+        let task = Task {
+            rules,
+            names,
+            limit,
+            slot,
+        };
         self.settle();
-        if let Some(table) = self.rebuilt(rules, names, limit, slot) {
+        if let Some(table) = self.rebuilt(task) {
             return Ok(table);
         }
-        if let Some(table) = self.repaired(rules, names, limit, slot)? {
+        if let Some(table) = self.repaired(task)? {
             return Ok(table);
         }
-        self.anew(rules, names, limit, slot)
+        self.anew(task)
     }
 
     /// Whether the table that was made last is one made anew, where the settled one can be repaired too.
@@ -107,22 +115,18 @@ impl Shortener {
     }
 
     /// A table that is made anew, where that is due and makes it shorter.
-    fn rebuilt(&mut self, rules: &[Rule], names: &Decisions, limit: u32, slot: u16) -> Option<Table>
-        requires few { length rules.now ≤ MOST_RULES }
-        requires numbered { All (IsNumberedBy names.now) rules.now }
-        requires limit { limit ≤ MOST_ENTRIES }
-        requires slot { ∥ IsSlotWidth slot ∥₁ }
-        ensures table { IfSome result (λ table. IsShortTable (named_rules names.now rules.now) limit slot (table_of table)) }
-        ensures names { IfSome result (λ table. table.names ≡ names.now) }
+    fn rebuilt(&mut self, task: Task) -> Option<Table>
+        requires { IsTask task.names.now task.rules.now task.limit task.slot }
+        ensures { IfSome result (IsTableFor task.entry.names.now task.entry.rules.now task.entry.limit task.entry.slot) }
     {
         let below = self.due()?;
-        let Ok(table) = shorten(self.alloc, rules, names, limit, slot) else {
+        let Ok(table) = shorten(self.alloc, task.rules, task.names, task.limit, task.slot) else {
             return None;
         };
         if table.entries.len() >= below {
             return None;
         }
-        let Ok(made) = Known::new(self.alloc, rules, &table.entries) else {
+        let Ok(made) = Known::new(self.alloc, task.rules, &table.entries) else {
             return None;
         };
         self.made = Some(made);
@@ -131,77 +135,46 @@ impl Shortener {
     }
 
     /// The settled table, repaired; none where that isn't seen to be right, or above the limit.
-    fn repaired(
-        &mut self,
-        rules: &[Rule],
-        names: &Decisions,
-        limit: u32,
-        slot: u16,
-    ) -> Result<Option<Table>, Memory>
-        requires few { length rules.now ≤ MOST_RULES }
-        requires numbered { All (IsNumberedBy names.now) rules.now }
-        requires limit { limit ≤ MOST_ENTRIES }
-        requires slot { ∥ IsSlotWidth slot ∥₁ }
-        ensures table { IfOk result (λ made. IfSome made (λ table. IsShortTable (named_rules names.now rules.now) limit slot (table_of table))) }
-        ensures names { IfOk result (λ made. IfSome made (λ table. table.names ≡ names.now)) }
+    fn repaired(&mut self, task: Task) -> Result<Option<Table>, Memory>
+        requires { IsTask task.names.now task.rules.now task.limit task.slot }
+        ensures { IfOk result (λ made. IfSome made (IsTableFor task.entry.names.now task.entry.rules.now task.entry.limit task.entry.slot)) }
     {
         let Some(known) = &self.settled else {
             return Ok(None);
         };
-        let Some(table) = mended_table(self.alloc, known, rules, names, limit, slot)? else {
+        let Some(table) = mended_table(self.alloc, known, task)? else {
             return Ok(None);
         };
-        self.made = Some(known.followed(rules, &table.entries)?);
+        self.made = Some(known.followed(task.rules, &table.entries)?);
         Ok(Some(table))
     }
 
     /// The table that [`crate::shorten`] makes.
-    fn anew(
-        &mut self,
-        rules: &[Rule],
-        names: &Decisions,
-        limit: u32,
-        slot: u16,
-    ) -> Result<Table, ShortenError>
-        requires few { length rules.now ≤ MOST_RULES }
-        requires numbered { All (IsNumberedBy names.now) rules.now }
-        requires limit { limit ≤ MOST_ENTRIES }
-        requires slot { ∥ IsSlotWidth slot ∥₁ }
-        ensures table { MatchResult result
-            (λ table. IsShortTable (named_rules names.now rules.now) limit slot (table_of table))
-            (λ e. IsRefused (named_rules names.now rules.now) limit e) }
-        ensures names { IfOk result (λ table. table.names ≡ names.now) }
+    fn anew(&mut self, task: Task) -> Result<Table, ShortenError>
+        requires { IsTask task.names.now task.rules.now task.limit task.slot }
+        ensures { MatchResult result
+            (IsTableFor task.entry.names.now task.entry.rules.now task.entry.limit task.entry.slot)
+            (IsRefused (named_rules task.entry.names.now task.entry.rules.now) task.entry.limit) }
     {
-        let table = shorten(self.alloc, rules, names, limit, slot)?;
-        self.made = Some(Known::new(self.alloc, rules, &table.entries)?);
+        let table = shorten(self.alloc, task.rules, task.names, task.limit, task.slot)?;
+        self.made = Some(Known::new(self.alloc, task.rules, &table.entries)?);
         Ok(table)
     }
 }
 
-/// The table that is known, repaired for the rules; none where that isn't seen to be right, or above the limit.
-fn mended_table(
-    alloc: Global,
-    known: &Known,
-    rules: &[Rule],
-    names: &Decisions,
-    limit: u32,
-    slot: u16,
-) -> Result<Option<Table>, Memory>
-    requires few { length rules.now ≤ MOST_RULES }
-    requires numbered { All (IsNumberedBy names.now) rules.now }
-    requires limit { limit ≤ MOST_ENTRIES }
-    requires slot { ∥ IsSlotWidth slot ∥₁ }
-    ensures table { IfOk result (λ made. IfSome made (λ table. IsShortTable (named_rules names.now rules.now) limit slot (table_of table))) }
-    ensures names { IfOk result (λ made. IfSome made (λ table. table.names ≡ names.now)) }
+/// The table that is known, repaired for the list; none where that isn't seen to be right, or above the limit.
+fn mended_table(alloc: Global, known: &Known, task: Task) -> Result<Option<Table>, Memory>
+    requires { IsTask task.names.now task.rules.now task.limit task.slot }
+    ensures { IfOk result (λ made. IfSome made (IsTableFor task.entry.names.now task.entry.rules.now task.entry.limit task.entry.slot)) }
 {
-    let Some(mended) = mended(alloc, known, rules, names)? else {
+    let Some(mended) = mended(alloc, known, task.rules, task.names)? else {
         return Ok(None);
     };
-    let entries = trim_for(alloc, rules, names, mended)?;
-    if entries.len() > limit as usize {
+    let entries = trim_for(alloc, task.rules, task.names, mended)?;
+    if entries.len() > task.limit as usize {
         return Ok(None);
     }
-    Ok(Some(table_for(alloc, rules, names, slot, entries)?))
+    Ok(Some(table_for(alloc, task.rules, task.names, task.slot, entries)?))
 }
 
 /// The entries that are known, repaired for the rules; none where that isn't seen to be right.
