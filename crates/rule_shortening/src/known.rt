@@ -17,15 +17,20 @@ const MOST_WORDS: usize = 2000;
 /// Repairs one after another at most, before a table is made anew.
 const MOST_REPAIRS: u32 = 32;
 
+/// A word of so many bits, or of fewer, is broad.
+const BROAD: u32 = 16;
+
 /// The rules of a list, and the entries of their table. Nothing is promised of it.
 #[derive(Drop)]
 pub(crate) struct Known {
     alloc: Global,
     rules: Vec<Rule>,
     entries: Vec<Entry>,
-    /// A table is made anew where this one has more entries than this, or no repair is left.
+    /// A table is made anew where a repaired one has more entries than this, or no repair is left.
     most: usize,
     left: u32,
+    /// Whether a table was made anew beside a repair of this one.
+    has_tried: bool,
 }
 
 impl Known {
@@ -35,8 +40,9 @@ impl Known {
             alloc,
             rules: Vec::from_slice(alloc, rules)?,
             entries: Vec::from_slice(alloc, entries)?,
-            most: entries.len().saturating_add(entries.len() / 50),
+            most: grown(entries.len()),
             left: MOST_REPAIRS,
+            has_tried: false,
         })
     }
 
@@ -48,16 +54,25 @@ impl Known {
         Ok(followed)
     }
 
-    /// Where a table is to be made anew, below how many entries it is worth it: with fewer by more than a hundredth. None is
-    /// made anew again before as many repairs.
-    pub fn due(&mut self) -> Option<usize> {
-        let count = self.entries.len();
-        if self.left > 0 && count <= self.most {
+    /// Where a table of these rules is to be made anew beside a repaired one of so many entries, below how many it is worth it:
+    /// with fewer by more than a hundredth. That is once after a broad edit, after as many repairs, and where tables have grown.
+    pub fn due(&mut self, rules: &[Rule], count: usize) -> Option<usize> {
+        let is_broad = !self.has_tried && matches!(self.is_broad(rules), Ok(true));
+        if !is_broad && self.left > 0 && count <= self.most {
             return None;
         }
-        self.most = usize::MAX;
+        self.most = grown(count);
         self.left = MOST_REPAIRS;
+        self.has_tried = true;
         Some(count.saturating_sub(count / 100))
+    }
+
+    /// Whether the edit of the kept rules to these has a word with few bits: tables may then differ much.
+    fn is_broad(&self, rules: &[Rule]) -> Result<bool, Memory> {
+        let Some(words) = self.edited_words(rules)? else {
+            return Ok(true);
+        };
+        Ok(words.iter().any(|word| word.mask.count_ones() <= BROAD))
     }
 
     /// The kept entries repaired for these rules, of which `list` is the direct expansion; none where too much was edited.
@@ -99,6 +114,11 @@ impl Known {
         push_others(words, &before, &now, is_one)?;
         push_others(words, &now, &before, is_one)
     }
+}
+
+/// How many entries a table of so many may have before one is made anew: a fiftieth more.
+fn grown(count: usize) -> usize {
+    count.saturating_add(count / 50)
 }
 
 /// Pushes the words of the entries; of one rule in the place of one other only those that the others don't have.

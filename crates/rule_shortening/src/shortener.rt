@@ -24,9 +24,10 @@ use ternary_words::{Entry, Table};
 /// from that one in few entries and takes little time. That is the table to which an update [`began`](Shortener::begin)
 /// last, or, where the update was [`aborted`](Shortener::abort), the one before: so it stands in the memory.
 ///
-/// Repairs make tables longer than they need be. So after 32 of them, or where a table has grown by a fiftieth, one is made
-/// anew, and handed over where it is shorter by more than a hundredth. It shares little with the one in the memory, which
-/// may have no room for it: then [`Shortener::has_other`], and the next call hands over the repaired one.
+/// Repairs make tables longer than they need be. So after 32 of them, after a broad edit, or where a table has grown by a
+/// fiftieth, one is made anew beside the repaired one, and handed over where it is shorter by more than a hundredth. It
+/// shares little with the one in the memory, which may have no room for it: then [`Shortener::has_other`], and the next call
+/// hands over the repaired one.
 #[derive(Drop)]
 pub struct Shortener {
     alloc: Global,
@@ -73,13 +74,14 @@ impl Shortener {
             slot,
         };
         self.settle();
-        if let Some(table) = self.rebuilt(task) {
-            return Ok(table);
+        let Some(table) = self.repaired(task)? else {
+            return self.anew(task);
+        };
+        if let Some(shorter) = self.rebuilt(task, table.entries.len()) {
+            return Ok(shorter);
         }
-        if let Some(table) = self.repaired(task)? {
-            return Ok(table);
-        }
-        self.anew(task)
+        self.follow(rules, &table.entries)?;
+        Ok(table)
     }
 
     /// Whether the table that was made last is one made anew, where the settled one can be repaired too.
@@ -106,20 +108,20 @@ impl Shortener {
         self.has_other = false;
     }
 
-    /// Below how many entries a table that is made anew is worth it, where one is due.
-    fn due(&mut self) -> Option<usize> {
+    /// Below how many entries a table that is made anew is worth it, where one is due beside a repaired one of so many.
+    fn due(&mut self, rules: &[Rule], count: usize) -> Option<usize> {
         match &mut self.settled {
-            Some(known) => known.due(),
+            Some(known) => known.due(rules, count),
             None => None,
         }
     }
 
-    /// A table that is made anew, where that is due and makes it shorter.
-    fn rebuilt(&mut self, task: Task) -> Option<Table>
+    /// A table that is made anew, where that is due and makes it shorter than so many entries.
+    fn rebuilt(&mut self, task: Task, count: usize) -> Option<Table>
         requires { IsTask task.names.now task.rules.now task.limit task.slot }
         ensures { IfSome result (IsTableFor task.entry.names.now task.entry.rules.now task.entry.limit task.entry.slot) }
     {
-        let below = self.due()?;
+        let below = self.due(task.rules, count)?;
         let Ok(table) = shorten(self.alloc, task.rules, task.names, task.limit, task.slot) else {
             return None;
         };
@@ -135,18 +137,22 @@ impl Shortener {
     }
 
     /// The settled table, repaired; none where that isn't seen to be right, or above the limit.
-    fn repaired(&mut self, task: Task) -> Result<Option<Table>, Memory>
+    fn repaired(&self, task: Task) -> Result<Option<Table>, Memory>
         requires { IsTask task.names.now task.rules.now task.limit task.slot }
         ensures { IfOk result (λ made. IfSome made (IsTableFor task.entry.names.now task.entry.rules.now task.entry.limit task.entry.slot)) }
     {
         let Some(known) = &self.settled else {
             return Ok(None);
         };
-        let Some(table) = mended_table(self.alloc, known, task)? else {
-            return Ok(None);
-        };
-        self.made = Some(known.followed(task.rules, &table.entries)?);
-        Ok(Some(table))
+        mended_table(self.alloc, known, task)
+    }
+
+    /// The repaired table of these rules, which has these entries, is the one that was made last.
+    fn follow(&mut self, rules: &[Rule], entries: &[Entry]) -> Result<(), Memory> {
+        if let Some(known) = &self.settled {
+            self.made = Some(known.followed(rules, entries)?);
+        }
+        Ok(())
     }
 
     /// The table that [`crate::shorten`] makes.

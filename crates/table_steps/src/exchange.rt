@@ -22,9 +22,9 @@ use word_cover::covered;
 /// Whether the entries `new` in the place of the first `count` entries of the table leave every answer as it is; no where
 /// that isn't seen.
 ///
-/// It tests the word of each new entry against those of the table and the new ones before it, and the word of each old entry
-/// against those of the new ones, and for those that these don't cover against the table's too. Where one new entry holds an
-/// old one, that is seen first and asked for no more.
+/// It tests the word of each new entry against those of its part of the table and of the new ones before it. The word of an old
+/// entry is held by one of its part of the new ones, mostly; else it is tested against all of them, and where these don't
+/// cover it against the table's too.
 pub fn can_exchange(
     alloc: Global,
     table: &[Entry],
