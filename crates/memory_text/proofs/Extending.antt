@@ -1,10 +1,10 @@
 -- Names in a list that grows.
-use Rattle.std.proofs.Common.{◌≡◌, ℕ, List, true, false, ap, refl, sym, ◌∙◌, subst, arith, length, length-append, Some, Ok, Err, Result, bytes_eq}
+use Rattle.std.proofs.Common.{◌≡◌, ℕ, List, true, false, ap, refl, sym, ◌∙◌, subst, Some, Ok, Err, Result, bytes_eq}
 use Rattle.std.specs.Prelude.{OnOk, OnErr}
 use Rattle.field_boxes.specs.Headline.Names.{miss}
-use Rattle.field_boxes.specs.Names.{name_at, with_name}
+use Rattle.field_boxes.specs.Names.{with_name}
 use Rattle.slot_patch.specs.Naming.{Grow}
-use Rattle.slot_patch.proofs.Renaming.{grow-with, name-kept}
+use Rattle.slot_patch.proofs.Renaming.{grow-none, grow-on, grow-with}
 use Rattle.table_text.specs.Names.{decided, is_decision}
 use Rattle.table_text.specs.Seen.{with_decided}
 use Rattle.table_text.proofs.NamesSeen.{decision_named}
@@ -15,23 +15,14 @@ Names = List (List ℕ)
 
 pub extends_as : (old new : Names) → new ≡ old → Extends old new
 extends_as old new e = record {
-  kept = λ k le. ap (λ (ns : Names). name_at ns k) e;
-  more = let same = ap length e in omega (arith, same);
+  grow = subst (Grow old) (sym e) (grow-none old);
   spelled = λ named. subst AreSpelled (sym e) named;
 }
 
 pub extends_on : (a b c : Names) → Extends a b → Extends b c → Extends a c
 extends_on a b c h g = record {
-  kept = λ k le. g.kept k (omega (arith, le, h.more)) ∙ h.kept k le;
-  more = omega (arith, h.more, g.more);
+  grow = grow-on a b c h.grow g.grow;
   spelled = λ named. g.spelled (h.spelled named);
-}
-
-extends_by : (old new : Names) → Grow old new → (AreSpelled old → AreSpelled new) → Extends old new
-extends_by old new g spelled = record {
-  kept = λ k le. name-kept old new k g le;
-  more = let e = ap length g.1 in let long = length-append old g.0 in omega (arith, e, long);
-  spelled = spelled;
 }
 
 -- with a decision's name
@@ -41,7 +32,7 @@ with_text text name other = rw other refl
 pub extends_with : (old : Names) (text : List ℕ) → bytes_eq text miss ≡ false → is_decision text ≡ true → Extends old (with_name old text)
 extends_with old text other named =
     let same : with_decided old (decided text) ≡ with_name old text = ap (with_decided old) (with_text text text other) in
-    extends_by old (with_name old text) (grow-with old text) (λ spelled. subst AreSpelled same (decision_named old text spelled named))
+    record { grow = grow-with old text; spelled = λ spelled. subst AreSpelled same (decision_named old text spelled named) }
 
 -- the list after a name was to be put into it
 pub extends_result : {T E : Type 0} (old new : Names) (text : List ℕ) (r : Result T E) → bytes_eq text miss ≡ false → is_decision text ≡ true → OnOk r (new ≡ with_name old text) → OnErr r (new ≡ old) → Extends old new

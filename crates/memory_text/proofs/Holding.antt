@@ -9,6 +9,7 @@ use Rattle.ternary_words.specs.declared.entry.Entry as code_entry
 use Rattle.ternary_words.specs.Headline.Table.{Entry}
 use Rattle.ternary_words.specs.Views.{entry_of, word_of}
 use Rattle.bank_update.specs.declared.write.Put.{Put}
+use Rattle.slot_patch.proofs.Renaming.{name-kept, grown as longer}
 use Rattle.table_text.specs.Names.{decided}
 use Rattle.memory_text.specs.Kept.{AreNumbered, AreNumberedPuts, AreSpelled, Extends, number_in}
 use Rattle.memory_text.specs.Memory.{Write, entries_in}
@@ -18,7 +19,7 @@ use Rattle.memory_text.proofs.LineTexts.{any_spelled}
 -- what a slot holds stays
 held_kept : (old new : List (List ℕ)) (o : Option code_entry.Entry) → Extends old new → number_in o ≤ length old → option_map (entry_of new) o ≡ option_map (entry_of old) o
 held_kept old new None grown le = refl
-held_kept old new (Some e) grown le = ap (λ (d : Option (List ℕ)). let x : Entry = record { word = word_of e.word; decision = d } in Some x) (grown.kept e.decision le)
+held_kept old new (Some e) grown le = ap (λ (d : Option (List ℕ)). let x : Entry = record { word = word_of e.word; decision = d } in Some x) (name-kept old new e.decision grown.grow le)
 
 pub slots_kept : (old new : List (List ℕ)) (slots : List (Option code_entry.Entry)) → Extends old new → AreNumbered (length old) slots → slots_of new slots ≡ slots_of old slots
 slots_kept old new [] grown all = refl
@@ -43,7 +44,8 @@ slots_set old new slots items k held seen grown all is same =
 
 pub numbered_more : (old new : List (List ℕ)) (slots : List (Option code_entry.Entry)) → Extends old new → AreNumbered (length old) slots → AreNumbered (length new) slots
 numbered_more old new slots grown all =
-    All-weaker (λ (x : Option code_entry.Entry). number_in x ≤ length old) (λ (x : Option code_entry.Entry). number_in x ≤ length new) (λ x le. omega (arith, le, grown.more)) slots all
+    let more = longer old new grown.grow in
+    All-weaker (λ (x : Option code_entry.Entry). number_in x ≤ length old) (λ (x : Option code_entry.Entry). number_in x ≤ length new) (λ x le. omega (arith, le, more)) slots all
 
 pub numbered_set : (old new : List (List ℕ)) (slots items : List (Option code_entry.Entry)) (k : ℕ) (held : Option code_entry.Entry) → Extends old new → AreNumbered (length old) slots → items ≡ set slots k held →
     number_in held ≤ length new → AreNumbered (length new) items
@@ -58,7 +60,8 @@ writes_push old new puts items p w grown all is same =
 
 pub puts_more : (old new : List (List ℕ)) (puts : List Put) → Extends old new → AreNumberedPuts (length old) puts → AreNumberedPuts (length new) puts
 puts_more old new puts grown all =
-    All-weaker (λ (x : Put). number_in x.entry ≤ length old) (λ (x : Put). number_in x.entry ≤ length new) (λ x le. omega (arith, le, grown.more)) puts all
+    let more = longer old new grown.grow in
+    All-weaker (λ (x : Put). number_in x.entry ≤ length old) (λ (x : Put). number_in x.entry ≤ length new) (λ x le. omega (arith, le, more)) puts all
 
 pub puts_push : (old new : List (List ℕ)) (puts items : List Put) (p : Put) → Extends old new → AreNumberedPuts (length old) puts → items ≡ puts ++ p ∷ [] → number_in p.entry ≤ length new → AreNumberedPuts (length new) items
 puts_push old new puts items p grown all is le =

@@ -5,7 +5,6 @@ pub mod Texts
 pub mod Afterwards
 pub mod Extending
 pub mod Holding
-pub mod Numbering
 pub mod SlotLines
 pub mod Evenly
 pub mod Planned

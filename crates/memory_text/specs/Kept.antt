@@ -1,18 +1,17 @@
 -- What memories and plans keep.
-use Rattle.std.specs.Prelude.{◌≡◌, ℕ, ◌≤◌, ◌<◌, List, length, Option, Some, None, All, IsTrue}
-use Rattle.field_boxes.specs.Names.{name_at}
+use Rattle.std.specs.Prelude.{ℕ, ◌≤◌, ◌<◌, List, Option, Some, None, All, IsTrue}
 use Rattle.ternary_words.specs.declared.entry.Entry.{Entry}
 use Rattle.bank_update.specs.declared.write.Put.{Put}
+use Rattle.slot_patch.specs.Naming.{Grow}
 use Rattle.table_text.specs.Names.{is_name}
 
 -- each name can be spelled
 abbrev pub AreSpelled : List (List ℕ) → Type 0
 AreSpelled names = All (λ name. IsTrue (is_name name)) names
 
--- the later list has the names of the earlier one under their numbers, and where these can be spelled, all can
+-- the later list has the names of the earlier one in front, and where these can be spelled, all can
 pub record Extends (before now : List (List ℕ)) : Type 0 where
-  pub kept : (k : ℕ) → k ≤ length before → name_at now k ≡ name_at before k
-  pub more : length before ≤ length now
+  pub grow : Grow before now
   pub spelled : AreSpelled before → AreSpelled now
 
 -- the number of the decision in a slot, 0 in an empty one

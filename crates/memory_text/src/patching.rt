@@ -1,18 +1,17 @@
 //! Planning the writes that lead from a memory to a table.
-ghost use Rattle.std.specs.Prelude.{◌≡◌, map, IfOk};
-ghost use Rattle.ternary_words.specs.Views.{entry_of, table_of};
-ghost use Rattle.memory_text.specs.Kept.{AreSpelled, Extends};
+ghost use Rattle.std.specs.Prelude.{IfOk};
+ghost use Rattle.ternary_words.specs.Views.{table_of};
+ghost use Rattle.memory_text.specs.Kept.{AreSpelled};
 ghost use Rattle.memory_text.specs.Patched.{AreCopies, IsPatched};
 ghost use Rattle.memory_text.specs.Views.{memory_of};
 
 use crate::memory::SlotMemory;
-use crate::naming::number_of;
 use crate::plan::SlotPlan;
 use bank_update::{Put, Write};
 use razor_base::Memory;
-use slot_patch::{Names, Planned, plan_update};
+use slot_patch::{Planned, plan_update};
 use std::alloc::Global;
-use ternary_words::{Entry, Table};
+use ternary_words::Table;
 
 /// What comes of planning.
 #[derive(Drop)]
@@ -34,7 +33,7 @@ pub fn patch(alloc: Global, memory: SlotMemory, table: &Table) -> Result<Patched
         slots,
         mut names,
     } = memory;
-    let entries = numbered_entries(alloc, &mut names, table)?;
+    let entries = names.renumber(alloc, table)?;
     match plan_update(alloc, &slots, &entries)? {
         Planned::Ready(plan) => {
             let writes = puts(alloc, &plan.writes)?;
@@ -47,23 +46,6 @@ pub fn patch(alloc: Global, memory: SlotMemory, table: &Table) -> Result<Patched
         }
         Planned::NoRoom(needed) => Ok(Patched::NoRoom(needed as u64)),
     }
-}
-
-/// The entries of the table with the numbers of their decisions, which are put among the names.
-fn numbered_entries(alloc: Global, names: &mut Names, table: &Table) -> Result<Vec<Entry>, Memory>
-    requires { AreSpelled table.now.names }
-    ensures entries { IfOk result (λ entries. map (entry_of names.new) entries.items ≡ map (entry_of table.now.names) table.now.entries.items) }
-    ensures extends { Extends names.old names.new }
-{
-    let mut entries = Vec::with_capacity(alloc, table.entries.len())?;
-    for entry in &table.entries {
-        let decision = number_of(names, table.names.name(entry.decision))?;
-        entries.push(Entry {
-            word: entry.word,
-            decision,
-        })?;
-    }
-    Ok(entries)
 }
 
 /// What the writes put down.

@@ -1,8 +1,9 @@
 -- Numbers of decisions in a list of names that grows.
-use Rattle.std.proofs.Common.{◌≡◌, ◌≤◌, ◌<◌, ◌-◌, ◌∷◌, ◌++◌, ◌&&◌, nat_eq, ℕ, zero, suc, min, Bool, true, false, if◌then◌else◌, List, [], Option, Some, None, option_map, length, map, slice_get, slice_index, inl, inr, refl, ap, sym, ◌∙◌, arith, append-nil, length-append, append_assoc}
+use Rattle.std.proofs.Common.{◌≡◌, ◌≤◌, ◌<◌, ◌-◌, ◌∷◌, ◌++◌, ◌&&◌, nat_eq, ℕ, zero, suc, min, Bool, true, false, if◌then◌else◌, List, [], Option, Some, None, option_map, length, map, slice_get, slice_index, inl, inr, refl, ap, sym, ◌∙◌, subst, arith, append-nil, length-append, append_assoc}
+use Rattle.std.specs.Prelude.{All, IsTrue}
 use Rattle.std.proofs.lemmas.Bool.{cases_eq}
 use Rattle.std.proofs.lemmas.Option.{slice_get-map}
-use Rattle.std.proofs.lemmas.List.Elements.{All-head, All-tail, All-nil, All-cons}
+use Rattle.std.proofs.lemmas.List.Elements.{All-head, All-tail, All-nil, All-cons, All-push}
 use Rattle.slot_patch.proofs.Builders.{get-front}
 use Rattle.field_boxes.specs.Headline.Names.{miss, text_of}
 use Rattle.field_boxes.specs.Names.{name_at, with_name, is_known}
@@ -14,7 +15,7 @@ use Rattle.ternary_words.specs.declared.word.Word.{Word}
 use Rattle.bank_update.specs.Standing.{table_in}
 use Rattle.slot_patch.specs.Least.{least_slots, same_word}
 use Rattle.bank_update.specs.Standing.{entries_in}
-use Rattle.slot_patch.specs.Naming.{AreNumbersOf, Grow, HaveWordsOf, renumbered}
+use Rattle.slot_patch.specs.Naming.{AreNumbersOf, ComeFrom, Grow, HaveWordsOf, renumbered}
 
 abbrev Names : Type 0
 Names = List (List ℕ)
@@ -56,6 +57,21 @@ with_case names name false = (name ∷ [], refl)
 
 pub grow-with : (names : Names) (name : List ℕ) → Grow names (with_name names name)
 grow-with names name = with_case names name (is_known names name)
+
+-- what is true of each name
+true_at : (P : List ℕ → Type 0) (names : Names) (k : ℕ) → k < length names → All P names → P (text_of (name_at names (suc k)))
+true_at P [] k h all = absurd (omega (arith, h))
+true_at P (x ∷ names) zero h all = All-head P x names all
+true_at P (x ∷ names) (suc k) h all = true_at P names k (omega (arith, h)) (All-tail P x names all)
+
+true_case : (P : List ℕ → Type 0) (names : Names) (name : List ℕ) (t : Bool) → All P names → P name → All P (if t then names else names ++ name ∷ [])
+true_case P names name true all one = all
+true_case P names name false all one = All-push P names name all one
+
+pub come-with : (before these now : Names) (k : ℕ) (name : List ℕ) → ComeFrom before these now → name ≡ text_of (name_at these (suc k)) → k < length these → ComeFrom before these (with_name now name)
+come-with before these now k name h same small = λ is olds news.
+    let P = λ (x : List ℕ). IsTrue (is x) in
+    true_case P now name (is_known now name) (h is olds news) (subst P (sym same) (true_at P these k small news))
 
 -- numbers of the same names
 

@@ -34,7 +34,7 @@ impl Names {
     ghost use Rattle.ternary_words.specs.Views.{entry_of};
     ghost use Rattle.field_boxes.specs.Headline.Names.{text_of};
     ghost use Rattle.field_boxes.specs.Names.{name_at, with_name};
-    ghost use Rattle.slot_patch.specs.Naming.{AreNumbersOf, Grow, HaveWordsOf};
+    ghost use Rattle.slot_patch.specs.Naming.{AreNumbersOf, ComeFrom, Grow, HaveWordsOf};
 
     /// No name.
     pub fn new(alloc: Global) -> Names
@@ -77,6 +77,7 @@ impl Names {
     /// The numbers of these names, behind that of no decision.
     pub(crate) fn numbers(&mut self, alloc: Global, names: &Decisions) -> Result<Vec<u32>, Memory>
         ensures grow { Grow self.old self.new }
+        ensures from { OnOk result (ComeFrom self.old names.now self.new) }
         ensures numbers { IfOk result (λ numbers. AreNumbersOf (length names.now) names.now self.new numbers.items) }
     {
         let mut numbers = Vec::new(alloc);
@@ -88,8 +89,9 @@ impl Names {
     }
 
     /// The entries of the table, with the numbers that their decisions have here.
-    pub(crate) fn renumber(&mut self, alloc: Global, table: &Table) -> Result<Vec<Entry>, Memory>
+    pub fn renumber(&mut self, alloc: Global, table: &Table) -> Result<Vec<Entry>, Memory>
         ensures grow { Grow self.old self.new }
+        ensures from { OnOk result (ComeFrom self.old table.now.names self.new) }
         ensures names { IfOk result (λ entries. map (entry_of self.new) entries.items ≡ map (entry_of table.now.names) table.now.entries.items) }
         ensures words { IfOk result (λ entries. HaveWordsOf entries.items table.now.entries.items) }
         ensures within { IfOk result (λ entries. AreNumbered (length self.new) entries.items) }
