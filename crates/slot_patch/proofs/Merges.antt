@@ -1,16 +1,15 @@
 -- Layouts that grow by one slot.
 use Rattle.std.proofs.Common.{◌≡◌, ◌<◌, ◌+◌, ◌∷◌, ◌++◌, ℕ, zero, suc, List, [], Option, Some, None, option_map, length, take, drop, slice_get, get_or, refl, ap, sym, ◌∙◌, subst, arith, append-nil, drop-cons}
 use Rattle.std.specs.Option.{option_to_list}
-use Rattle.std.proofs.lemmas.Option.{none-some, slice_get_within}
+use Rattle.std.proofs.lemmas.Option.{none-some, slice_get-map, slice_get_within}
 use Rattle.std.proofs.Math.Seq.{take-length}
-use Rattle.std.proofs.lemmas.List.{length-take-le}
-use Rattle.ternary_words.specs.Views.{word_of}
+use Rattle.std.proofs.lemmas.List.{length-map, length-take-le, map-append}
 use Rattle.ternary_words.specs.declared.entry.Entry.{Entry}
 use Rattle.tcam_sim.specs.Slots.{stored}
 use Rattle.slot_patch.specs.Banks.{HaveOneWord, ShareWords}
 use Rattle.bank_update.specs.Standing.{bank_of}
 use Rattle.slot_patch.specs.Layouts.{IsLayout}
-use Rattle.slot_patch.specs.Merging.{IsMerged, IsSpread}
+use Rattle.slot_patch.specs.Merging.{IsLayoutOf, IsMerged, IsSpread, entries_at, entry_at}
 use Rattle.bank_update.specs.Standing.{entries_in}
 use Rattle.slot_patch.specs.Ordered.{placed, places}
 use Rattle.slot_patch.specs.Sharing.{AreShared, HaveOneWordAt, IsPairFrom}
@@ -48,7 +47,7 @@ take-more [] i x h = absurd (none-some x h)
 take-more (y ∷ xs) zero x h = cc
 take-more {X = X} (y ∷ xs) (suc i) x h = ap (λ (zs : List X). y ∷ zs) (take-more xs i x h)
 
-take-none : {X : Type 0} (xs : List X) → take 0 xs ≡ []
+pub take-none : {X : Type 0} (xs : List X) → take 0 xs ≡ []
 take-none [] = refl
 take-none (x ∷ xs) = refl
 
@@ -59,49 +58,61 @@ AreNext xs i next x = take next xs ≡ take i xs ++ option_to_list x
 pub none-next : (xs : List Entry) (i : ℕ) → AreNext xs i i None
 none-next xs i = sym (append-nil (take i xs))
 
-pub merged-more : (old new : List Entry) (i j shared m n many : ℕ) (before now : Layout) (x y : Option Entry) → IsMerged old new i j shared before →
-    now.start.items ≡ before.start.items ++ x ∷ [] → now.next.items ≡ before.next.items ++ y ∷ [] → HaveOneWord (option_map stored x) (option_map stored y) →
-    AreNext old i m x → AreNext new j n y → i + j + suc many ≡ m + n + shared → IsMerged old new m n many now
-merged-more old new i j shared m n many before now x y h start next word olds news counts =
-    let more_start = ap length start ∙ length-more before.start.items x in
-    let more_next = ap length next ∙ length-more before.next.items y in
+-- one place more
+seen-more : (es : List Entry) (before now : List (Option ℕ)) (p : Option ℕ) (x : Option Entry) → now ≡ before ++ p ∷ [] → entry_at es p ≡ x → entries_at es now ≡ entries_at es before ++ x ∷ []
+seen-more es before now p x more is =
+    ap (entries_at es) more ∙ map-append (entry_at es) before (p ∷ []) ∙ ap (λ (y : Option Entry). entries_at es before ++ y ∷ []) is
+
+pub merged-more : (old new : List Entry) (i j shared m n many : ℕ) (before now : Layout) (p q : Option ℕ) (x y : Option Entry) → IsMerged old new i j shared before →
+    now.start.items ≡ before.start.items ++ p ∷ [] → now.next.items ≡ before.next.items ++ q ∷ [] → entry_at old p ≡ x → entry_at new q ≡ y →
+    HaveOneWord (option_map stored x) (option_map stored y) → AreNext old i m x → AreNext new j n y → i + j + suc many ≡ m + n + shared → IsMerged old new m n many now
+merged-more old new i j shared m n many before now p q x y h start next is_x is_y word olds news counts =
+    let more_start = ap length start ∙ length-more before.start.items p in
+    let more_next = ap length next ∙ length-more before.next.items q in
+    let start_seen = seen-more old before.start.items now.start.items p x start is_x in
+    let next_seen = seen-more new before.next.items now.next.items q y next is_y in
+    let s = entries_at old before.start.items in
+    let t = entries_at new before.next.items in
     let long = h.long in
     let count = h.count in
     record {
       long = omega (arith, more_start, more_next, long);
-      old_entries = ap entries_in start ∙ entries-more before.start.items x ∙ ap (λ (es : List Entry). es ++ option_to_list x) h.old_entries ∙ sym olds;
-      new_entries = ap entries_in next ∙ entries-more before.next.items y ∙ ap (λ (es : List Entry). es ++ option_to_list y) h.new_entries ∙ sym news;
-      words = subst (λ (s : Slots). ShareWords (bank_of s) (bank_of now.next.items)) (sym start)
-          (subst (λ (s : Slots). ShareWords (bank_of (before.start.items ++ x ∷ [])) (bank_of s)) (sym next) (words-more before.start.items before.next.items x y h.words word));
+      old_entries = ap entries_in start_seen ∙ entries-more s x ∙ ap (λ (es : List Entry). es ++ option_to_list x) h.old_entries ∙ sym olds;
+      new_entries = ap entries_in next_seen ∙ entries-more t y ∙ ap (λ (es : List Entry). es ++ option_to_list y) h.new_entries ∙ sym news;
+      words = subst (λ (z : Slots). ShareWords (bank_of z) (bank_of (entries_at new now.next.items))) (sym start_seen)
+          (subst (λ (z : Slots). ShareWords (bank_of (s ++ x ∷ [])) (bank_of z)) (sym next_seen) (words-more s t x y h.words word));
       count = omega (arith, more_start, count, counts);
     }
 
-pub merged-new : (old new : List Entry) (i j shared : ℕ) (before now : Layout) (b : Entry) → IsMerged old new i j shared before →
-    now.start.items ≡ before.start.items ++ None ∷ [] → now.next.items ≡ before.next.items ++ Some b ∷ [] → slice_get new j ≡ Some b → IsMerged old new i (suc j) shared now
-merged-new old new i j shared before now b h start next at =
-    merged-more old new i j shared i (suc j) shared before now None (Some b) h start next tt (none-next old i) (take-more new j b at) (omega arith)
+entry-there : (es : List Entry) (k : ℕ) → k < length es → (e : Entry) × (slice_get es k ≡ Some e)
+entry-there [] k small = absurd (omega (arith, small))
+entry-there (e ∷ es) zero small = (e, refl)
+entry-there (e ∷ es) (suc k) small = entry-there es k (omega (arith, small))
 
-pub merged-old : (old new : List Entry) (i j shared : ℕ) (before now : Layout) (a : Entry) → IsMerged old new i j shared before →
-    now.start.items ≡ before.start.items ++ Some a ∷ [] → now.next.items ≡ before.next.items ++ None ∷ [] → slice_get old i ≡ Some a → IsMerged old new (suc i) j shared now
-merged-old old new i j shared before now a h start next at =
-    merged-more old new i j shared (suc i) j shared before now (Some a) None h start next tt (take-more old i a at) (none-next new j) (omega arith)
+pub merged-new : (old new : List Entry) (i j shared : ℕ) (before now : Layout) → IsMerged old new i j shared before →
+    now.start.items ≡ before.start.items ++ None ∷ [] → now.next.items ≡ before.next.items ++ Some j ∷ [] → j < length new → IsMerged old new i (suc j) shared now
+merged-new old new i j shared before now h start next small =
+    let b = entry-there new j small in
+    merged-more old new i j shared i (suc j) shared before now None (Some j) None (Some b.0) h start next refl b.1 tt (none-next old i) (take-more new j b.0 b.1) (omega arith)
 
-pub merged-both : (old new : List Entry) (i j shared : ℕ) (before now : Layout) (a b : Entry) → IsMerged old new i j shared before →
-    now.start.items ≡ before.start.items ++ Some a ∷ [] → now.next.items ≡ before.next.items ++ Some b ∷ [] → slice_get old i ≡ Some a → slice_get new j ≡ Some b →
+pub merged-old : (old new : List Entry) (i j shared : ℕ) (before now : Layout) → IsMerged old new i j shared before →
+    now.start.items ≡ before.start.items ++ Some i ∷ [] → now.next.items ≡ before.next.items ++ None ∷ [] → i < length old → IsMerged old new (suc i) j shared now
+merged-old old new i j shared before now h start next small =
+    let a = entry-there old i small in
+    merged-more old new i j shared (suc i) j shared before now (Some i) None (Some a.0) None h start next a.1 refl tt (take-more old i a.0 a.1) (none-next new j) (omega arith)
+
+pub merged-both : (old new : List Entry) (i j shared : ℕ) (before now : Layout) → IsMerged old new i j shared before →
+    now.start.items ≡ before.start.items ++ Some i ∷ [] → now.next.items ≡ before.next.items ++ Some j ∷ [] →
     HaveOneWordAt old new i j → IsMerged old new (suc i) (suc j) (suc shared) now
-merged-both old new i j shared before now a b h start next at_old at_new word =
-    let one : a ≡ word.a = let e = sym at_old ∙ word.old_at in cc in
-    let two : b ≡ word.b = let e = sym at_new ∙ word.new_at in cc in
-    let same : word_of a.word ≡ word_of b.word =
-    ap (λ (e : Entry). word_of e.word) one ∙ words-alike word.a word.b word.same ∙ ap (λ (e : Entry). word_of e.word) (sym two) in
-    merged-more old new i j shared (suc i) (suc j) (suc shared) before now (Some a) (Some b) h start next same (take-more old i a at_old) (take-more new j b at_new) (omega arith)
+merged-both old new i j shared before now h start next word =
+    merged-more old new i j shared (suc i) (suc j) (suc shared) before now (Some i) (Some j) (Some word.a) (Some word.b) h start next word.old_at word.new_at
+    (words-alike word.a word.b word.same) (take-more old i word.a word.old_at) (take-more new j word.b word.new_at) (omega arith)
 
 -- the whole of both tables
-pub merged-all : (old new : List Entry) (shared : ℕ) (l : Layout) → IsMerged old new (length old) (length new) shared l →
-    IsLayout (length l.start.items) old new l.start.items l.next.items
+pub merged-all : (old new : List Entry) (shared : ℕ) (l : Layout) → IsMerged old new (length old) (length new) shared l → IsLayoutOf old new l
 merged-all old new shared l h = record {
-  start_slots = refl;
-  next_slots = h.long;
+  start_slots = length-map l.start.items (entry_at old);
+  next_slots = length-map l.next.items (entry_at new) ∙ h.long;
   old_entries = h.old_entries ∙ take-length old;
   new_entries = h.new_entries ∙ take-length new;
   words = h.words;
@@ -117,30 +128,40 @@ pair-inside old new i j p h = (slice_get_within old p.old h.word.a h.word.old_at
 
 -- slots with empty ones
 
-pub spread-more : (old new : List Entry) (before now : Spread) (x y : Option Entry) → IsSpread old new before → now.layout.start.items ≡ before.layout.start.items ++ x ∷ [] →
-    now.layout.next.items ≡ before.layout.next.items ++ y ∷ [] → HaveOneWord (option_map stored x) (option_map stored y) →
-    now.slots.items ≡ before.slots.items ++ placed x (length before.layout.start.items) → IsSpread (old ++ option_to_list x) (new ++ option_to_list y) now
-spread-more old new before now x y h start next word slots =
-    let s = before.layout.start.items in
-    let n = before.layout.next.items in
-    let more_start = ap length start ∙ length-more s x in
+pub spread-more : (old new : List Entry) (before now : Spread) (x y : Option Entry) → IsSpread old new before → now.next.items ≡ before.next.items ++ y ∷ [] →
+    HaveOneWord (option_map stored x) (option_map stored y) → now.slots.items ≡ before.slots.items ++ placed x (length before.next.items) →
+    IsSpread (old ++ option_to_list x) (new ++ option_to_list y) now
+spread-more old new before now x y h next word slots =
+    let s = h.start in
+    let n = before.next.items in
+    let more_start = length-more s x in
     let more_next = ap length next ∙ length-more n y in
     let long = h.long in
     record {
+      start = s ++ x ∷ [];
       long = omega (arith, more_start, more_next, long);
-      old_entries = ap entries_in start ∙ entries-more s x ∙ ap (λ (es : List Entry). es ++ option_to_list x) h.old_entries;
+      old_entries = entries-more s x ∙ ap (λ (es : List Entry). es ++ option_to_list x) h.old_entries;
       new_entries = ap entries_in next ∙ entries-more n y ∙ ap (λ (es : List Entry). es ++ option_to_list y) h.new_entries;
-      words = subst (λ (z : Slots). ShareWords (bank_of z) (bank_of now.layout.next.items)) (sym start)
-          (subst (λ (z : Slots). ShareWords (bank_of (s ++ x ∷ [])) (bank_of z)) (sym next) (words-more s n x y h.words word));
-      slots = ap (places 0) start ∙ places-more 0 s x ∙ ap (λ (ns : List ℕ). ns ++ placed x (0 + length s)) h.slots
-          ∙ ap (λ m. before.slots.items ++ placed x m) (let e : 0 + length s ≡ length s = omega arith in e) ∙ sym slots;
+      words = subst (λ (z : Slots). ShareWords (bank_of (s ++ x ∷ [])) (bank_of z)) (sym next) (words-more s n x y h.words word);
+      slots = places-more 0 s x ∙ ap (λ (ns : List ℕ). ns ++ placed x (0 + length s)) h.slots
+          ∙ ap (λ m. before.slots.items ++ placed x m) (let e : 0 + length s ≡ length n = omega (arith, long) in e) ∙ sym slots;
     }
 
-pub spread-empty : (old new : List Entry) (before now : Spread) → IsSpread old new before → now.layout.start.items ≡ before.layout.start.items ++ None ∷ [] →
-    now.layout.next.items ≡ before.layout.next.items ++ None ∷ [] → now.slots.items ≡ before.slots.items → IsSpread old new now
-spread-empty old new before now h start next slots =
-    let more = spread-more old new before now None None h start next tt (slots ∙ sym (append-nil before.slots.items)) in
+pub spread-empty : (old new : List Entry) (before now : Spread) → IsSpread old new before → now.next.items ≡ before.next.items ++ None ∷ [] →
+    now.slots.items ≡ before.slots.items → IsSpread old new now
+spread-empty old new before now h next slots =
+    let more = spread-more old new before now None None h next tt (slots ∙ sym (append-nil before.slots.items)) in
     subst (λ (es : List Entry). IsSpread es new now) (append-nil old) (subst (λ (es : List Entry). IsSpread (old ++ []) es now) (append-nil new) more)
+
+pub spread-new : (s : Spread) → s.next.items ≡ [] → s.slots.items ≡ [] → IsSpread [] [] s
+spread-new s next slots = record {
+  start = [];
+  long = ap length next;
+  old_entries = refl;
+  new_entries = ap entries_in next;
+  words = subst (λ (z : Slots). ShareWords (bank_of []) (bank_of z)) (sym next) tt;
+  slots = sym slots;
+}
 
 -- the entries of one slot have one word
 pub word-at : (start next : Slots) (k : ℕ) (x y : Option Entry) → ShareWords (bank_of start) (bank_of next) → slice_get start k ≡ Some x → slice_get next k ≡ Some y →
@@ -153,38 +174,42 @@ word-at (a ∷ start) (b ∷ next) zero x y w h g =
     subst (λ (z : Option Entry). HaveOneWord (option_map stored z) (option_map stored y)) one (subst (λ (z : Option Entry). HaveOneWord (option_map stored a) (option_map stored z)) two w.0)
 word-at (a ∷ start) (b ∷ next) (suc k) x y w h g = word-at start next k x y w.1 h g
 
--- one slot of a layout more is spread
-pub spread-next : (compact : Layout) (k : ℕ) (x y : Option Entry) (now : Spread) → slice_get compact.start.items k ≡ Some x → slice_get compact.next.items k ≡ Some y →
-    IsSpread (entries_in (take k compact.start.items) ++ option_to_list x) (entries_in (take k compact.next.items) ++ option_to_list y) now →
-    IsSpread (entries_in (take (suc k) compact.start.items)) (entries_in (take (suc k) compact.next.items)) now
-spread-next compact k x y now h g s =
-    let olds = ap entries_in (take-more compact.start.items k x h) ∙ entries-more (take k compact.start.items) x in
-    let news = ap entries_in (take-more compact.next.items k y g) ∙ entries-more (take k compact.next.items) y in
-    subst (λ (es : List Entry). IsSpread es (entries_in (take (suc k) compact.next.items)) now) (sym olds)
-    (subst (λ (es : List Entry). IsSpread (entries_in (take k compact.start.items) ++ option_to_list x) es now) (sym news) s)
+-- what stands at a place
+pub seen-at : (es : List Entry) (places : List (Option ℕ)) (k : ℕ) (p : Option ℕ) (x : Option Entry) → slice_get places k ≡ Some p → x ≡ entry_at es p → slice_get (entries_at es places) k ≡ Some x
+seen-at es places k p x at is =
+    slice_get-map (entry_at es) places k ∙ ap (option_map (entry_at es)) at ∙ ap (λ (y : Option Entry). Some y) (sym is)
 
-pub spread-none : (compact : Layout) (now : Spread) → now.layout.start.items ≡ [] → now.layout.next.items ≡ [] → now.slots.items ≡ [] →
-    IsSpread (entries_in (take 0 compact.start.items)) (entries_in (take 0 compact.next.items)) now
-spread-none compact now start next slots = record {
-  long = ap length next ∙ sym (ap length start);
-  old_entries = ap entries_in start ∙ ap entries_in (sym (take-none compact.start.items));
-  new_entries = ap entries_in next ∙ ap entries_in (sym (take-none compact.next.items));
-  words = subst (λ (s : Slots). ShareWords (bank_of s) (bank_of now.layout.next.items)) (sym start) (subst (λ (s : Slots). ShareWords (bank_of []) (bank_of s)) (sym next) tt);
-  slots = ap (places 0) start ∙ sym slots;
-}
+-- the first slots of a layout are spread
+abbrev pub AreSpread : ℕ → Slots → Slots → Spread → Type 0
+AreSpread k start next now = IsSpread (entries_in (take k start)) (entries_in (take k next)) now
 
-pub spread-layout : (compact : Layout) (now : Spread) (slots : ℕ) (old new : List Entry) → IsLayout (length compact.start.items) old new compact.start.items compact.next.items →
-    IsSpread (entries_in (take (length compact.start.items) compact.start.items)) (entries_in (take (length compact.start.items) compact.next.items)) now →
-    length now.layout.start.items ≡ slots → IsLayout slots old new now.layout.start.items now.layout.next.items
-spread-layout compact now slots old new l s long =
-    let n = length compact.start.items in
-    record {
-      start_slots = long;
-      next_slots = s.long ∙ long;
-      old_entries = s.old_entries ∙ ap entries_in (take-length compact.start.items) ∙ l.old_entries;
-      new_entries = s.new_entries ∙ ap entries_in (ap (λ (m : ℕ). take m compact.next.items) (sym l.next_slots) ∙ take-length compact.next.items) ∙ l.new_entries;
+pub spread-next : (start next : Slots) (k : ℕ) (x y : Option Entry) (now : Spread) → slice_get start k ≡ Some x → slice_get next k ≡ Some y →
+    IsSpread (entries_in (take k start) ++ option_to_list x) (entries_in (take k next) ++ option_to_list y) now → AreSpread (suc k) start next now
+spread-next start next k x y now h g s =
+    let olds = ap entries_in (take-more start k x h) ∙ entries-more (take k start) x in
+    let news = ap entries_in (take-more next k y g) ∙ entries-more (take k next) y in
+    subst (λ (es : List Entry). IsSpread es (entries_in (take (suc k) next)) now) (sym olds)
+    (subst (λ (es : List Entry). IsSpread (entries_in (take k start) ++ option_to_list x) es now) (sym news) s)
+
+pub spread-none : (start next : Slots) (now : Spread) → IsSpread [] [] now → AreSpread 0 start next now
+spread-none start next now h =
+    subst (λ (es : List Entry). IsSpread es (entries_in (take 0 next)) now) (ap entries_in (sym (take-none start)))
+    (subst (λ (es : List Entry). IsSpread [] es now) (ap entries_in (sym (take-none next))) h)
+
+pub spread-layout : (old new : List Entry) (compact : Layout) (now : Spread) (slots : ℕ) → IsLayoutOf old new compact →
+    AreSpread (length compact.start.items) (entries_at old compact.start.items) (entries_at new compact.next.items) now → length now.next.items ≡ slots →
+    (start : Slots) × IsLayout slots old new start now.next.items × (places 0 start ≡ now.slots.items)
+spread-layout old new compact now slots l s long =
+    let start = entries_at old compact.start.items in
+    let next = entries_at new compact.next.items in
+    let layout : IsLayout slots old new s.start now.next.items = record {
+      start_slots = sym s.long ∙ long;
+      next_slots = long;
+      old_entries = s.old_entries ∙ ap entries_in (ap (λ (m : ℕ). take m start) (sym l.start_slots) ∙ take-length start) ∙ l.old_entries;
+      new_entries = s.new_entries ∙ ap entries_in (ap (λ (m : ℕ). take m next) (sym l.next_slots) ∙ take-length next) ∙ l.new_entries;
       words = s.words;
-    }
+    } in
+    (s.start, layout, s.slots)
 
 -- what one slot more holds
 pub standing-more : (held : Slots) (k : ℕ) (x : Option Entry) → slice_get held k ≡ Some x →

@@ -1,13 +1,16 @@
 //! Slots for the entries of two tables.
+ghost use Rattle.std.specs.Prelude.{◌≡◌};
+ghost use Rattle.slot_patch.specs.Merging.{entry_at};
+
 use razor_base::Memory;
 use std::alloc::Global;
 use ternary_words::Entry;
 
-/// For each slot the old entry and the new one that are to stand there.
+/// For each slot the places of the old entry and of the new one that are to stand there.
 #[derive(Drop)]
 pub(crate) struct Layout {
-    pub(crate) start: Vec<Option<Entry>>,
-    pub(crate) next: Vec<Option<Entry>>,
+    pub(crate) start: Vec<Option<usize>>,
+    pub(crate) next: Vec<Option<usize>>,
 }
 
 impl Layout {
@@ -24,13 +27,23 @@ impl Layout {
         })
     }
 
-    /// One slot more, for these entries.
-    pub(crate) fn put(&mut self, old: Option<Entry>, new: Option<Entry>) -> Result<(), Memory>
+    /// One slot more, for the entries at these places.
+    pub(crate) fn put(&mut self, old: Option<usize>, new: Option<usize>) -> Result<(), Memory>
         ensures start { OnOk result (self.new.start.items ≡ self.old.start.items ++ old ∷ []) }
         ensures next { OnOk result (self.new.next.items ≡ self.old.next.items ++ new ∷ []) }
     {
         self.start.push(old)?;
         self.next.push(new)?;
         Ok(())
+    }
+}
+
+/// The entry at a place of a table, if there is one.
+pub(crate) fn entry_at(entries: &[Entry], place: Option<usize>) -> Option<Entry>
+    ensures { result ≡ entry_at entries.now place }
+{
+    match place {
+        Some(place) => entries.get(place).copied(),
+        None => None,
     }
 }

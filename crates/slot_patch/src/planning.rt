@@ -1,11 +1,9 @@
 //! The plan that leads from a table in its slots to another one.
 ghost use Rattle.std.specs.Prelude.{◌≡◌, ◌≤◌, ◌+◌, ◌*◌, ◌<◌, ◌^◌, length, IfOk};
 ghost use Rattle.std.specs.Bool.{OnTrue, OnFalse};
-ghost use Rattle.slot_patch.specs.Banks.{ShareWords};
-ghost use Rattle.bank_update.specs.Standing.{bank_of};
-ghost use Rattle.slot_patch.specs.Layouts.{IsLayout};
 ghost use Rattle.slot_patch.specs.Least.{least_slots, same_word};
 ghost use Rattle.bank_update.specs.Standing.{entries_in};
+ghost use Rattle.slot_patch.specs.Merging.{IsLayoutOf};
 ghost use Rattle.slot_patch.specs.Ordered.{places};
 ghost use Rattle.slot_patch.specs.Planning.{IsPlan, IsPlanned};
 
@@ -43,14 +41,14 @@ pub fn plan_update(
     if needed > held.len() {
         return Ok(Planned::NoRoom(needed));
     }
-    let plan = plan_in_place(alloc, held, &standing, &compact)?;
+    let plan = plan_in_place(alloc, held, &standing, table, &compact)?;
     if is_shorter_beside(
         plan.writes.len(),
         standing.entries.len(),
         table.len(),
         held.len(),
     ) {
-        let beside = plan_beside(alloc, held, table)?;
+        let beside = plan_beside(alloc, held, &standing, table)?;
         return Ok(Planned::Ready(beside));
     }
     Ok(Planned::Ready(plan))
@@ -71,7 +69,7 @@ fn compact(
     table: &[Entry],
     slots: usize,
 ) -> Result<Layout, Memory>
-    ensures layout { IfOk result (λ layout. IsLayout (length layout.start.items) standing.now.entries.items table.now layout.start.items layout.next.items) }
+    ensures layout { IfOk result (IsLayoutOf standing.now.entries.items table.now) }
     ensures fewest { IfOk result (λ layout. length layout.start.items ≡ least_slots same_word standing.now.entries.items table.now) }
 {
     let pairs = shared(alloc, &standing.entries, table)?;
@@ -85,28 +83,26 @@ fn plan_in_place(
     alloc: Global,
     held: &[Option<Entry>],
     standing: &Standing,
+    table: &[Entry],
     compact: &Layout,
 ) -> Result<Plan, Memory>
     requires few { length held.now < 2 ^ 32 }
     requires slots { standing.now.slots.items ≡ places 0 held.now }
     requires entries { standing.now.entries.items ≡ entries_in held.now }
     requires room { length compact.now.start.items ≤ length held.now }
-    requires long { length compact.now.next.items ≡ length compact.now.start.items }
-    requires words { ShareWords (bank_of compact.now.start.items) (bank_of compact.now.next.items) }
-    requires old { entries_in compact.now.start.items ≡ entries_in held.now }
-    ensures { IfOk result (IsPlan held.now (entries_in compact.now.next.items)) }
+    requires layout { IsLayoutOf standing.now.entries.items table.now compact.now }
+    ensures { IfOk result (IsPlan held.now table.now) }
 {
     let wishes = slot_wishes(alloc, compact, &standing.slots, held.len())?;
-    let Spread { layout, slots } = spread_out(alloc, compact, &wishes, held.len())?;
-    let Layout { start, next } = layout;
-    let plan = in_layout(
+    let Spread { next, slots } = spread_out(
         alloc,
-        &standing.slots,
-        &slots,
         &standing.entries,
-        &start,
-        next,
+        table,
+        compact,
+        &wishes,
+        held.len(),
     )?;
+    let plan = in_layout(alloc, &standing.slots, &slots, &standing.entries, next)?;
     let plan = joined(alloc, plan)?;
     Ok(plan)
 }

@@ -20,13 +20,14 @@ loop-pair-preserved c =
       merged = subst (λ (n : ℕ). IsMerged old new n (p.new + 1) (l.pair-index + 1) c.put_pair.new.layout) (sym (add-one p.old))
           (subst (λ (n : ℕ). IsMerged old new (suc p.old) n (l.pair-index + 1) c.put_pair.new.layout) (sym (add-one p.new))
           (subst (λ (n : ℕ). IsMerged old new (suc p.old) (suc p.new) n c.put_pair.new.layout) (sym (add-one l.pair-index))
-          (c.in_ok-put_pair.ensures l.pair-index l.invariant.merged)));
+          (c.in_ok-put_pair.ensures old new l.pair-index next.0.word l.invariant.merged)));
     }
 
 pub put_pair-requires : goal.put_pair-requires
 put_pair-requires c =
     let l = c.loop-pair in
-    (next-shared c.args.old.now c.args.new.now l.at.old l.at.new l.pair-index c.args.pairs.now (record { old = 0; new = 0 }) c.loop-pair-test.true l.invariant.shared).0
+    let next = next-shared c.args.old.now c.args.new.now l.at.old l.at.new l.pair-index c.args.pairs.now (record { old = 0; new = 0 }) c.loop-pair-test.true l.invariant.shared in
+    record { old = next.0.old_from; new = next.0.new_from }
 
 pub overflow_add-at : goal.overflow_add-at
 overflow_add-at c =
@@ -49,11 +50,11 @@ returns-clause-layout c =
     let l = c.loop-pair in
     let old = c.args.old.now in
     let new = c.args.new.now in
-    let m = c.in_ok-fill_gap.ensures l.pair-index l.invariant.merged in
+    let m = c.in_ok-fill_gap.ensures old new l.pair-index (omega arith) (omega arith) l.invariant.merged in
     merged-all old new l.pair-index c.fill_gap.new.layout m
 
 pub returns-clause-count : goal.returns-clause-count
 returns-clause-count c =
     let l = c.loop-pair in
-    let count = (c.in_ok-fill_gap.ensures l.pair-index l.invariant.merged).count in
+    let count = (c.in_ok-fill_gap.ensures c.args.old.now c.args.new.now l.pair-index (omega arith) (omega arith) l.invariant.merged).count in
     omega (arith, count, c.loop-pair-test.false, l.auto.pair-index-end)
