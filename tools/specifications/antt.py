@@ -84,8 +84,7 @@ class File:
 
     def __init__(self, crate, name):
         self.crate, self.name = crate, name
-        path = specs_of(crate) / f"{name.replace('.', '/')}.antt"
-        text = path.read_text()
+        text = path_of(crate, name).read_text()
         lines = text.splitlines()
         count = next((at for at, line in enumerate(lines) if not line.startswith("--")), len(lines))
         self.says = sentence(lines[:count])
@@ -105,8 +104,7 @@ def imports(text):
     """What the names of modules, and the other names, stand for that a file imports of this repository and of the library."""
     modules, names = {}, {}
     for crate, path, listed, alias in IMPORT.findall(text):
-        # The constructors of a type may be imported from a path that ends with the type.
-        file = path if path.startswith("declared.") else ".".join(path.split(".")[: 2 if path.startswith(f"{HEADLINE}.") else 1])
+        file = path if path.startswith("declared.") else file_on(crate, path)
         if listed:
             for one in listed.split(","):
                 name, _, other = one.strip().partition(" as ")
@@ -114,6 +112,13 @@ def imports(text):
         else:
             modules[alias or path.rpartition(".")[2]] = (crate, file)
     return modules, names
+
+
+@functools.cache
+def file_on(crate, path):
+    """The file that a path leads to, or through: the constructors of a type may be imported from a path that ends with the type."""
+    front = path.rpartition(".")[0]
+    return path if not front or path_of(crate, path).exists() else file_on(crate, front)
 
 
 def definitions(crate, file, lines):
@@ -136,14 +141,20 @@ def specs_of(crate):
     return ROOT / "crates" / crate / "specs"
 
 
+def path_of(crate, file):
+    return specs_of(crate) / f"{file.replace('.', '/')}.antt"
+
+
 def modules(crate):
-    """The files of a crate's specs/, as its Lib.antt and the list of the headline's folder name them."""
-    specs = specs_of(crate)
-    if not (specs / "Lib.antt").exists():
-        return []
-    names = MODULE.findall((specs / "Lib.antt").read_text())
-    within = MODULE.findall((specs / f"{HEADLINE}.antt").read_text()) if HEADLINE in names else []
-    return [*(f"{HEADLINE}.{name}" for name in within), *(name for name in names if name != HEADLINE)]
+    """The files of a crate's specs/, as its Lib.antt and the files above them name them, the headline's first."""
+    found = [it for name in within(crate, "Lib") for it in (name, *(f"{name}.{below}" for below in within(crate, name)))]
+    return sorted((it for it in found if it != HEADLINE), key=lambda it: not it.startswith(f"{HEADLINE}."))
+
+
+def within(crate, file):
+    """The files that a file names as its modules."""
+    path = path_of(crate, file)
+    return MODULE.findall(path.read_text()) if path.exists() else []
 
 
 def crates():

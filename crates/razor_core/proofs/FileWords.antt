@@ -8,13 +8,12 @@ use Rattle.command_words.specs.Spelling.{command_of}
 use Rattle.command_words.proofs.OneFile.{arranges, compiles, shortens}
 use Rattle.razor_core.specs.Headline.Further.{IsArranged, IsShortened}
 use Rattle.razor_core.specs.Headline.Tables.{IsCompiled}
-use Rattle.razor_core.specs.Headlines.{Adds}
-use Rattle.razor_core.specs.Outside.{Outside}
+use Rattle.razor_core.specs.Outside.{Adds, Outside}
 use Rattle.razor_core.specs.Promise.{KeepsPromise, KeepsPromiseOf, Promise}
-use Rattle.razor_core.proofs.Headlines.{made}
+use Rattle.razor_core.proofs.MadeTables.{made}
 use Rattle.razor_core.proofs.WordLengths.{whole_words}
 use Rattle.razor_core.specs.Commands.{meaning}
-use Rattle.razor_core.specs.Make.{making}
+use Rattle.razor_core.specs.Commands.Make.{making}
 
 -- 144 trits, and as many entries as a memory has
 abbrev usual : Sizes

@@ -8,7 +8,7 @@ use Rattle.filter_reader.specs.Headline.FilterList.{list_of}
 use Rattle.memory_text.specs.Reading.{memory_in_text, plan_in_text}
 use Rattle.table_text.specs.Reading.{table_in_text}
 use Rattle.text_lines.specs.Headline.Reading as lines
-use Rattle.razor_core.specs.Inputs.{Input, Value, spelled_as, is_too_long, list_input, list_value, memory_input, memory_value, plan_input, plan_value, script_input, script_value, session_input, session_value, table_input, table_value, text_of_list, text_of_memory, text_of_plan, text_of_script, text_of_session, text_of_table}
+use Rattle.razor_core.specs.Inputs.{Input, Value, spelled_as, is_too_long, lines_value, list_input, list_value, memory_input, memory_value, plan_input, plan_value, script_input, script_value, session_input, session_value, table_input, table_value, text_of_list, text_of_memory, text_of_plan, text_of_script, text_of_session, text_of_table}
 use Rattle.razor_core.specs.Meaning.{Meaning}
 use Rattle.razor_core.specs.Outcome.{Outcome}
 use Rattle.razor_core.specs.Outside.{Outside, Tells, bytes_at}
@@ -69,6 +69,13 @@ remembered name text value h = spelled_so memory_value OfSlots (is_too_long text
 
 pub planned : (name text : List ℕ) → Spells (plan_input name) text (plan_in_text text) plan_value
 planned name text value h = spelled_so plan_value OfSlots (is_too_long text_of_plan (length text)) (plan_in_text text) name _ value h
+
+-- a text that is taken line by line
+pub lined : (text : List ℕ) (value : Value) (turned : Result Value Stop) → turned ≡ Ok (lines_value text) → turned ≡ Ok value → value ≡ lines_value text
+lined text value turned taken h = cc
+
+pub lines_of : {E : Type 0} (input : Input) (text : List ℕ) (taken : Result (List ℕ) E) → taken ≡ Ok text → turn input text ≡ Ok (lines_value text) → Spells input text taken lines_value
+lines_of input text taken is taken_so value h = (text, is, lined text value (turn input text) taken_so h)
 
 -- the command gave this, and says yes
 pub record Gave (command : Meaning) (before after : Outside) (values : List Value) : Type 0 where

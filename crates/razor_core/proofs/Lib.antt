@@ -11,7 +11,6 @@ pub mod Tables
 pub mod TraceEnding
 pub mod TrimEnding
 pub mod SlotEnding
-pub mod SlotLaws
 pub mod Turns
 pub mod CertEnding
 pub mod CheckEnding
@@ -20,7 +19,7 @@ pub mod SpelledNames
 pub mod FieldOrders
 pub mod OrderText
 pub mod Gave
-pub mod Headlines
+pub mod MadeTables
 pub mod StateLines
 pub mod AnsweredBoxes
 pub mod WordLengths

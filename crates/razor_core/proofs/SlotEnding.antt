@@ -7,9 +7,9 @@ use Rattle.memory_text.specs.declared.plan.SlotPlan.{SlotPlan}
 use Rattle.memory_text.specs.Memory.{entries_in}
 use Rattle.memory_text.specs.Patching.{slots_for}
 use Rattle.memory_text.specs.Views.{memory_of, plan_of}
-use Rattle.razor_core.specs.Apply.{misfit, applying}
-use Rattle.razor_core.specs.Patch.{patching}
-use Rattle.razor_core.specs.Place.{placing}
+use Rattle.razor_core.specs.Commands.Apply.{misfit, applying}
+use Rattle.razor_core.specs.Commands.Patch.{patching}
+use Rattle.razor_core.specs.Commands.Place.{placing}
 use Rattle.razor_core.specs.Stopping.{IsFree}
 use Rattle.razor_core.specs.Taking.{memory_value_of, plan_value_of, table_value_of}
 use Rattle.razor_core.specs.Turns.{bad_line, too_long, too_many}

@@ -1,7 +1,8 @@
 //! What each command does: a file a command, named as it (`gen` is a keyword, so its file is `generate`).
 //!
 //! A command takes the turns of its inputs, one after another, works on what they come to, and writes. It answers how it
-//! ended.
+//! ended. The last function of its file does nothing: it is the law that says what status 0 of the command means over
+//! bytes, from what the top call promises of the command alone.
 ghost use Rattle.std.specs.Prelude.{ℕ, List};
 ghost use Rattle.std.specs.Io.KnownBytes.{Keeps};
 ghost use Rattle.command_words.specs.Commands.{command_seen};
@@ -9,30 +10,30 @@ ghost use Rattle.razor_core.specs.Commands.{meaning};
 ghost use Rattle.razor_core.specs.Outside.{seen, IsNoInput};
 ghost use Rattle.razor_core.specs.Ending.{Ends};
 
-mod apply;
-mod arrange;
-mod audit;
-mod cert;
-mod check;
-mod compile;
+pub mod apply;
+pub mod arrange;
+pub mod audit;
+pub mod cert;
+pub mod check;
+pub mod compile;
 mod difference;
-mod drive;
-mod dump;
-mod equiv;
-mod expand;
-mod generate;
+pub mod drive;
+pub mod dump;
+pub mod equiv;
+pub mod expand;
+pub mod generate;
 mod made;
 mod make;
-mod merge;
-mod migrate;
-mod patch;
-mod place;
-mod query;
-mod selfrun;
-mod session;
-mod shorten;
-mod trace;
-mod trim;
+pub mod merge;
+pub mod migrate;
+pub mod patch;
+pub mod place;
+pub mod query;
+pub mod selfrun;
+pub mod session;
+pub mod shorten;
+pub mod trace;
+pub mod trim;
 
 use crate::ending::Ending;
 use apply::apply_plan;
@@ -58,7 +59,7 @@ use trace::answer_trace;
 use trim::trim_table;
 
 /// Does what the command says. Each command is a call of its own, so that no frame holds what two of them want.
-pub fn run<'a, D: Desk, K: Sink>(
+pub(crate) fn run<'a, D: Desk, K: Sink>(
     alloc: Global,
     command: &Command<'a>,
     desk: &mut D,

@@ -1,12 +1,13 @@
 //! `apply`: a memory after the writes of a plan.
-ghost use Rattle.std.specs.Prelude.{◌≡◌, ◌≢◌, ℕ, List, [], ◌∷◌};
+ghost use Rattle.std.specs.Prelude.{◌≡◌, ◌≢◌, ℕ, List, [], ◌∷◌, Some};
 ghost use Rattle.std.specs.Io.KnownBytes.{Keeps};
 ghost use Rattle.memory_text.specs.Views.{memory_of, plan_of};
 ghost use Rattle.razor_core.specs.Behind.{EndsOver};
 ghost use Rattle.razor_core.specs.Ending.{Ends};
-ghost use Rattle.razor_core.specs.Outside.{seen};
-ghost use Rattle.razor_core.specs.Apply.{misfit, applying};
+ghost use Rattle.razor_core.specs.Outside.{seen, Adds, Outside};
+ghost use Rattle.razor_core.specs.Commands.Apply.{misfit, applying, IsAppliedText};
 ghost use Rattle.razor_core.specs.Taking.{memory_value_of, plan_value_of};
+ghost use Rattle.razor_core.specs.Promise.{KeepsPromise};
 
 use crate::ending::{Ending, written};
 use crate::line_reason::LineReason;
@@ -19,7 +20,7 @@ use std::alloc::Global;
 
 /// Writes a memory after the writes of a plan, whatever these lead to.
 #[inline(never)]
-pub fn apply_plan<'a, D: Desk, K: Sink>(
+pub(crate) fn apply_plan<'a, D: Desk, K: Sink>(
     alloc: Global,
     files: TwoFiles<'a>,
     desk: &mut D,
@@ -78,3 +79,10 @@ fn misfit(memory: &SlotMemory, plan: &SlotPlan) -> Option<LineReason>
     }
     None
 }
+
+/// What `apply` has written is the memory after the writes of the plan.
+pub fn applied_plans_are_written()
+    ensures { (before after : Outside) (line : List ℕ) (memory plan first second : List ℕ) →
+        KeepsPromise (applying memory plan) before after line 0 → before.remaining memory ≡ Some first → before.remaining plan ≡ Some second →
+        Adds before after (IsAppliedText first second) }
+{}

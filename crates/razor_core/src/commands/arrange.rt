@@ -1,13 +1,18 @@
 //! `arrange`: the table of a list's least cost in an order of the fields.
-ghost use Rattle.std.specs.Prelude.{◌≡◌, ◌≤◌, ℕ, IfOk, MatchResult};
+ghost use Rattle.std.specs.Prelude.{◌≡◌, ◌≤◌, ℕ, IfOk, MatchResult, List, Some};
 ghost use Rattle.razor_base.specs.declared.limits.TheConstants.{MOST_ENTRIES};
 ghost use Rattle.command_words.specs.Commands.{Arrange};
 ghost use Rattle.command_words.specs.Settings.{wanted_seen};
+ghost use Rattle.command_words.specs.Orders.{Wanted as SeenWanted};
+ghost use Rattle.command_words.specs.Sizes.{Sizes};
 ghost use Rattle.filter_reader.specs.Lists.{filter_list};
 ghost use Rattle.rule_compilation.specs.Compiled.{IsCompiledIn};
 ghost use Rattle.ternary_words.specs.Limits.{IsSlotWidth};
 ghost use Rattle.ternary_words.specs.Views.{table_of};
-ghost use Rattle.razor_core.specs.Make.{IsNeeded, IsNotMade, IsOrderOf, IsWanted};
+ghost use Rattle.razor_core.specs.Commands.Make.{IsNeeded, IsNotMade, IsOrderOf, IsWanted, making};
+ghost use Rattle.razor_core.specs.Commands.Arrange.{IsArrangedText};
+ghost use Rattle.razor_core.specs.Outside.{Adds, Outside};
+ghost use Rattle.razor_core.specs.Promise.{KeepsPromise};
 
 use crate::commands::made::Made;
 use crate::ending::Ending;
@@ -40,7 +45,7 @@ pub(super) fn order_of(alloc: Global, list: &RuleList, wanted: Wanted) -> Result
 /// It says that cost as `composed`, and has at most so many entries; entries that decide nothing, written
 /// `miss`, count too. `limit` is the greatest cost, 1 to 262,144, and `slot` the width of the table's slots:
 /// 104, 144 or 288.
-pub fn arrange_list<'a>(
+pub(crate) fn arrange_list<'a>(
     alloc: Global,
     list: &RuleList,
     wanted: Wanted,
@@ -69,3 +74,11 @@ pub fn arrange_list<'a>(
         Err(ComposeError::Memory) => Err(Ending::Memory),
     }
 }
+
+/// What `arrange` has written is a table that decides as the list, of the least cost in its order of the fields, with no
+/// entry to spare.
+pub fn arranged_tables_decide_as_their_lists()
+    ensures { (before after : Outside) (line : List ℕ) (wanted : SeenWanted) (sizes : Sizes) (file text : List ℕ) →
+        KeepsPromise (making (Arrange wanted) sizes file) before after line 0 → before.remaining file ≡ Some text →
+        Adds before after (IsArrangedText wanted sizes.slot text) }
+{}

@@ -1,12 +1,13 @@
 //! `audit`: the state of each rule of a list.
-ghost use Rattle.std.specs.Prelude.{◌≢◌, ℕ, List};
+ghost use Rattle.std.specs.Prelude.{◌≢◌, ◌≡◌, ℕ, List, Some};
 ghost use Rattle.std.specs.Io.KnownBytes.{Keeps};
 ghost use Rattle.filter_reader.specs.Lists.{filter_list};
 ghost use Rattle.razor_base.specs.Output.{Puts, Writes};
-ghost use Rattle.razor_core.specs.Audit.{found_state, state_line, states_text, AreStated, auditing};
+ghost use Rattle.razor_core.specs.Commands.Audit.{found_state, state_line, states_text, AreStated, auditing, IsAudited};
 ghost use Rattle.razor_core.specs.Ending.{Ends};
 ghost use Rattle.razor_core.specs.OneText.{IsEndOf};
-ghost use Rattle.razor_core.specs.Outside.{seen};
+ghost use Rattle.razor_core.specs.Outside.{seen, Adds, Outside};
+ghost use Rattle.razor_core.specs.Promise.{KeepsPromise};
 
 use crate::ending::{Ending, Summary};
 use crate::taking::take;
@@ -19,7 +20,7 @@ use std::alloc::Global;
 
 /// Writes the state of each rule of the list.
 #[inline(never)]
-pub fn audit_list<'a, D: Desk, K: Sink>(
+pub(crate) fn audit_list<'a, D: Desk, K: Sink>(
     alloc: Global,
     file: &'a str,
     desk: &mut D,
@@ -131,3 +132,10 @@ fn put_found<'a, K: Sink>(
         ],
     )
 }
+
+/// What `audit` has written is the state of each rule.
+pub fn states_are_those_of_the_rules()
+    ensures { (before after : Outside) (line : List ℕ) (file text : List ℕ) →
+        KeepsPromise (auditing file) before after line 0 → before.remaining file ≡ Some text →
+        Adds before after (IsAudited text) }
+{}

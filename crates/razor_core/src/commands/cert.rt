@@ -1,11 +1,12 @@
 //! `cert`: the certificate that a list and a table decide every header alike.
-ghost use Rattle.std.specs.Prelude.{◌≢◌, ℕ, List, [], ◌∷◌};
+ghost use Rattle.std.specs.Prelude.{◌≢◌, ℕ, List, [], ◌∷◌, ◌≡◌, Some};
 ghost use Rattle.std.specs.Io.KnownBytes.{Keeps};
 ghost use Rattle.razor_core.specs.Behind.{EndsOver};
-ghost use Rattle.razor_core.specs.Cert.{certifying};
-ghost use Rattle.razor_core.specs.Outside.{seen};
+ghost use Rattle.razor_core.specs.Commands.Cert.{certifying, IsCertified};
+ghost use Rattle.razor_core.specs.Outside.{seen, Adds, Outside};
 ghost use Rattle.razor_core.specs.Ending.{Ends};
 ghost use Rattle.razor_core.specs.Taking.{table_value_of, value_of};
+ghost use Rattle.razor_core.specs.Promise.{KeepsPromise};
 
 use crate::commands::difference::write_difference;
 use crate::ending::{Ending, Summary};
@@ -59,7 +60,7 @@ fn certify_both<'a, K: Sink>(
 
 /// Writes the certificate that list and table decide every header alike, or the least header on which they differ.
 #[inline(never)]
-pub fn certify<'a, D: Desk, K: Sink>(
+pub(crate) fn certify<'a, D: Desk, K: Sink>(
     alloc: Global,
     files: TwoFiles<'a>,
     desk: &mut D,
@@ -81,3 +82,10 @@ pub fn certify<'a, D: Desk, K: Sink>(
     };
     certify_both(alloc, &list, &table, files.second, out)
 }
+
+/// What `cert` has written is the one good and coarsest certificate of the list and the table.
+pub fn certificates_are_those_of_list_and_table()
+    ensures { (before after : Outside) (line : List ℕ) (list table first second : List ℕ) →
+        KeepsPromise (certifying list table) before after line 0 → before.remaining list ≡ Some first → before.remaining table ≡ Some second →
+        Adds before after (IsCertified first second) }
+{}

@@ -1,12 +1,13 @@
 //! `check`: whether a certificate shows that a list and a table decide every header alike.
-ghost use Rattle.std.specs.Prelude.{◌≡◌, ◌≢◌, ◌∷◌, ◌++◌, [], ℕ, List};
+ghost use Rattle.std.specs.Prelude.{◌≡◌, ◌≢◌, ◌∷◌, ◌++◌, [], ℕ, List, Some};
 ghost use Rattle.std.specs.Io.KnownBytes.{Keeps};
 ghost use Rattle.razor_base.specs.Output.{Writes};
 ghost use Rattle.partition_check.specs.Agreement.{HaveNames};
 ghost use Rattle.partition_check.specs.Checking.{begun};
-ghost use Rattle.razor_core.specs.Check.{row_line, valid_line, wrong_line, IsEndOfCheck, checking};
-ghost use Rattle.razor_core.specs.Outside.{seen};
+ghost use Rattle.razor_core.specs.Commands.Check.{row_line, valid_line, wrong_line, IsEndOfCheck, checking, AgreeByName};
+ghost use Rattle.razor_core.specs.Outside.{seen, Outside};
 ghost use Rattle.razor_core.specs.Ending.{Ends};
+ghost use Rattle.razor_core.specs.Promise.{KeepsPromise};
 
 use crate::ending::{Ending, Summary};
 use crate::taking::take;
@@ -152,7 +153,7 @@ fn check_rows<'a, D: Desk, K: Sink>(
 
 /// Says whether the certificate shows that list and table decide every header alike.
 #[inline(never)]
-pub fn check_certificate<'a, D: Desk, K: Sink>(
+pub(crate) fn check_certificate<'a, D: Desk, K: Sink>(
     alloc: Global,
     files: ThreeFiles<'a>,
     desk: &mut D,
@@ -175,3 +176,11 @@ pub fn check_certificate<'a, D: Desk, K: Sink>(
     equal_lists_have_one_verdict();
     check_rows(alloc, &list, &table, files.third, desk, out)
 }
+
+/// Where `check` says that a certificate is valid, list and table decide every header alike, whoever made it.
+pub fn valid_certificates_show_agreement()
+    ensures { (before after : Outside) (line : List ℕ) (list table certificate first second third : List ℕ) →
+        KeepsPromise (checking list table certificate) before after line 0 →
+        before.remaining list ≡ Some first → before.remaining table ≡ Some second → before.remaining certificate ≡ Some third →
+        AgreeByName first second }
+{}

@@ -1,5 +1,5 @@
 //! `compile`: the table of a list's field-by-field least cost.
-ghost use Rattle.std.specs.Prelude.{◌≡◌, ◌≤◌, ℕ, IfOk, MatchResult};
+ghost use Rattle.std.specs.Prelude.{◌≡◌, ◌≤◌, ℕ, IfOk, MatchResult, List, Some};
 ghost use Rattle.razor_base.specs.declared.limits.TheConstants.{MOST_ENTRIES};
 ghost use Rattle.field_boxes.specs.Headline.Fields.{stated};
 ghost use Rattle.filter_reader.specs.Lists.{filter_list};
@@ -7,7 +7,12 @@ ghost use Rattle.rule_compilation.specs.Compiled.{IsCompiled};
 ghost use Rattle.table_compose.specs.Headline.LeastCost.{IsLeastCost};
 ghost use Rattle.ternary_words.specs.Limits.{IsSlotWidth};
 ghost use Rattle.ternary_words.specs.Views.{table_of};
-ghost use Rattle.razor_core.specs.Make.{IsNotMade};
+ghost use Rattle.command_words.specs.Commands.{Compile};
+ghost use Rattle.command_words.specs.Sizes.{Sizes};
+ghost use Rattle.razor_core.specs.Commands.Make.{IsNotMade, making};
+ghost use Rattle.razor_core.specs.Commands.Compile.{IsCompiledText};
+ghost use Rattle.razor_core.specs.Outside.{Adds, Outside};
+ghost use Rattle.razor_core.specs.Promise.{KeepsPromise};
 
 use crate::commands::made::Made;
 use crate::ending::Ending;
@@ -21,7 +26,7 @@ use table_compose::ComposeError;
 /// It says that cost as `composed`, and has at most so many entries; entries that decide nothing, written
 /// `miss`, count too. `limit` is the greatest cost, 1 to 262,144, and `slot` the width of the table's slots:
 /// 104, 144 or 288.
-pub fn compile_list<'a>(
+pub(crate) fn compile_list<'a>(
     alloc: Global,
     list: &RuleList,
     limit: u32,
@@ -41,3 +46,10 @@ pub fn compile_list<'a>(
         Err(ComposeError::Memory) => Err(Ending::Memory),
     }
 }
+
+/// What `compile` has written is a table that decides as the list, of the least cost, with no entry to spare.
+pub fn compiled_tables_decide_as_their_lists()
+    ensures { (before after : Outside) (line : List ℕ) (sizes : Sizes) (file text : List ℕ) →
+        KeepsPromise (making Compile sizes file) before after line 0 → before.remaining file ≡ Some text →
+        Adds before after (IsCompiledText sizes.slot text) }
+{}

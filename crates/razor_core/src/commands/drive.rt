@@ -5,10 +5,11 @@ ghost use Rattle.command_words.specs.Commands.{Drive};
 ghost use Rattle.command_words.specs.Files.{all_differ, script_and_tables};
 ghost use Rattle.command_words.specs.PlainWords.{plain_seen};
 ghost use Rattle.razor_core.specs.Commands.{meaning};
-ghost use Rattle.razor_core.specs.Outside.{seen, IsNoInput};
+ghost use Rattle.razor_core.specs.Outside.{seen, IsNoInput, Adds, Outside, Tells};
 ghost use Rattle.razor_core.specs.Ending.{Ends};
-ghost use Rattle.razor_core.specs.Drive.{IsEndOfDrive, swapping};
+ghost use Rattle.razor_core.specs.Commands.Drive.{IsEndOfDrive, swapping, IsDriven};
 ghost use Rattle.razor_core.specs.Tables.{AreAdded, IsNone, FailsAmong};
+ghost use Rattle.razor_core.specs.Promise.{KeepsPromise};
 
 use crate::ending::{Ending, Summary};
 use crate::taking::take;
@@ -60,7 +61,7 @@ pub(super) fn drive_ended<'a>(ended: Result<u64, DriveError>) -> Ending<'a>
 
 /// Writes the line of each command of the script, run over the tables in a memory of so many slots.
 #[inline(never)]
-pub fn run_script<'a, D: Desk, K: Sink>(
+pub(crate) fn run_script<'a, D: Desk, K: Sink>(
     alloc: Global,
     run: &ScriptRun<'a>,
     desk: &mut D,
@@ -133,3 +134,10 @@ fn run_tables<'a, D: Desk, K: Sink>(
     let ended = drive_on(alloc, &script, &tables, &mut swapper, out);
     drive_ended(ended)
 }
+
+/// What `drive` has written is the line of each command of the script, run over the tables.
+pub fn scripts_print_their_sessions()
+    ensures { (before after : Outside) (line : List ℕ) (slots : ℕ) (script : List ℕ) (tables : List (List ℕ)) (text : List ℕ) →
+        KeepsPromise (swapping slots script tables) before after line 0 → Tells before (swapping slots script tables).inputs → before.remaining script ≡ Some text →
+        Adds before after (IsDriven slots before tables text) }
+{}

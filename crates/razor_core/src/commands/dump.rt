@@ -1,9 +1,10 @@
 //! `dump`: the table that stands in a memory.
-ghost use Rattle.std.specs.Prelude.{◌≡◌, ◌≢◌, ℕ, List};
+ghost use Rattle.std.specs.Prelude.{◌≡◌, ◌≢◌, ℕ, List, Some};
 ghost use Rattle.std.specs.Io.KnownBytes.{Keeps};
 ghost use Rattle.razor_core.specs.Ending.{Ends};
-ghost use Rattle.razor_core.specs.Outside.{seen};
-ghost use Rattle.razor_core.specs.Dump.{dumping};
+ghost use Rattle.razor_core.specs.Outside.{seen, Adds, Outside};
+ghost use Rattle.razor_core.specs.Commands.Dump.{dumping, IsDumped};
+ghost use Rattle.razor_core.specs.Promise.{KeepsPromise};
 
 use crate::ending::{Ending, written};
 use crate::taking::take;
@@ -15,7 +16,7 @@ use ternary_words::write_table;
 
 /// Writes the table that stands in a memory.
 #[inline(never)]
-pub fn dump_memory<'a, D: Desk, K: Sink>(
+pub(crate) fn dump_memory<'a, D: Desk, K: Sink>(
     alloc: Global,
     file: &'a str,
     desk: &mut D,
@@ -37,3 +38,10 @@ pub fn dump_memory<'a, D: Desk, K: Sink>(
     };
     written(write_table(&table, out))
 }
+
+/// What `dump` has written is the table that stands in the memory that was read.
+pub fn dumped_tables_are_those_of_their_memories()
+    ensures { (before after : Outside) (line : List ℕ) (file text : List ℕ) →
+        KeepsPromise (dumping file) before after line 0 → before.remaining file ≡ Some text →
+        Adds before after (IsDumped text) }
+{}

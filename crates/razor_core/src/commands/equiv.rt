@@ -1,14 +1,15 @@
 //! `equiv`: whether two lists decide every header alike, or on which they first differ.
-ghost use Rattle.std.specs.Prelude.{◌≢◌, ℕ, List, [], ◌∷◌};
+ghost use Rattle.std.specs.Prelude.{◌≢◌, ℕ, List, [], ◌∷◌, ◌≡◌, Some};
 ghost use Rattle.std.specs.Io.KnownBytes.{Keeps};
 ghost use Rattle.filter_reader.specs.Lists.{filter_list};
 ghost use Rattle.list_equiv.specs.Verdict.{IsListVerdict};
 ghost use Rattle.razor_base.specs.Output.{Writes};
 ghost use Rattle.razor_core.specs.Behind.{EndsOver};
 ghost use Rattle.razor_core.specs.Ending.{Ends};
-ghost use Rattle.razor_core.specs.Equiv.{verdict_text, IsAnswer, comparing};
-ghost use Rattle.razor_core.specs.Outside.{seen};
+ghost use Rattle.razor_core.specs.Commands.Equiv.{verdict_text, IsAnswer, comparing, AreEqualLists};
+ghost use Rattle.razor_core.specs.Outside.{seen, Outside};
 ghost use Rattle.razor_core.specs.Taking.{value_of};
+ghost use Rattle.razor_core.specs.Promise.{KeepsPromise};
 
 use crate::commands::difference::write_difference;
 use crate::ending::{Ending, Summary};
@@ -22,7 +23,7 @@ use std::alloc::Global;
 
 /// Says whether the lists decide every header alike, or on which they first differ.
 #[inline(never)]
-pub fn compare_lists<'a, D: Desk, K: Sink>(
+pub(crate) fn compare_lists<'a, D: Desk, K: Sink>(
     alloc: Global,
     files: TwoFiles<'a>,
     desk: &mut D,
@@ -94,3 +95,10 @@ fn answered<'a>(verdict: Verdict) -> Ending<'a>
         Verdict::Differ { .. } => Ending::No,
     }
 }
+
+/// Where `equiv` says that two lists are equal, they decide every header alike.
+pub fn equal_lists_decide_alike()
+    ensures { (before after : Outside) (line : List ℕ) (left right first second : List ℕ) →
+        KeepsPromise (comparing left right) before after line 0 → before.remaining left ≡ Some first → before.remaining right ≡ Some second →
+        AreEqualLists first second }
+{}

@@ -1,5 +1,5 @@
 //! `expand`: the direct expansion of a list.
-ghost use Rattle.std.specs.Prelude.{◌≡◌, ◌≤◌, IfOk, MatchResult};
+ghost use Rattle.std.specs.Prelude.{◌≡◌, ◌≤◌, IfOk, MatchResult, List, Some, ℕ};
 ghost use Rattle.razor_base.specs.declared.limits.TheConstants.{MOST_ENTRIES};
 ghost use Rattle.field_boxes.specs.Headline.Fields.{stated};
 ghost use Rattle.filter_reader.specs.Lists.{filter_list};
@@ -7,7 +7,12 @@ ghost use Rattle.rule_expansion.specs.Expansion.{expanded_count};
 ghost use Rattle.rule_expansion.specs.Tables.{IsExpansion};
 ghost use Rattle.ternary_words.specs.Limits.{IsSlotWidth};
 ghost use Rattle.ternary_words.specs.Views.{table_of};
-ghost use Rattle.razor_core.specs.Make.{IsNotMade};
+ghost use Rattle.command_words.specs.Commands.{Expand};
+ghost use Rattle.command_words.specs.Sizes.{Sizes};
+ghost use Rattle.razor_core.specs.Commands.Make.{IsNotMade, making};
+ghost use Rattle.razor_core.specs.Commands.Expand.{IsExpandedText};
+ghost use Rattle.razor_core.specs.Outside.{Adds, Outside};
+ghost use Rattle.razor_core.specs.Promise.{KeepsPromise};
 
 use crate::commands::made::Made;
 use crate::ending::Ending;
@@ -19,7 +24,7 @@ use std::alloc::Global;
 /// of its five sets by prefixes, the source slowest and the protocol fastest.
 ///
 /// `limit` is the greatest number of entries, 1 to 262,144, and `slot` the width of the table's slots: 104, 144 or 288.
-pub fn expand_list<'a>(
+pub(crate) fn expand_list<'a>(
     alloc: Global,
     list: &RuleList,
     limit: u32,
@@ -39,3 +44,10 @@ pub fn expand_list<'a>(
         Err(ExpandError::Memory) => Err(Ending::Memory),
     }
 }
+
+/// What `expand` has written is the direct expansion, which decides as the list.
+pub fn expanded_tables_decide_as_their_lists()
+    ensures { (before after : Outside) (line : List ℕ) (sizes : Sizes) (file text : List ℕ) →
+        KeepsPromise (making Expand sizes file) before after line 0 → before.remaining file ≡ Some text →
+        Adds before after (IsExpandedText sizes.slot text) }
+{}

@@ -7,7 +7,7 @@ ghost use Rattle.filter_reader.specs.Lists.{filter_list};
 ghost use Rattle.ternary_words.specs.Views.{table_of};
 ghost use Rattle.razor_core.specs.Outside.{seen};
 ghost use Rattle.razor_core.specs.Ending.{Ends, summary_text};
-ghost use Rattle.razor_core.specs.Make.{IsMade, IsNeeded, IsNotMade, IsOrderOf, IsRoom, made_line, making};
+ghost use Rattle.razor_core.specs.Commands.Make.{IsMade, IsNeeded, IsNotMade, IsOrderOf, IsRoom, made_line, making};
 
 use crate::commands::arrange::arrange_list;
 use crate::commands::compile::compile_list;

@@ -1,10 +1,11 @@
 //! `merge`: a table whose entries are merged.
-ghost use Rattle.std.specs.Prelude.{◌≡◌, ◌≢◌, ℕ, List, IfOk};
+ghost use Rattle.std.specs.Prelude.{◌≡◌, ◌≢◌, ℕ, List, IfOk, Some};
 ghost use Rattle.std.specs.Io.KnownBytes.{Keeps};
 ghost use Rattle.ternary_words.specs.Views.{table_of};
 ghost use Rattle.razor_core.specs.Ending.{Ends};
-ghost use Rattle.razor_core.specs.Merge.{IsMergedTable, merging};
-ghost use Rattle.razor_core.specs.Outside.{seen};
+ghost use Rattle.razor_core.specs.Commands.Merge.{IsMergedTable, merging, IsMergedText};
+ghost use Rattle.razor_core.specs.Outside.{seen, Adds, Outside};
+ghost use Rattle.razor_core.specs.Promise.{KeepsPromise};
 
 use crate::ending::{Ending, written};
 use crate::taking::take;
@@ -16,7 +17,7 @@ use ternary_words::{Table, write_table};
 
 /// Writes a table with its entries merged.
 #[inline(never)]
-pub fn merge_table<'a, D: Desk, K: Sink>(
+pub(crate) fn merge_table<'a, D: Desk, K: Sink>(
     alloc: Global,
     file: &'a str,
     desk: &mut D,
@@ -58,3 +59,10 @@ fn merged(alloc: Global, table: Table) -> Result<Table, Memory>
         names,
     })
 }
+
+/// What `merge` has written is the table that was read with its entries merged, which answers as it does.
+pub fn merged_tables_answer_alike()
+    ensures { (before after : Outside) (line : List ℕ) (file text : List ℕ) →
+        KeepsPromise (merging file) before after line 0 → before.remaining file ≡ Some text →
+        Adds before after (IsMergedText text) }
+{}

@@ -1,9 +1,10 @@
 //! `migrate`: a table of either version in the compact text.
-ghost use Rattle.std.specs.Prelude.{◌≢◌, ℕ, List};
+ghost use Rattle.std.specs.Prelude.{◌≢◌, ◌≡◌, ℕ, List, Some};
 ghost use Rattle.std.specs.Io.KnownBytes.{Keeps};
 ghost use Rattle.razor_core.specs.Ending.{Ends};
-ghost use Rattle.razor_core.specs.Outside.{seen};
-ghost use Rattle.razor_core.specs.Migrate.{migrating};
+ghost use Rattle.razor_core.specs.Outside.{seen, Adds, Outside};
+ghost use Rattle.razor_core.specs.Commands.Migrate.{migrating, IsMigrated};
+ghost use Rattle.razor_core.specs.Promise.{KeepsPromise};
 
 use crate::ending::{Ending, written};
 use crate::taking::take;
@@ -14,7 +15,7 @@ use ternary_words::write_table;
 
 /// Writes a table of either version in the compact text.
 #[inline(never)]
-pub fn migrate_table<'a, D: Desk, K: Sink>(
+pub(crate) fn migrate_table<'a, D: Desk, K: Sink>(
     alloc: Global,
     file: &'a str,
     desk: &mut D,
@@ -32,3 +33,10 @@ pub fn migrate_table<'a, D: Desk, K: Sink>(
     };
     written(write_table(&table, out))
 }
+
+/// What `migrate` has written spells the table that was read, compactly.
+pub fn migrated_tables_are_those_read()
+    ensures { (before after : Outside) (line : List ℕ) (file text : List ℕ) →
+        KeepsPromise (migrating file) before after line 0 → before.remaining file ≡ Some text →
+        Adds before after (IsMigrated text) }
+{}

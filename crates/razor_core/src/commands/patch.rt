@@ -1,12 +1,13 @@
 //! `patch`: a plan that leads from a memory to a table.
-ghost use Rattle.std.specs.Prelude.{◌≢◌, ℕ, List, [], ◌∷◌};
+ghost use Rattle.std.specs.Prelude.{◌≢◌, ℕ, List, [], ◌∷◌, ◌≡◌, Some};
 ghost use Rattle.std.specs.Io.KnownBytes.{Keeps};
 ghost use Rattle.memory_text.specs.Kept.{AreSpelled};
 ghost use Rattle.razor_core.specs.Behind.{EndsOver};
 ghost use Rattle.razor_core.specs.Ending.{Ends};
-ghost use Rattle.razor_core.specs.Outside.{seen};
-ghost use Rattle.razor_core.specs.Patch.{patching};
+ghost use Rattle.razor_core.specs.Outside.{seen, Adds, Outside};
+ghost use Rattle.razor_core.specs.Commands.Patch.{patching, IsPatchText};
 ghost use Rattle.razor_core.specs.Taking.{memory_value_of, table_value_of};
+ghost use Rattle.razor_core.specs.Promise.{KeepsPromise};
 
 use crate::ending::{Ending, written};
 use crate::line_reason::LineReason;
@@ -20,7 +21,7 @@ use ternary_words::Table;
 
 /// Writes a plan that leads from a memory to a table, with each header answered as before or as behind between any two writes.
 #[inline(never)]
-pub fn plan_patch<'a, D: Desk, K: Sink>(
+pub(crate) fn plan_patch<'a, D: Desk, K: Sink>(
     alloc: Global,
     files: TwoFiles<'a>,
     desk: &mut D,
@@ -75,3 +76,11 @@ fn patch_over<'a, K: Sink>(
     };
     written(write_plan(&plan, out))
 }
+
+/// What `patch` has written is a plan that leads from the memory to the table: between any two writes each header is answered as
+/// before the first one or as behind the last one, and there are slots enough for both.
+pub fn patches_lead_to_their_tables()
+    ensures { (before after : Outside) (line : List ℕ) (memory table first second : List ℕ) →
+        KeepsPromise (patching memory table) before after line 0 → before.remaining memory ≡ Some first → before.remaining table ≡ Some second →
+        Adds before after (IsPatchText first second) }
+{}

@@ -1,9 +1,10 @@
 //! `place`: a memory in which a table stands.
-ghost use Rattle.std.specs.Prelude.{◌≡◌, ◌≢◌, ℕ, List};
+ghost use Rattle.std.specs.Prelude.{◌≡◌, ◌≢◌, ℕ, List, Some};
 ghost use Rattle.std.specs.Io.KnownBytes.{Keeps};
 ghost use Rattle.razor_core.specs.Ending.{Ends};
-ghost use Rattle.razor_core.specs.Outside.{seen};
-ghost use Rattle.razor_core.specs.Place.{placing};
+ghost use Rattle.razor_core.specs.Outside.{seen, Adds, Outside};
+ghost use Rattle.razor_core.specs.Commands.Place.{placing, IsPlaced};
+ghost use Rattle.razor_core.specs.Promise.{KeepsPromise};
 
 use crate::ending::{Ending, written};
 use crate::taking::take;
@@ -15,7 +16,7 @@ use std::alloc::Global;
 
 /// Writes a memory of so many slots in which a table stands in order, evenly.
 #[inline(never)]
-pub fn place_table<'a, D: Desk, K: Sink>(
+pub(crate) fn place_table<'a, D: Desk, K: Sink>(
     alloc: Global,
     slots: Slots,
     file: &'a str,
@@ -44,3 +45,10 @@ pub fn place_table<'a, D: Desk, K: Sink>(
     };
     written(write_memory(&memory, out))
 }
+
+/// What `place` has written is a memory in whose slots the table that was read stands in order, evenly.
+pub fn placed_tables_stand_in_their_slots()
+    ensures { (before after : Outside) (line : List ℕ) (slots : ℕ) (file text : List ℕ) →
+        KeepsPromise (placing slots file) before after line 0 → before.remaining file ≡ Some text →
+        Adds before after (IsPlaced slots text) }
+{}

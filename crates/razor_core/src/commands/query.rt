@@ -1,14 +1,16 @@
 //! `query`: the boxes inside a box in which a list decides as asked.
-ghost use Rattle.std.specs.Prelude.{◌≢◌, ℕ, List};
+ghost use Rattle.std.specs.Prelude.{◌≢◌, ◌≡◌, ℕ, List, Option, Some};
 ghost use Rattle.std.specs.Io.KnownBytes.{Keeps};
 ghost use Rattle.command_words.specs.Questions.{name_in};
 ghost use Rattle.field_boxes.specs.Spans.{intervals_of};
+ghost use Rattle.field_boxes.specs.Headline.Classifier.{Interval};
 ghost use Rattle.filter_reader.specs.Lists.{filter_list};
 ghost use Rattle.razor_base.specs.Output.{Writes};
 ghost use Rattle.razor_core.specs.Ending.{Ends};
-ghost use Rattle.razor_core.specs.Outside.{seen};
+ghost use Rattle.razor_core.specs.Outside.{seen, Adds, Outside};
 ghost use Rattle.razor_core.specs.OneText.{IsEndOf};
-ghost use Rattle.razor_core.specs.Query.{count_line, AreAnswered, IsCounted, querying};
+ghost use Rattle.razor_core.specs.Commands.Query.{count_line, AreAnswered, IsCounted, querying, IsQueried};
+ghost use Rattle.razor_core.specs.Promise.{KeepsPromise};
 
 use crate::ending::{Ending, Summary};
 use crate::taking::take;
@@ -21,7 +23,7 @@ use std::alloc::Global;
 
 /// Writes the boxes inside the spans in which the list decides as asked, and how many they are.
 #[inline(never)]
-pub fn query_list<'a, D: Desk, K: Sink>(
+pub(crate) fn query_list<'a, D: Desk, K: Sink>(
     alloc: Global,
     question: Question<'a>,
     desk: &mut D,
@@ -79,3 +81,10 @@ fn counted<'a, K: Sink>(boxes: u128, out: &mut K) -> Ending<'a>
         Err(_) => Ending::WriteFault,
     }
 }
+
+/// What `query` has written are the boxes in which the list decides as asked, and how many they are.
+pub fn boxes_are_where_the_list_decides_so()
+    ensures { (before after : Outside) (line : List ℕ) (box : List Interval) (name : Option (List ℕ)) (file text : List ℕ) →
+        KeepsPromise (querying file box name) before after line 0 → before.remaining file ≡ Some text →
+        Adds before after (IsQueried box name text) }
+{}

@@ -1,5 +1,5 @@
 //! `session`: a list that is edited, and whose tables are replaced in a memory.
-ghost use Rattle.std.specs.Prelude.{◌≡◌, ◌≢◌, ◌≤◌, ◌<◌, ◌+◌, ◌*◌, ℕ, List, count_by, length};
+ghost use Rattle.std.specs.Prelude.{◌≡◌, ◌≢◌, ◌≤◌, ◌<◌, ◌+◌, ◌*◌, ℕ, List, count_by, length, Some};
 ghost use Rattle.std.specs.Io.KnownBytes.{Keeps};
 ghost use Rattle.razor_base.specs.declared.limits.TheConstants.{MOST_ENTRIES, MOST_SCRIPT_BYTES};
 ghost use Rattle.field_boxes.specs.Headline.Classifier.{Rule};
@@ -12,8 +12,9 @@ ghost use Rattle.edit_session.specs.Methods.{method_seen};
 ghost use Rattle.edit_session.specs.SessionEnds.{adds_of};
 ghost use Rattle.edit_session.specs.SessionText.{is_add};
 ghost use Rattle.razor_core.specs.Ending.{Ends};
-ghost use Rattle.razor_core.specs.Outside.{seen};
-ghost use Rattle.razor_core.specs.Session.{IsEndOfSession, editing, first_state, method_of};
+ghost use Rattle.razor_core.specs.Outside.{seen, Adds, Outside};
+ghost use Rattle.razor_core.specs.Commands.Session.{IsEndOfSession, editing, first_state, method_of, IsEdited};
+ghost use Rattle.razor_core.specs.Promise.{KeepsPromise};
 
 use crate::commands::drive::drive_ended;
 use crate::ending::Ending;
@@ -85,7 +86,7 @@ fn run_in<'a, K: Sink>(
 
 /// Writes the line of each command of the session, run on its terms over the list and an empty memory.
 #[inline(never)]
-pub fn run_session<'a, D: Desk, K: Sink>(
+pub(crate) fn run_session<'a, D: Desk, K: Sink>(
     alloc: Global,
     terms: &SessionTerms,
     files: TwoFiles<'a>,
@@ -108,3 +109,10 @@ pub fn run_session<'a, D: Desk, K: Sink>(
     };
     run_in(alloc, terms, &session, list, out)
 }
+
+/// What `session` has written is the line of each command of the session, run over the list.
+pub fn sessions_print_their_runs()
+    ensures { (before after : Outside) (line : List ℕ) (terms : SeenTerms) (script list first second : List ℕ) →
+        KeepsPromise (editing terms script list) before after line 0 → before.remaining script ≡ Some first → before.remaining list ≡ Some second →
+        Adds before after (IsEdited terms first second) }
+{}

@@ -1,13 +1,18 @@
 //! `shorten`: a short table of a list, by a search.
-ghost use Rattle.std.specs.Prelude.{◌≡◌, ◌≤◌, ℕ, List, IfOk, MatchResult, option_map};
+ghost use Rattle.std.specs.Prelude.{◌≡◌, ◌≤◌, ℕ, List, IfOk, MatchResult, option_map, Option, Some};
 ghost use Rattle.command_words.specs.Commands.{Shorten};
 ghost use Rattle.command_words.specs.Settings.{wanted_seen};
+ghost use Rattle.command_words.specs.Orders.{Wanted as SeenWanted};
+ghost use Rattle.command_words.specs.Sizes.{Sizes};
 ghost use Rattle.filter_reader.specs.Lists.{filter_list};
 ghost use Rattle.razor_base.specs.declared.limits.TheConstants.{MOST_ENTRIES};
 ghost use Rattle.rule_shortening.specs.Shortened.{IsLesser, IsShortTableIn};
 ghost use Rattle.ternary_words.specs.Limits.{IsSlotWidth};
 ghost use Rattle.ternary_words.specs.Views.{table_of};
-ghost use Rattle.razor_core.specs.Make.{IsMade, IsNeeded, IsNotMade, IsOrderOf, IsWanted};
+ghost use Rattle.razor_core.specs.Commands.Make.{IsMade, IsNeeded, IsNotMade, IsOrderOf, IsWanted, making};
+ghost use Rattle.razor_core.specs.Outside.{Adds, Outside};
+ghost use Rattle.razor_core.specs.Promise.{KeepsPromise};
+ghost use Rattle.razor_core.specs.Commands.Shorten.{IsShortenedText};
 
 use crate::commands::arrange::order_of;
 use crate::commands::made::Made;
@@ -22,7 +27,7 @@ use std::alloc::Global;
 ///
 /// It is refused only where the direct expansion has more entries than `limit`, 1 to 262,144, and with an order that cost too.
 /// `slot` is the width of the table's slots: 104, 144 or 288.
-pub fn shorten_list<'a>(
+pub(crate) fn shorten_list<'a>(
     alloc: Global,
     list: &RuleList,
     wanted: Option<Wanted>,
@@ -75,3 +80,11 @@ fn shorten_in_order<'a>(
         Err(ShortenError::Memory) => Err(Ending::Memory),
     }
 }
+
+/// What `shorten` has written is a table that decides as the list, with no entry to spare, at most as long as the direct
+/// expansion, and where an order is asked for, as the list's least cost in it.
+pub fn shortened_tables_decide_as_their_lists()
+    ensures { (before after : Outside) (line : List ℕ) (wanted : Option SeenWanted) (sizes : Sizes) (file text : List ℕ) →
+        KeepsPromise (making (Shorten wanted) sizes file) before after line 0 → before.remaining file ≡ Some text →
+        Adds before after (IsShortenedText wanted sizes text) }
+{}

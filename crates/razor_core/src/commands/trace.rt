@@ -1,9 +1,10 @@
 //! `trace`: what a table answers to the headers of a trace.
-ghost use Rattle.std.specs.Prelude.{◌≢◌, ℕ, List};
+ghost use Rattle.std.specs.Prelude.{◌≢◌, ◌≡◌, ℕ, List, Some};
 ghost use Rattle.std.specs.Io.KnownBytes.{Keeps};
-ghost use Rattle.razor_core.specs.Outside.{seen};
+ghost use Rattle.razor_core.specs.Outside.{seen, Adds, Outside};
 ghost use Rattle.razor_core.specs.Ending.{Ends};
-ghost use Rattle.razor_core.specs.Trace.{IsEndOfRun, tracing};
+ghost use Rattle.razor_core.specs.Commands.Trace.{IsEndOfRun, tracing, IsAnswered};
+ghost use Rattle.razor_core.specs.Promise.{KeepsPromise};
 
 use crate::ending::{Ending, Summary};
 use crate::line_reason::LineReason;
@@ -40,7 +41,7 @@ fn run_ended(file: &str, ended: Result<u64, TraceError>) -> Ending<'_>
 
 /// Writes what the table answers to each header of the trace.
 #[inline(never)]
-pub fn answer_trace<'a, D: Desk, K: Sink>(
+pub(crate) fn answer_trace<'a, D: Desk, K: Sink>(
     alloc: Global,
     files: TwoFiles<'a>,
     desk: &mut D,
@@ -65,3 +66,10 @@ pub fn answer_trace<'a, D: Desk, K: Sink>(
     let ended = run(alloc, &bank, &table.names, desk, files.second, out);
     run_ended(files.second, ended)
 }
+
+/// What `trace` has written is what the table answers to each header in order.
+pub fn traces_are_answered_by_the_table()
+    ensures { (before after : Outside) (line : List ℕ) (table trace first second : List ℕ) →
+        KeepsPromise (tracing table trace) before after line 0 → before.remaining table ≡ Some first → before.remaining trace ≡ Some second →
+        Adds before after (IsAnswered first second) }
+{}

@@ -1,11 +1,12 @@
 //! `trim`: a table without its redundant entries.
-ghost use Rattle.std.specs.Prelude.{◌≡◌, ◌≢◌, ℕ, List, IfOk};
+ghost use Rattle.std.specs.Prelude.{◌≡◌, ◌≢◌, ℕ, List, IfOk, Some};
 ghost use Rattle.std.specs.Io.KnownBytes.{Keeps};
 ghost use Rattle.partition_check.specs.PrefixWords.{ArePrefixes};
 ghost use Rattle.ternary_words.specs.Views.{table_of};
 ghost use Rattle.razor_core.specs.Ending.{Ends};
-ghost use Rattle.razor_core.specs.Outside.{seen};
-ghost use Rattle.razor_core.specs.Trim.{IsTrimmedTable, trimming};
+ghost use Rattle.razor_core.specs.Outside.{seen, Adds, Outside};
+ghost use Rattle.razor_core.specs.Commands.Trim.{IsTrimmedTable, trimming, IsTrimmedText};
+ghost use Rattle.razor_core.specs.Promise.{KeepsPromise};
 
 use crate::ending::{Ending, written};
 use crate::line_reason::LineReason;
@@ -20,7 +21,7 @@ use ternary_words::{Table, write_table};
 
 /// Writes a table without its redundant entries.
 #[inline(never)]
-pub fn trim_table<'a, D: Desk, K: Sink>(
+pub(crate) fn trim_table<'a, D: Desk, K: Sink>(
     alloc: Global,
     file: &'a str,
     desk: &mut D,
@@ -71,3 +72,10 @@ fn trimmed(alloc: Global, table: Table) -> Result<Table, Memory>
         names,
     })
 }
+
+/// What `trim` has written is the table that was read without its redundant entries, which answers as it does.
+pub fn trimmed_tables_answer_alike()
+    ensures { (before after : Outside) (line : List ℕ) (file text : List ℕ) →
+        KeepsPromise (trimming file) before after line 0 → before.remaining file ≡ Some text →
+        Adds before after (IsTrimmedText text) }
+{}

@@ -1,5 +1,5 @@
 use Rattle.std.proofs.Common.{List, refl, sym, ℕ}
-use Rattle.razor_core.specs.Apply.{applying}
+use Rattle.razor_core.specs.Commands.Apply.{applying}
 use Rattle.razor_core.specs.Inputs.{memory_input, plan_input}
 use Rattle.razor_core.specs.Outside.{seen}
 use Rattle.razor_core.specs.Taking.{memory_value_of, plan_value_of}

@@ -2,7 +2,7 @@ use Rattle.std.proofs.Common.{ℕ, List, subst, sym}
 use Rattle.command_words.specs.Commands.{Arrange}
 use Rattle.command_words.specs.Settings.{wanted_seen}
 use Rattle.filter_reader.specs.Lists.{filter_list}
-use Rattle.razor_core.specs.Make.{IsOrderOf}
+use Rattle.razor_core.specs.Commands.Make.{IsOrderOf}
 use Rattle.razor_core.proofs.FieldOrders.{room_in}
 use Rattle.razor_core.proofs.commands.arrange.arrange_list.Goals as goal
 

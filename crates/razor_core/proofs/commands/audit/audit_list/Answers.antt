@@ -1,5 +1,5 @@
 use Rattle.std.proofs.Common.{List, [], refl, ℕ, ◌∷◌}
-use Rattle.razor_core.specs.Audit.{auditing}
+use Rattle.razor_core.specs.Commands.Audit.{auditing}
 use Rattle.razor_core.specs.Inputs.{list_input}
 use Rattle.razor_core.specs.Outside.{seen}
 use Rattle.razor_core.specs.Taking.{value_of}

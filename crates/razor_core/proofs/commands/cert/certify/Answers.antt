@@ -1,5 +1,5 @@
 use Rattle.std.proofs.Common.{List, refl, sym, ℕ}
-use Rattle.razor_core.specs.Cert.{certifying}
+use Rattle.razor_core.specs.Commands.Cert.{certifying}
 use Rattle.razor_core.specs.Inputs.{list_input, table_input}
 use Rattle.razor_core.specs.Outside.{seen}
 use Rattle.razor_core.specs.Taking.{table_value_of, value_of}

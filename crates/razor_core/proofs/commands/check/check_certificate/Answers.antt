@@ -7,7 +7,7 @@ use Rattle.razor_core.proofs.Ended.{ends_later, turn_ends}
 use Rattle.razor_core.proofs.Turns.{kept, passed_taken, taken_before, taken_later}
 use Rattle.std.proofs.KnownBytes.{Keeps-trans}
 use Rattle.razor_core.proofs.commands.check.check_certificate.Goals as goal
-use Rattle.razor_core.specs.Check.{checking}
+use Rattle.razor_core.specs.Commands.Check.{checking}
 
 pub returns-in-Err-clause-ends : goal.returns-in-Err-clause-ends
 returns-in-Err-clause-ends g c =

@@ -20,7 +20,7 @@ use Rattle.razor_core.proofs.Tables.{all_fail_later, all_passed, all_stay, all_t
 use Rattle.razor_core.proofs.Turns.{kept, pass_behind, passed_taken, taken_before}
 use Rattle.std.proofs.KnownBytes.{Keeps-trans}
 use Rattle.razor_core.proofs.commands.drive.run_tables.Goals as goal
-use Rattle.razor_core.specs.Drive.{swapping}
+use Rattle.razor_core.specs.Commands.Drive.{swapping}
 
 pub returns-in-Err-clause-ends : goal.returns-in-Err-clause-ends
 returns-in-Err-clause-ends g c =

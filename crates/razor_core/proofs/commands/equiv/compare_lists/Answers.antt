@@ -1,5 +1,5 @@
 use Rattle.std.proofs.Common.{List, refl, sym, ℕ}
-use Rattle.razor_core.specs.Equiv.{comparing}
+use Rattle.razor_core.specs.Commands.Equiv.{comparing}
 use Rattle.razor_core.specs.Inputs.{list_input}
 use Rattle.razor_core.specs.Outside.{seen}
 use Rattle.razor_core.specs.Taking.{value_of}

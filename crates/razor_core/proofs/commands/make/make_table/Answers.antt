@@ -7,7 +7,7 @@ use Rattle.command_words.specs.Commands.{method_seen}
 use Rattle.command_words.specs.Settings.{sizes_of}
 use Rattle.razor_core.specs.Ending.{IsDone}
 use Rattle.razor_core.specs.Inputs.{list_input}
-use Rattle.razor_core.specs.Make.{made_line, making}
+use Rattle.razor_core.specs.Commands.Make.{made_line, making}
 use Rattle.razor_core.specs.Outcome.{IsTextOf, Outcome}
 use Rattle.razor_core.specs.Outside.{seen}
 use Rattle.razor_core.specs.Taking.{value_of}

@@ -1,6 +1,6 @@
 use Rattle.std.proofs.Common.{List, [], refl, ℕ, ◌∷◌}
 use Rattle.table_text.proofs.TableTexts.{table-read}
-use Rattle.razor_core.specs.Migrate.{migrating}
+use Rattle.razor_core.specs.Commands.Migrate.{migrating}
 use Rattle.razor_core.specs.Inputs.{table_input}
 use Rattle.razor_core.specs.Outside.{seen}
 use Rattle.razor_core.specs.Taking.{table_value_of}

@@ -1,5 +1,5 @@
 use Rattle.std.proofs.Common.{List, refl, sym, ℕ}
-use Rattle.razor_core.specs.Patch.{patching}
+use Rattle.razor_core.specs.Commands.Patch.{patching}
 use Rattle.razor_core.specs.Inputs.{memory_input, table_input}
 use Rattle.razor_core.specs.Outside.{seen}
 use Rattle.razor_core.specs.Taking.{memory_value_of, table_value_of}

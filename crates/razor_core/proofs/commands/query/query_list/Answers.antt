@@ -3,7 +3,7 @@ use Rattle.std.specs.Prelude.{Option}
 use Rattle.command_words.specs.Questions.{name_in}
 use Rattle.field_boxes.specs.Headline.Classifier.{Interval}
 use Rattle.field_boxes.specs.Spans.{intervals_of}
-use Rattle.razor_core.specs.Query.{querying}
+use Rattle.razor_core.specs.Commands.Query.{querying}
 use Rattle.razor_core.specs.Inputs.{list_input}
 use Rattle.razor_core.specs.Outside.{seen}
 use Rattle.razor_core.specs.Taking.{value_of}

@@ -8,7 +8,7 @@ use Rattle.command_words.specs.Swaps as swaps
 use Rattle.edit_session.specs.Machine.{opened}
 use Rattle.edit_session.specs.Methods.{Method, method_seen}
 use Rattle.edit_session.specs.Ways as ways
-use Rattle.razor_core.specs.Session.{first_state, method_of, way_of}
+use Rattle.razor_core.specs.Commands.Session.{first_state, method_of, way_of}
 use Rattle.razor_core.proofs.SessionEnding.{few_names, starts}
 use Rattle.razor_core.proofs.commands.session.run_in.Goals as goal
 

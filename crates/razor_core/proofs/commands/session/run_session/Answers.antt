@@ -7,7 +7,7 @@ use Rattle.razor_core.proofs.Ended.{ends_later, turn_ends}
 use Rattle.razor_core.proofs.SessionEnding.{BothRead, session_ends}
 use Rattle.razor_core.proofs.Turns.{kept, passed_taken, taken_before, taken_later}
 use Rattle.razor_core.proofs.commands.session.run_session.Goals as goal
-use Rattle.razor_core.specs.Session.{editing}
+use Rattle.razor_core.specs.Commands.Session.{editing}
 
 pub run_in-requires-clause-names : goal.run_in-requires-clause-names
 run_in-requires-clause-names g c = c.in-Ok-take.ensures.holds.numbers

@@ -9,7 +9,7 @@ use Rattle.razor_core.proofs.TraceEnding.{Ran, loaded_answers, run_ends, unread}
 use Rattle.razor_core.proofs.Ended.{turn_ends}
 use Rattle.razor_core.proofs.Turns.{kept, taken_before}
 use Rattle.razor_core.proofs.commands.trace.answer_trace.Goals as goal
-use Rattle.razor_core.specs.Trace.{tracing}
+use Rattle.razor_core.specs.Commands.Trace.{tracing}
 
 pub returns-in-Err-clause-ends : goal.returns-in-Err-clause-ends
 returns-in-Err-clause-ends g c =
