@@ -67,10 +67,10 @@ fn make_by<'a>(
     ensures room { IfOk result (λ made. IsRoom (method_seen method) (filter_list list.now).rules sizes.limit) }
 {
     match method {
-        Method::Expand => expand_list(alloc, list, sizes.limit, sizes.slot),
-        Method::Compile => compile_list(alloc, list, sizes.limit, sizes.slot),
-        Method::Arrange(wanted) => arrange_list(alloc, list, wanted, sizes.limit, sizes.slot),
-        Method::Shorten(wanted) => shorten_list(alloc, list, wanted, sizes.limit, sizes.slot),
+        Method::Expand => expand_list(alloc, list, sizes),
+        Method::Compile => compile_list(alloc, list, sizes),
+        Method::Arrange(wanted) => arrange_list(alloc, list, wanted, sizes),
+        Method::Shorten(wanted) => shorten_list(alloc, list, wanted, sizes),
     }
 }
 

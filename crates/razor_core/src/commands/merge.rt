@@ -45,18 +45,12 @@ fn merged(alloc: Global, table: Table) -> Result<Table, Memory>
     ensures merged { IfOk result (λ merged. IsMergedTable (table_of table) (table_of merged)) }
     ensures names { IfOk result (λ merged. merged.names ≡ table.names) }
 {
-    let Table {
-        slot,
-        composed,
-        entries,
-        names,
-    } = table;
-    names.are_names();
+    table.names.are_names();
     Ok(Table {
-        slot,
-        composed,
-        entries: merge(alloc, entries)?,
-        names,
+        slot: table.slot,
+        composed: table.composed,
+        entries: merge(alloc, table.entries)?,
+        names: table.names,
     })
 }
 

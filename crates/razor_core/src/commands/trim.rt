@@ -58,18 +58,12 @@ fn trimmed(alloc: Global, table: Table) -> Result<Table, Memory>
     ensures names { IfOk result (λ trimmed. trimmed.names ≡ table.names) }
 {
     parts();
-    let Table {
-        slot,
-        composed,
-        entries,
-        names,
-    } = table;
-    names.are_names();
+    table.names.are_names();
     Ok(Table {
-        slot,
-        composed,
-        entries: trim(alloc, entries)?,
-        names,
+        slot: table.slot,
+        composed: table.composed,
+        entries: trim(alloc, table.entries)?,
+        names: table.names,
     })
 }
 

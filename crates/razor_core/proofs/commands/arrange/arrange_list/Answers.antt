@@ -10,4 +10,4 @@ pub returns-in-Ok-compile_in-clause-room : goal.returns-in-Ok-compile_in-clause-
 returns-in-Ok-compile_in-clause-room c =
     let wanted = wanted_seen c.args.wanted in
     let rules = (filter_list c.args.list.now).rules in
-    room_in wanted rules c.fields.result.now c.args.limit c.one_least_cost.ensures (subst (λ (o : List ℕ). IsOrderOf (Arrange wanted) rules o) (sym c.fields.ensures.fields) c.in-Ok.ensures) (rw c.deref.ensures.value at c.in-Ok-compile_in.ensures.room)
+    room_in wanted rules c.fields.result.now c.args.sizes.limit c.one_least_cost.ensures (subst (λ (o : List ℕ). IsOrderOf (Arrange wanted) rules o) (sym c.fields.ensures.fields) c.in-Ok.ensures) (rw c.deref.ensures.value at c.in-Ok-compile_in.ensures.room)
