@@ -33,7 +33,7 @@ pub(crate) const TRIES: usize = 2;
 pub(crate) const GROUP: usize = 64;
 
 /// Rows that a list may say inside of the words of an edit.
-pub(crate) const MOST_SAID: usize = 2000;
+pub(crate) const MOST_SAID: usize = 20_000;
 
 /// Entries that may meet a cube that is looked at in a repair.
 pub(crate) const REPAIR_REACH: usize = 1024;

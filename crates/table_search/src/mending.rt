@@ -38,7 +38,11 @@ impl Mending {
     }
 
     /// Makes the table shorter, where only rows that meet the cubes can be wrong or redundant.
+    ///
+    /// New rows go down first: in front of all others they hide old ones, of which new ones that say the same would stay.
     pub fn settle(&mut self, cubes: &[Cube]) -> Result<(), Memory> {
+        self.trim_new()?;
+        self.sink(usize::MAX)?;
         self.trim_new()?;
         self.trim_old(cubes)?;
         self.trim_new()?;
@@ -49,7 +53,7 @@ impl Mending {
                 break;
             }
         }
-        self.sink()
+        self.sink(REPAIR_REACH)
     }
 
     /// The entries as they are now, the new ones spread over the places where they may stand.
@@ -130,10 +134,10 @@ impl Mending {
         Ok(())
     }
 
-    /// Moves the new rows down as far as they can go.
-    fn sink(&mut self) -> Result<(), Memory> {
+    /// Moves the new rows down as far as they can go, where about `most` rows meet them at most.
+    fn sink(&mut self, most: usize) -> Result<(), Memory> {
         for id in &self.new_ids()? {
-            self.table.sink(*id, REPAIR_REACH)?;
+            self.table.sink(*id, most)?;
         }
         Ok(())
     }
