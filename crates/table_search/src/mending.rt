@@ -15,9 +15,9 @@ pub(crate) struct Mending {
     alloc: Global,
     search: Search,
     table: Table,
-    /// The ids of the old rows are those from this one on, below the other.
+    /// The rows of the old table; the first of them has this id, and the others follow.
+    old: Vec<Row>,
     first: usize,
-    end: usize,
 }
 
 impl Mending {
@@ -25,15 +25,17 @@ impl Mending {
     pub fn new(alloc: Global, front: Vec<Row>, old: &[Entry]) -> Result<Mending, Memory> {
         let mut search = Search::new(alloc);
         search.most = REPAIR_REACH;
+        let mut old_rows = Vec::with_capacity(alloc, old.len())?;
+        push_rows(&mut old_rows, old, false)?;
         let first = front.len();
         let mut rows = front;
-        push_rows(&mut rows, old, false)?;
+        rows.extend_from_slice(&old_rows)?;
         Ok(Mending {
             alloc,
             search,
             table: Table::new(alloc, &rows)?,
+            old: old_rows,
             first,
-            end: rows.len(),
         })
     }
 
@@ -62,7 +64,8 @@ impl Mending {
         for id in &self.table.ids(self.alloc)? {
             placed.push(Placed {
                 row: self.table.row(*id),
-                is_new: self.is_new(*id),
+                home: self.home(*id),
+                at_home: !self.is_new(*id),
             })?;
         }
         spread(&mut placed)?;
@@ -75,7 +78,29 @@ impl Mending {
 
     /// Whether the row with the id is new.
     fn is_new(&self, id: usize) -> bool {
-        id < self.first || id >= self.end
+        self.old_place(id).is_none()
+    }
+
+    /// The place of the row in the old table; none where it is new.
+    fn old_place(&self, id: usize) -> Option<usize> {
+        let place = id.checked_sub(self.first)?;
+        if place >= self.old.len() {
+            return None;
+        }
+        Some(place)
+    }
+
+    /// The place of the row in the old table; of a new one that of the old row with its word.
+    fn home(&self, id: usize) -> Option<usize> {
+        match self.old_place(id) {
+            Some(place) => Some(place),
+            None => self.place_of(self.table.row(id).cube),
+        }
+    }
+
+    /// The place of the old row with this cube.
+    fn place_of(&self, cube: Cube) -> Option<usize> {
+        self.old.iter().position(|row| row.cube == cube)
     }
 
     /// The ids of the new rows, from the last to the first.
