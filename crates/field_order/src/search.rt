@@ -28,7 +28,7 @@ const TRIED: u64 = 8;
 /// The most values of a field that are tried.
 const MOST: u64 = 1024;
 
-/// The parts of nodes of fewer edges aren't tried.
+/// Nodes of fewer edges are found out by their children.
 const FEW: usize = 16;
 
 /// What the node costs, where its fields are read in the order, or that it costs more than the cap.
@@ -100,7 +100,8 @@ fn tried(
 
 /// Whether the node is found to cost more than the cap, before the order's first field is put in front of it.
 ///
-/// Nothing is asked where it stands there, or was put there before.
+/// A node of few edges is found out by a child, and one of many by its parts. Nothing is asked where the field
+/// stands in front, or was put there before.
 #[cycle(costing)]
 fn is_above(
     alloc: Global,
@@ -132,9 +133,9 @@ fn is_above(
     if fronts.get(Asked { id, field }).is_some() {
         return Ok(false);
     }
-    let child = child_above(alloc, store, fronts, worths, costing, level, id, order, cap)?;
-    if child {
-        return Ok(true);
+    if store.edges(id).len() < FEW {
+        let child = child_above(alloc, store, fronts, worths, costing, level, id, order, cap)?;
+        return Ok(child);
     }
     let several = several_above(
         alloc,
@@ -192,7 +193,7 @@ fn child_above(
     Ok(above)
 }
 
-/// Whether one of the nodes of a level costs more than the cap. Where they are many, those of few edges aren't asked.
+/// Whether one of the nodes of a level costs more than the cap.
 #[cycle(costing)]
 fn one_above(
     alloc: Global,
@@ -215,9 +216,6 @@ fn one_above(
     ensures grows { Grows store.old store.new }
 {
     for edge in edges {
-        if FEW <= edges.len() && store.edges(edge.to).len() < FEW {
-            continue;
-        }
         let found = worth(
             alloc, store, fronts, worths, costing, level, edge.to, order, cap,
         )?;
@@ -256,9 +254,6 @@ fn several_above(
     ensures grows { Grows store.old store.new }
 {
     store.same_answers();
-    if store.edges(id).len() < FEW {
-        return Ok(false);
-    }
     let edges = front_edges(alloc, store, fronts, &level[1..], id, field)?;
     let rest = without(alloc, level, field)?;
     let above = parts_above(

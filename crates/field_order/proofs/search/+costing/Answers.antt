@@ -267,30 +267,20 @@ is_above-overflow_cast-field t c =
 pub is_above-child_above-requires : goal.is_above-child_above-requires
 is_above-child_above-requires t c = (omega (arith, c.decreases), (c.requires.level, (c.requires.some, (c.requires.fields, (c.requires.fronts, c.requires.worths)))))
 
-pub is_above-returns-then-child-clause-above : goal.is_above-returns-then-child-clause-above
-is_above-returns-then-child-clause-above t c =
-    subst (λ b. OnTrue b (IsAbove c.child_above.new.store (digits (length c.args.level.now) c.args.order) c.args.cap c.args.id)) c.if-child.true c.in_ok-child.ensures.above
+pub is_above-edges-requires : goal.is_above-edges-requires
+is_above-edges-requires t c = in_use c.args.store.now c.args.id.0 c.args.level.now c.requires.level c.requires.fields.at
 
 pub is_above-several_above-requires : goal.is_above-several_above-requires
 is_above-several_above-requires t c =
-    let f = c.args.order / c.unit-unit.result in
     let level = c.args.level.now in
-    let told = c.in_ok-child.ensures in
     let st = step c.args.store.now level c.args.order c.args.id.0 c.unit-unit.result c.requires.level c.requires.some c.requires.fields c.unit-unit.ensures.value in
-    let at = (stays.fields c.args.store.now c.child_above.new.store told.grows level (digits (length level) c.args.order) c.args.id.0 c.requires.level c.requires.fields).at in
-    let has = in_rest f level _ st.has c.if-first-field.false in
-    (omega (arith, c.decreases), (c.requires.level, (c.requires.some, (c.requires.fields.apart, (at, (has, (st.rest, (told.fronts, told.worths))))))))
+    let has = in_rest (c.args.order / c.unit-unit.result) level _ st.has c.if-first-field.false in
+    (omega (arith, c.decreases), (c.requires.level, (c.requires.some, (c.requires.fields.apart, (c.requires.fields.at, (has, (st.rest, (c.requires.fronts, c.requires.worths))))))))
 
 pub is_above-returns-clause-above : goal.is_above-returns-clause-above
 is_above-returns-clause-above t c =
     let st = step c.args.store.now c.args.level.now c.args.order c.args.id.0 c.unit-unit.result c.requires.level c.requires.some c.requires.fields c.unit-unit.ensures.value in
     subst (λ o. OnTrue c.in_ok-several.several (IsAbove c.several_above.new.store o c.args.cap c.args.id)) (sym st.order_is) c.in_ok-several.ensures.above
-
-pub is_above-returns-in_err-several-clause-grows : goal.is_above-returns-in_err-several-clause-grows
-is_above-returns-in_err-several-clause-grows t c = growth.twice c.args.store.now c.child_above.new.store c.several_above.new.store c.in_ok-child.ensures.grows c.in_err-several.ensures.grows
-
-pub is_above-returns-clause-grows : goal.is_above-returns-clause-grows
-is_above-returns-clause-grows t c = growth.twice c.args.store.now c.child_above.new.store c.several_above.new.store c.in_ok-child.ensures.grows c.in_ok-several.ensures.grows
 
 pub child_above-bounds-level-0 : goal.child_above-bounds-level-0
 child_above-bounds-level-0 t c = omega (arith, some_field c.args.level.now c.requires.some)
@@ -330,9 +320,6 @@ child_above-returns-clause-above t c =
     let same = c.as_slice.ensures ∙ c.in_ok-edges.ensures ∙ c.edges.ensures.edges in
     child_told c.in_ok-above.above c.args.store.now c.one_above.new.store level _ c.args.order c.order_without-below.result c.args.cap _ c.args.id c.as_slice.result.now c.same_answers-2.ensures.store c.requires.level c.requires.some
     c.requires.fields c.in_ok-above.ensures.grows (rest_is level) same c.order_without-below.ensures c.in_ok-above.ensures.above
-
-pub several_above-edges-requires : goal.several_above-edges-requires
-several_above-edges-requires t c = in_use c.args.store.now c.args.id.0 c.args.level.now c.requires.level c.requires.at
 
 pub several_above-slice_bounds-front_edges-count : goal.several_above-slice_bounds-front_edges-count
 several_above-slice_bounds-front_edges-count t c = omega (arith, some_field c.args.level.now c.requires.some)
@@ -385,15 +372,6 @@ several_above-returns-in_err-above-clause-grows t c = growth.twice c.args.store.
 
 pub several_above-returns-clause-grows : goal.several_above-returns-clause-grows
 several_above-returns-clause-grows t c = growth.twice c.args.store.now c.front_edges.new.store c.parts_above.new.store c.in_ok-edges.ensures.grows c.in_ok-above.ensures.grows
-
-pub one_above-edges-requires : goal.one_above-edges-requires
-one_above-edges-requires t c =
-    let l = c.loop-edge in
-    let d : Edge = record { hi = 0; to = record { 0 = 0 } } in
-    let level = c.args.level.now in
-    let to = (get_or c.args.edges.now l.edge-index d).to.0 in
-    let fields = stays.fields c.args.store.now l.store l.invariant.grows level (digits (length level) c.args.order) to c.requires.level (c.requires.fields l.edge-index d c.loop-edge-test.true) in
-    in_use l.store to level c.requires.level fields.at
 
 pub one_above-worth-requires : goal.one_above-worth-requires
 one_above-worth-requires t c =
