@@ -25,7 +25,7 @@ pub record Settings : Type 0 where
 
 -- the same of the code
 abbrev pub sizes_of : code_sizes.Sizes → Sizes
-sizes_of sizes = record { limit = sizes.limit; slot = sizes.slot }
+sizes_of sizes = record { limit = sizes.limit.count; slot = sizes.slot.bits }
 
 abbrev pub wanted_seen : code_wanted.Wanted → Wanted
 wanted_seen orders.Best = Best

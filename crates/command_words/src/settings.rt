@@ -20,6 +20,7 @@ use crate::sizes::{Sizes, Slots};
 use crate::swap::{Swap, swap_written};
 use crate::wanted::{Wanted, order_wanted};
 use razor_base::limits::MOST_ENTRIES;
+use ternary_words::{Limit, SlotWidth};
 
 /// What the options come to, each that is left out to its usual value.
 #[derive(Clone, Copy)]
@@ -107,8 +108,8 @@ pub(crate) fn settings_of(form: &CommandForm, parts: &Parts<'_>) -> Option<Setti
     let by = by(need_of(form.options, OptionName::By), parts.by)?;
     Some(Settings {
         sizes: Sizes {
-            limit,
-            slot: slot as u16,
+            limit: Limit { count: limit },
+            slot: SlotWidth { bits: slot as u16 },
         },
         slots: Slots { count: slots },
         order,

@@ -14,7 +14,7 @@ use slot_patch::{SlotTable, new_patcher};
 use std::alloc::Global;
 use std::marker::Model;
 use tcam_sim::Device;
-use ternary_words::Table;
+use ternary_words::{Limit, SlotWidth, Table};
 
 /// A rule list that is edited, and a memory into which the tables of the list are swapped write by write.
 ///
@@ -29,56 +29,47 @@ pub struct Editor<'a, V: Device, T: Replaced = Block> {
     list: Listing,
     maker: Maker<'a>,
     swapper: ListSwapper<V, T>,
-    slot: u16,
-    limit: u32,
+    slot: SlotWidth,
+    limit: Limit,
 }
 
 impl<'a, V: Device, T: Replaced> Model for Editor<'a, V, T> {
-    ghost use Rattle.std.specs.Prelude.{◌≤◌};
-    ghost use Rattle.razor_base.specs.declared.limits.TheConstants.{MOST_ENTRIES};
-    ghost use Rattle.ternary_words.specs.Limits.{IsSlotWidth};
     ghost use Rattle.edit_session.specs.Editing.{Editing};
     ghost use Rattle.edit_session.specs.Methods.{method_of};
 
     ghost Value = { Editing V };
 
-    ghost view = { λ e. record { device = e.swapper.device; session = record { list = e.list; state = e.swapper.state; copies = e.swapper.copies; method = method_of e.maker; way = T.way; slot = e.slot; limit = e.limit } } };
-
-    ghost invariant = { λ e. (e.limit ≤ MOST_ENTRIES) × ∥ IsSlotWidth e.slot ∥₁ };
+    ghost view = { λ e. record { device = e.swapper.device; session = record { list = e.list; state = e.swapper.state; copies = e.swapper.copies; method = method_of e.maker; way = T.way; slot = e.slot.bits; limit = e.limit.count } } };
 }
 
 impl<'a, V: Device> Editor<'a, V, Block> {
-    ghost use Rattle.std.specs.Prelude.{◌≡◌, ◌≤◌, None, length, replicate};
+    ghost use Rattle.std.specs.Prelude.{◌≡◌, None, length, replicate};
     ghost use Rattle.field_boxes.specs.NamedRules.{named_rules};
-    ghost use Rattle.ternary_words.specs.Limits.{IsSlotWidth};
     ghost use Rattle.edit_session.specs.Machine.{opened};
     ghost use Rattle.edit_session.specs.Methods.{method_seen};
     ghost use Rattle.edit_session.specs.Ways.{Whole};
 
-    /// A session over the list and an empty memory, whose tables are made by the method, for slots of `slot` trits (104,
-    /// 144 or 288) and within `limit` entries (to 262,144). Each table is written whole beside the old one.
+    /// A session over the list and an empty memory, whose tables are made by the method, for slots of the width and within
+    /// `limit` entries. Each table is written whole beside the old one.
     pub fn new(
         alloc: Global,
         list: RuleList,
         method: Method<'a>,
-        slot: u16,
-        limit: u32,
+        slot: SlotWidth,
+        limit: Limit,
         device: V,
     ) -> Self
-        requires slot { ∥ IsSlotWidth slot ∥₁ }
-        requires limit { limit ≤ MOST_ENTRIES }
         requires empty { V.held device ≡ replicate (length (V.held device)) None }
         ensures device { result.device ≡ device }
-        ensures session { result.session ≡ opened (record { rules = named_rules list.names list.rules.items; names = list.names }) (method_seen method.entry) Whole (length (V.held device)) slot limit }
+        ensures session { result.session ≡ opened (record { rules = named_rules list.names list.rules.items; names = list.names }) (method_seen method.entry) Whole (length (V.held device)) slot.bits limit.count }
     {
         Editor::over(alloc, list, method, slot, limit, Swapper::new(device))
     }
 }
 
 impl<'a, V: Device> Editor<'a, V, SlotTable> {
-    ghost use Rattle.std.specs.Prelude.{◌≡◌, ◌≤◌, None, length, replicate, IfOk, IfErr};
+    ghost use Rattle.std.specs.Prelude.{◌≡◌, None, length, replicate, IfOk, IfErr};
     ghost use Rattle.field_boxes.specs.NamedRules.{named_rules};
-    ghost use Rattle.ternary_words.specs.Limits.{IsSlotWidth};
     ghost use Rattle.edit_session.specs.Machine.{opened};
     ghost use Rattle.edit_session.specs.Methods.{method_seen};
     ghost use Rattle.edit_session.specs.Ways.{InPlace};
@@ -89,15 +80,13 @@ impl<'a, V: Device> Editor<'a, V, SlotTable> {
         alloc: Global,
         list: RuleList,
         method: Method<'a>,
-        slot: u16,
-        limit: u32,
+        slot: SlotWidth,
+        limit: Limit,
         device: V,
     ) -> Result<Self, (V, Memory)>
-        requires slot { ∥ IsSlotWidth slot ∥₁ }
-        requires limit { limit ≤ MOST_ENTRIES }
         requires empty { V.held device ≡ replicate (length (V.held device)) None }
         ensures device { IfOk result (λ editor. editor.device ≡ device) }
-        ensures session { IfOk result (λ editor. editor.session ≡ opened (record { rules = named_rules list.names list.rules.items; names = list.names }) (method_seen method.entry) InPlace (length (V.held device)) slot limit) }
+        ensures session { IfOk result (λ editor. editor.session ≡ opened (record { rules = named_rules list.names list.rules.items; names = list.names }) (method_seen method.entry) InPlace (length (V.held device)) slot.bits limit.count) }
         ensures err { IfErr result (λ refused. refused.0 ≡ device) }
     {
         match new_patcher(alloc, device) {
@@ -115,7 +104,6 @@ impl<'a, V: Device, T: Replaced> Editor<'a, V, T> {
     ghost use Rattle.field_boxes.specs.Headline.Names.{text_of};
     ghost use Rattle.field_boxes.specs.Names.{is_decision_word};
     ghost use Rattle.filter_reader.specs.FilterRules.{IsFilterRule};
-    ghost use Rattle.ternary_words.specs.Limits.{IsSlotWidth};
     ghost use Rattle.bank_update.specs.Machine.{abort_answer, held, looked, stage, step_answer};
     ghost use Rattle.bank_update.specs.Sound.{IsSound};
     ghost use Rattle.bank_update.specs.Swapping.{KeepsNew};
@@ -133,15 +121,13 @@ impl<'a, V: Device, T: Replaced> Editor<'a, V, T> {
         alloc: Global,
         list: RuleList,
         method: Method<'a>,
-        slot: u16,
-        limit: u32,
+        slot: SlotWidth,
+        limit: Limit,
         updater: Updater<V, T>,
     ) -> Self
-        requires slot { ∥ IsSlotWidth slot ∥₁ }
-        requires limit { limit ≤ MOST_ENTRIES }
         requires empty { updater.state ≡ unsettled (length (V.held updater.device)) }
         ensures device { result.device ≡ updater.device }
-        ensures session { result.session ≡ opened (record { rules = named_rules list.names list.rules.items; names = list.names }) (method_seen method.entry) T.way (length (V.held updater.device)) slot limit }
+        ensures session { result.session ≡ opened (record { rules = named_rules list.names list.rules.items; names = list.names }) (method_seen method.entry) T.way (length (V.held updater.device)) slot.bits limit.count }
     {
         Editor {
             alloc,

@@ -10,7 +10,8 @@
 //!
 //! ```text
 //! let order = Order::stated();
-//! let mut editor = Editor::new(alloc, list, Method::Compiled(&order), 144, 262_144, bank);
+//! let (slot, limit) = (SlotWidth { bits: 144 }, Limit { count: 262_144 });
+//! let mut editor = Editor::new(alloc, list, Method::Compiled(&order), slot, limit, bank);
 //! let session = read_session(alloc, b"drop 2\ncommit\nstep\n")?;
 //! session_on(alloc, &session, &mut editor, &mut out)?;
 //! ```

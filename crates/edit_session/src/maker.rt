@@ -1,8 +1,7 @@
 //! The makers of the tables that commits hand over.
 ghost use Rattle.std.specs.Prelude.{◌≡◌, ◌≤◌, length, All, IfOk, IfErr, MatchResult};
 ghost use Rattle.field_boxes.specs.NamedRules.{IsNumberedBy, named_rules};
-ghost use Rattle.razor_base.specs.declared.limits.TheConstants.{MOST_ENTRIES, MOST_RULES};
-ghost use Rattle.ternary_words.specs.Limits.{IsSlotWidth};
+ghost use Rattle.razor_base.specs.declared.limits.TheConstants.{MOST_RULES};
 ghost use Rattle.ternary_words.specs.Views.{table_of};
 ghost use Rattle.edit_session.specs.Machine.{IsTableFor};
 ghost use Rattle.edit_session.specs.Methods.{IsMade, IsUnmade, method_of, method_seen};
@@ -13,7 +12,7 @@ use field_boxes::{Decisions, Order, Rule};
 use rule_compilation::Compiler;
 use rule_shortening::Shortener;
 use std::alloc::Global;
-use ternary_words::Table;
+use ternary_words::{Limit, SlotWidth, Table};
 
 /// By which method the tables of a session are made of its list.
 #[derive(Clone, Copy)]
@@ -43,21 +42,19 @@ impl<'a> Maker<'a> {
         }
     }
 
-    /// The table of the list, of which these are the rules in their order, for slots of `slot` trits.
+    /// The table of the list, of which these are the rules in their order, for slots of the width.
     pub(crate) fn table(
         &mut self,
         list: &Listing,
         rules: &[Rule],
-        limit: u32,
-        slot: u16,
+        limit: Limit,
+        slot: SlotWidth,
     ) -> Result<Table, CommitRefusal>
         requires rules { named_rules list.now.names rules.now ≡ list.now.rules }
         requires numbered { All (IsNumberedBy list.now.names) rules.now }
         requires few { length rules.now ≤ MOST_RULES }
-        requires slot { ∥ IsSlotWidth slot ∥₁ }
-        requires limit { limit ≤ MOST_ENTRIES }
-        ensures table { IfOk result (IsTableFor (method_of self.old) list.now slot limit) }
-        ensures refused { IfErr result (IsUnmade (method_of self.old) list.now.rules limit) }
+        ensures table { IfOk result (IsTableFor (method_of self.old) list.now slot.bits limit.count) }
+        ensures refused { IfErr result (IsUnmade (method_of self.old) list.now.rules limit.count) }
         ensures method { method_of self.new ≡ method_of self.old }
     {
         self.made(rules, list.names(), limit, slot)
@@ -94,16 +91,14 @@ impl<'a> Maker<'a> {
         &mut self,
         rules: &[Rule],
         names: &Decisions,
-        limit: u32,
-        slot: u16,
+        limit: Limit,
+        slot: SlotWidth,
     ) -> Result<Table, CommitRefusal>
         requires few { length rules.now ≤ MOST_RULES }
         requires numbered { All (IsNumberedBy names.now) rules.now }
-        requires limit { limit ≤ MOST_ENTRIES }
-        requires slot { ∥ IsSlotWidth slot ∥₁ }
         ensures table { MatchResult result
-            (λ table. IsMade (method_of self.old) (named_rules names.now rules.now) limit slot (table_of table))
-            (IsUnmade (method_of self.old) (named_rules names.now rules.now) limit) }
+            (λ table. IsMade (method_of self.old) (named_rules names.now rules.now) limit.count slot.bits (table_of table))
+            (IsUnmade (method_of self.old) (named_rules names.now rules.now) limit.count) }
         ensures names { IfOk result (λ table. table.names ≡ names.now) }
         ensures method { method_of self.new ≡ method_of self.old }
     {

@@ -1,13 +1,13 @@
 -- Names in a list that grows.
-use Rattle.std.proofs.Common.{◌≡◌, ℕ, List, true, false, ap, refl, sym, ◌∙◌, subst, Some, Ok, Err, Result, bytes_eq}
+use Rattle.std.proofs.Common.{◌≡◌, ℕ, List, true, false, ap, refl, sym, subst, Some, Ok, Err, Result, bytes_eq}
 use Rattle.std.specs.Prelude.{OnOk, OnErr}
 use Rattle.field_boxes.specs.Headline.Names.{miss}
 use Rattle.field_boxes.specs.Names.{with_name}
 use Rattle.slot_patch.specs.Naming.{Grow}
 use Rattle.slot_patch.proofs.Renaming.{grow-none, grow-on, grow-with}
-use Rattle.table_text.specs.Names.{decided, is_decision}
-use Rattle.table_text.specs.Seen.{with_decided}
-use Rattle.table_text.proofs.NamesSeen.{decision_named}
+use Rattle.ternary_words.specs.Names.{decided, is_decision}
+use Rattle.ternary_words.specs.Seen.{with_decided}
+use Rattle.ternary_words.proofs.NamesSeen.{decision_named}
 use Rattle.memory_text.specs.Kept.{AreSpelled, Extends}
 
 abbrev Names : Type 0

@@ -6,9 +6,9 @@ use Rattle.ternary_words.specs.Limits.{IsSlotWidth}
 use Rattle.text_lines.specs.Numbers.{plain_number}
 use Rattle.text_lines.proofs.Decimals.{decimal-other, plain_number-decimal}
 use Rattle.text_lines.proofs.Joins.{is_other, split_once-joined}
-use Rattle.table_text.specs.Heading.{Words, slot_of, words_of}
-use Rattle.table_text.proofs.EntryTexts.{front_all}
-use Rattle.table_text.proofs.HeadingTexts.{small_width, width_is, width_of}
+use Rattle.ternary_words.specs.Heading.{Words, slot_of, words_of}
+use Rattle.ternary_words.proofs.EntryTexts.{front_all}
+use Rattle.ternary_words.proofs.HeadingTexts.{small_width, width_is, width_of}
 use Rattle.memory_text.specs.declared.kind.TextKind.{TextKind}
 use Rattle.memory_text.specs.declared.kind.TextKind.TheVariants as kinds
 use Rattle.memory_text.specs.Heading.{heading_of, most_lines, number_from_one}

@@ -2,7 +2,7 @@
 use Rattle.std.proofs.Common.{◌≡◌, ◌∷◌, ◌++◌, ℕ, suc, ◌+◌, ◌-◌, ◌<◌, List, [], Ok, Err, take, refl, ap, sym, ◌∙◌, arith, append_assoc, append-nil, eq-eqb, Result}
 use Rattle.std.proofs.lemmas.Grind.{common_steps}
 use Rattle.text_lines.specs.Headline.Reading.{BadLine}
-use Rattle.table_text.specs.Lines.{Line}
+use Rattle.ternary_words.specs.Lines.{Line}
 use Rattle.memory_text.specs.declared.error.SlotReason.{SlotReason}
 use Rattle.memory_text.specs.declared.kind.TextKind.{TextKind}
 use Rattle.memory_text.specs.Heading.{Heading}

@@ -8,8 +8,8 @@ use Rattle.ternary_words.specs.Headline.Table.{Entry}
 use Rattle.ternary_words.specs.Views.{entry_of}
 use Rattle.bank_update.specs.declared.write.Put.{Put}
 use Rattle.text_lines.proofs.Joins.{is_other}
-use Rattle.table_text.specs.Lines.{Line, lines_of}
-use Rattle.table_text.proofs.Cuts.{lines_of-line, whole_line}
+use Rattle.ternary_words.specs.Lines.{Line, lines_of}
+use Rattle.ternary_words.proofs.Cuts.{lines_of-line, whole_line}
 use Rattle.memory_text.specs.declared.error.SlotReason.{SlotReason}
 use Rattle.memory_text.specs.declared.kind.TextKind.{TextKind}
 use Rattle.memory_text.specs.declared.kind.TextKind.TheVariants as kinds
@@ -76,10 +76,10 @@ plan-read p =
     let below : Below p.slots puts = recursion_from_All (λ (q : Put). q.slot < p.slots) puts p.within in
     let lines = put_lines p.names puts in
     let small : many < 2 ^ 64 = omega (arith, same, counted) in
-    ap (plan_in kinds.Plan) (heading-cut kinds.Plan p.slots p.width many (flat_map write_line (writes_of p.names puts)) (heading-line kinds.Plan p.slots p.width many few p.wide small)
-    ∙ ap (λ ls. whole_line (first_of kinds.Plan p.slots p.width many) true ∷ ls) (puts_cut p.names p.slots puts few below p.named))
-    ∙ in_plan kinds.Plan (record { slots = p.slots; width = p.width; lines = many }) (first_of kinds.Plan p.slots p.width many) lines (writes_of p.names puts)
-    (heading-read kinds.Plan p.slots p.width many p.some few p.wide small (omega (arith, same, counted)))
+    ap (plan_in kinds.Plan) (heading-cut kinds.Plan p.slots p.width.bits many (flat_map write_line (writes_of p.names puts)) (heading-line kinds.Plan p.slots p.width.bits many few p.width.known small)
+    ∙ ap (λ ls. whole_line (first_of kinds.Plan p.slots p.width.bits many) true ∷ ls) (puts_cut p.names p.slots puts few below p.named))
+    ∙ in_plan kinds.Plan (record { slots = p.slots; width = p.width.bits; lines = many }) (first_of kinds.Plan p.slots p.width.bits many) lines (writes_of p.names puts)
+    (heading-read kinds.Plan p.slots p.width.bits many p.some few p.width.known small (omega (arith, same, counted)))
     (length-map puts (λ q. whole_line (put_line_text p.names q) true) ∙ sym same) (puts_read p.names p.slots 2 0 puts few below p.named)
 
 -- memories
@@ -152,13 +152,13 @@ memory-read m =
     let some = m.some in
     let few = m.few in
     let top : all ≤ 262144 = omega (arith, same, few) in
-    let first = first_of kinds.Memory all m.width many in
+    let first = first_of kinds.Memory all m.width.bits many in
     let lines = memory_lines m.names 0 slots in
     let small : many < 2 ^ 64 = omega (arith, less, top) in
     let writes = standing 0 held in
-    ap (λ ls. as_memory (plan_in kinds.Memory ls)) (heading-cut kinds.Memory all m.width many (slot_lines 0 held) (heading-line kinds.Memory all m.width many top m.wide small)
+    ap (λ ls. as_memory (plan_in kinds.Memory ls)) (heading-cut kinds.Memory all m.width.bits many (slot_lines 0 held) (heading-line kinds.Memory all m.width.bits many top m.width.known small)
     ∙ ap (λ ls. whole_line first true ∷ ls) (slots_cut m.names 0 slots (omega (arith, few)) m.named))
-    ∙ ap as_memory (in_plan kinds.Memory (record { slots = all; width = m.width; lines = many }) first lines writes
-    (heading-read kinds.Memory all m.width many (omega (arith, same, some)) top m.wide small less)
+    ∙ ap as_memory (in_plan kinds.Memory (record { slots = all; width = m.width.bits; lines = many }) first lines writes
+    (heading-read kinds.Memory all m.width.bits many (omega (arith, same, some)) top m.width.known small less)
     (as_many m.names 0 slots) (slots_read m.names all 2 0 0 slots (omega (arith, same)) top (omega arith) m.named))
-    ∙ ap (λ xs. spelled m.width xs) (stands 0 [] held refl)
+    ∙ ap (λ xs. spelled m.width.bits xs) (stands 0 [] held refl)

@@ -4,7 +4,7 @@ use Rattle.std.specs.Str.{bytes_eq}
 use Rattle.razor_base.specs.declared.limits.TheConstants.{MOST_ENTRIES}
 use Rattle.text_lines.specs.Numbers.{plain_number}
 use Rattle.text_lines.specs.Headline.Steps.{◌>>=◌}
-use Rattle.table_text.specs.Heading.{Words, slot_of, words_of}
+use Rattle.ternary_words.specs.Heading.{Words, slot_of, words_of}
 use Rattle.memory_text.specs.declared.TheConstants.{MOST_WRITES}
 use Rattle.memory_text.specs.declared.kind.TextKind.{TextKind}
 use Rattle.memory_text.specs.declared.kind.TextKind.TheVariants as kinds

@@ -3,8 +3,7 @@ ghost use Rattle.std.specs.Prelude.{◌≡◌, ◌≤◌, ◌<◌, IfSome};
 ghost use Rattle.std.specs.Option.{option_map};
 ghost use Rattle.std.specs.Str.{bytes_eq};
 ghost use Rattle.razor_base.specs.declared.limits.TheConstants.{MOST_ENTRIES};
-ghost use Rattle.ternary_words.specs.Limits.{IsSlotWidth};
-ghost use Rattle.table_text.specs.HeadingViews.{words_view};
+ghost use Rattle.ternary_words.specs.HeadingViews.{words_view};
 ghost use Rattle.memory_text.specs.declared.TheConstants.{MOST_WRITES};
 ghost use Rattle.memory_text.specs.Heading.{heading_of, is_labelled, most_lines, number_from_one, slot_numbered};
 ghost use Rattle.memory_text.specs.Views.{heading_view};
@@ -12,14 +11,15 @@ ghost use Rattle.memory_text.specs.Views.{heading_view};
 use crate::MOST_WRITES;
 use crate::kind::TextKind;
 use razor_base::limits::MOST_ENTRIES;
-use table_text::{Words, cut_words, read_slot};
+use ternary_words::SlotWidth;
+use ternary_words::text::{Words, cut_words, read_slot};
 use text_lines::plain_number;
 
 /// How many slots there are, how wide they are, and how many lines follow.
 #[derive(Clone, Copy)]
 pub(crate) struct Heading {
     pub(crate) slots: u32,
-    pub(crate) width: u16,
+    pub(crate) width: SlotWidth,
     pub(crate) lines: u32,
 }
 
@@ -81,7 +81,6 @@ pub(crate) fn read_heading(kind: TextKind, line: &[u8]) -> Option<Heading>
     ensures heading { option_map heading_view result ≡ heading_of kind line.now }
     ensures some { IfSome result (λ heading. 1 ≤ heading.slots) }
     ensures few { IfSome result (λ heading. heading.slots ≤ MOST_ENTRIES) }
-    ensures width { IfSome result (λ heading. ∥ IsSlotWidth heading.width ∥₁) }
     ensures lines { IfSome result (λ heading. heading.lines ≤ MOST_WRITES) }
 {
     let words = cut_words(line)?;

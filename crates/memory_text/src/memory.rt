@@ -1,7 +1,6 @@
 //! Memories: what each slot holds.
 ghost use Rattle.std.specs.Prelude.{◌≤◌, length, vec_len};
 ghost use Rattle.razor_base.specs.declared.limits.TheConstants.{MOST_ENTRIES};
-ghost use Rattle.ternary_words.specs.Limits.{IsSlotWidth};
 ghost use Rattle.memory_text.specs.Kept.{AreNumbered, AreSpelled};
 
 use crate::naming::number_of;
@@ -10,16 +9,15 @@ use bank_update::Put;
 use razor_base::Memory;
 use slot_patch::Names;
 use std::alloc::Global;
-use ternary_words::{Entry, Word};
+use ternary_words::{Entry, SlotWidth, Word};
 
-/// A memory of 1 to 262,144 slots of `width` trits (104, 144 or 288), each empty or with an entry, and the names of the
+/// A memory of 1 to 262,144 slots of the width, each empty or with an entry, and the names of the
 /// decisions.
 #[derive(Drop)]
 pub struct SlotMemory {
-    pub width: u16,
+    pub width: SlotWidth,
     pub slots: Vec<Option<Entry>>,
     pub names: Names,
-    pub ghost wide: { ∥ IsSlotWidth width ∥₁ },
     pub ghost some: { 1 ≤ vec_len slots },
     pub ghost few: { vec_len slots ≤ MOST_ENTRIES },
     pub ghost named: { AreSpelled names },
@@ -29,20 +27,18 @@ pub struct SlotMemory {
 impl SlotMemory {
     ghost use Rattle.std.specs.Prelude.{◌≡◌, ◌≤◌, ◌<◌, Some, None, replicate, set, vec_len, IfOk, IsTrue, OnOk};
     ghost use Rattle.razor_base.specs.declared.limits.TheConstants.{MOST_ENTRIES};
-    ghost use Rattle.ternary_words.specs.Limits.{IsSlotWidth};
     ghost use Rattle.std.specs.Option.{option_map};
     ghost use Rattle.ternary_words.specs.Views.{entry_of, word_of};
-    ghost use Rattle.table_text.specs.Names.{decided, is_decision};
+    ghost use Rattle.ternary_words.specs.Names.{decided, is_decision};
     ghost use Rattle.memory_text.specs.Kept.{AreSpelled};
     ghost use Rattle.memory_text.specs.Memory.{after};
     ghost use Rattle.memory_text.specs.Views.{memory_of, plan_of};
 
     /// So many slots, all of them empty.
-    pub(crate) fn empty(alloc: Global, slots: u32, width: u16) -> Result<Self, Memory>
+    pub(crate) fn empty(alloc: Global, slots: u32, width: SlotWidth) -> Result<Self, Memory>
         requires some { 1 ≤ slots }
         requires few { slots ≤ MOST_ENTRIES }
-        requires wide { ∥ IsSlotWidth width ∥₁ }
-        ensures empty { IfOk result (λ memory. memory_of memory ≡ record { width = width; slots = replicate slots None }) }
+        ensures empty { IfOk result (λ memory. memory_of memory ≡ record { width = width.bits; slots = replicate slots None }) }
         ensures many { IfOk result (λ memory. vec_len memory.slots ≡ slots) }
     {
         Ok(SlotMemory {
@@ -95,7 +91,7 @@ impl SlotMemory {
     /// The memory after the plan's writes.
     pub fn after(self, plan: &SlotPlan) -> Result<Self, Memory>
         requires { plan.now.slots ≡ vec_len self.slots }
-        ensures after { IfOk result (λ memory. memory_of memory ≡ record { width = self.width; slots = after (memory_of self).slots (plan_of plan.now).writes }) }
+        ensures after { IfOk result (λ memory. memory_of memory ≡ record { width = self.width.bits; slots = after (memory_of self).slots (plan_of plan.now).writes }) }
     {
         let mut memory = self;
         for write in &plan.writes {

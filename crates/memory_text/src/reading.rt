@@ -1,8 +1,7 @@
 //! Reading the text of a memory, and of a plan.
 ghost use Rattle.std.specs.Prelude.{◌≡◌, ◌+◌, ◌-◌, ◌^◌, ◌≤◌, ◌<◌, min, length, take, Ok, Err, IfOk, IfSome, IfNone, MatchResult, Some, vec_len};
 ghost use Rattle.razor_base.specs.declared.limits.TheConstants.{MOST_ENTRIES};
-ghost use Rattle.ternary_words.specs.Limits.{IsSlotWidth};
-ghost use Rattle.table_text.specs.Lines.{lines_of};
+ghost use Rattle.ternary_words.specs.Lines.{lines_of};
 ghost use Rattle.memory_text.specs.declared.TheConstants.{MOST_WRITES};
 ghost use Rattle.text_lines.specs.Reading.{IsTextRefused};
 ghost use Rattle.text_lines.specs.declared.error.TextError.TheVariants.{BadLine};
@@ -18,7 +17,7 @@ use crate::line::write_in;
 use crate::memory::SlotMemory;
 use crate::plan::SlotPlan;
 use std::alloc::Global;
-use table_text::{TableReason, count_lines, next_line};
+use ternary_words::text::{TableReason, count_lines, next_line};
 
 /// The plan that the text spells, or its first bad line.
 ///
@@ -81,7 +80,6 @@ fn first_line(kind: TextKind, bytes: &[u8]) -> Option<(Heading, &[u8])>
     ensures some { IfSome result (λ parts. plan_in kind (lines_of bytes.now) ≡ after_heading kind (Some (heading_view parts.0)) (lines_of parts.1.now)) }
     ensures none { IfNone result (plan_in kind (lines_of bytes.now) ≡ no_heading) }
     ensures slots { IfSome result (λ parts. (1 ≤ parts.0.slots) × (parts.0.slots ≤ MOST_ENTRIES)) }
-    ensures width { IfSome result (λ parts. ∥ IsSlotWidth parts.0.width ∥₁) }
     ensures lines { IfSome result (λ parts. parts.0.lines ≤ MOST_WRITES) }
 {
     let (line, ended, lines) = next_line(bytes)?;
@@ -103,7 +101,7 @@ fn read_lines(
     requires slots { heading.now.slots ≤ MOST_ENTRIES }
     ensures lines { MatchResult result
         (λ draft. counted kind (heading_view heading.now) (length (lines_of lines.now)) (writes_in kind heading.now.slots 2 0 (take heading.now.lines (lines_of lines.now)))
-        ≡ Ok (record { slots = heading.now.slots; width = heading.now.width; writes = draft_of draft }))
+        ≡ Ok (record { slots = heading.now.slots; width = heading.now.width.bits; writes = draft_of draft }))
         (λ error. IsTextRefused error (counted kind (heading_view heading.now) (length (lines_of lines.now)) (writes_in kind heading.now.slots 2 0 (take heading.now.lines (lines_of lines.now))))) }
     ensures within { IfOk result (λ draft. AreWithin heading.now.slots draft.writes.items) }
     ensures few { IfOk result (λ draft. vec_len draft.writes ≤ heading.now.lines) }

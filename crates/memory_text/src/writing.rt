@@ -25,7 +25,7 @@ pub fn write_memory<K: Sink>(memory: &SlotMemory, out: &mut K) -> Result<(), Fai
     put_first_line(
         TextKind::Memory,
         slots.len(),
-        memory.width,
+        memory.width.bits,
         count,
         &mut pending,
         out,
@@ -43,7 +43,7 @@ pub fn write_plan<K: Sink>(plan: &SlotPlan, out: &mut K) -> Result<(), Failed>
     put_first_line(
         TextKind::Plan,
         plan.slots as usize,
-        plan.width,
+        plan.width.bits,
         writes.len(),
         &mut pending,
         out,

@@ -11,7 +11,7 @@ use Rattle.prefix_min.specs.declared.piece.Piece.{Piece}
 use Rattle.prefix_min.specs.declared.plan.Choice.{Choice}
 use Rattle.prefix_min.specs.declared.savings.Gain.{Gain}
 use Rattle.prefix_min.specs.declared.savings.LabelCost.{LabelCost}
-use Rattle.prefix_min.specs.Growth.{IsBuilt, IsBeside, IsHalf, IsPut, IsStretch, end_of, IsAbout}
+use Rattle.prefix_min.specs.Growth.{IsBuilt, IsBeside, IsHalf, IsPut, IsStretch, Done, done, end_of, IsAbout}
 use Rattle.prefix_min.specs.Costs.{least_cost}
 use Rattle.prefix_min.specs.Field.{no_piece}
 use Rattle.prefix_min.specs.Merging.{AreKept, IsJoined}
@@ -28,8 +28,8 @@ use Rattle.field_boxes.proofs.Powers.{double}
 use Rattle.prefix_min.proofs.Planned.{both-chosen}
 
 -- the part so far: within the part that is to be done, and it begins in the first piece
-pub record IsGrown (keeps : Bool) (weights : List ℕ) (pieces : List Piece) (bits low first : ℕ) (part : FieldPart) (before after : List LabelCost) (old new following : ℕ) (cs0 cs1 : List Choice) (al0 al1 : List ℕ) : Type 0 where
-  pub built : IsBuilt keeps weights pieces part.bits part.low before after old new following cs0 cs1 al0 al1
+pub record IsGrown (keeps : Bool) (weights : List ℕ) (pieces : List Piece) (bits low first : ℕ) (part : FieldPart) (old new : Done) (following : ℕ) : Type 0 where
+  pub built : IsBuilt keeps weights pieces part.bits part.low old new following
   pub less : part.bits ≤ bits
   pub aligned : part.low % 2 ^ part.bits ≡ 0
   pub from : low ≤ part.low
@@ -39,7 +39,7 @@ pub record IsGrown (keeps : Bool) (weights : List ℕ) (pieces : List Piece) (bi
 -- what a part saves
 kept-of : {keeps : Bool} {weights : List ℕ} {pieces : List Piece} {bits low : ℕ} {before after : List LabelCost} {old new following : ℕ} {cs0 cs1 : List Choice}
     {al0 al1 : List ℕ}
-    (b : IsBuilt keeps weights pieces bits low before after old new following cs0 cs1 al0 al1) → AreKept weights b.savings
+    (b : IsBuilt keeps weights pieces bits low (done before old cs0 al0) (done after new cs1 al1) following) → AreKept weights b.savings
 kept-of b = record { rise = b.rise; within = λ d h. b.within d (b.saves.lists d h); most = b.saves.most; above = b.above }
 
 -- the next piece is known from the last value that is done
@@ -66,8 +66,8 @@ module _ {keeps : Bool} {weights : List ℕ} {pieces : List Piece} {low first : 
     (fit : AreFit weights pieces) (next : IsNext pieces first low) (within : low + 2 ^ bits ≤ reach 0 pieces) (whole : low % 2 ^ bits ≡ 0)
     (ends : end_of pieces first + 1 < low + 2 ^ bits)
     (about : IsAbout (end_of pieces first) 0 bits (end_of pieces first + 1) part)
-    (put : IsPut keeps weights (get_or pieces first no_piece).label part before after old new was following cs0 cs1 al0 al1) where
-  pub grown-first : IsGrown keeps weights pieces bits low first part before after old new (first + 1) cs0 cs1 al0 al1
+    (put : IsPut keeps weights (get_or pieces first no_piece).label part (done before old cs0 al0) (done after new cs1 al1) was following) where
+  pub grown-first : IsGrown keeps weights pieces bits low first part (done before old cs0 al0) (done after new cs1 al1) (first + 1)
   grown-first =
       let inside = part-inside fit bits next within in
       let hi = end_of pieces first in
@@ -87,14 +87,14 @@ module _ {keeps : Bool} {weights : List ℕ} {pieces : List Piece} {low first : 
 
 module _ {keeps : Bool} {weights : List ℕ} {pieces : List Piece} {bits low first : ℕ} {part : FieldPart} {before mid : List LabelCost} {c0 c1 next1 : ℕ} {cs0 cs1 : List Choice}
     {al0 al1 : List ℕ}
-    (g : IsGrown keeps weights pieces bits low first part before mid c0 c1 next1 cs0 cs1 al0 al1) where
+    (g : IsGrown keeps weights pieces bits low first part (done before c0 cs0 al0) (done mid c1 cs1 al1) next1) where
   -- the last part is the whole
-  pub grown-last : bits ≤ part.bits → IsBuilt keeps weights pieces bits low before mid c0 c1 next1 cs0 cs1 al0 al1
+  pub grown-last : bits ≤ part.bits → IsBuilt keeps weights pieces bits low (done before c0 cs0 al0) (done mid c1 cs1 al1) next1
   grown-last ge =
       let e : part.bits ≡ bits = omega (arith, g.less, ge) in
       let l : part.low ≡ low = omega (arith, g.from, g.to, ap (λ k. 2 ^ k) e) in
-      subst (λ v. IsBuilt keeps weights pieces bits v before mid c0 c1 next1 cs0 cs1 al0 al1) l
-      (subst (λ k. IsBuilt keeps weights pieces k part.low before mid c0 c1 next1 cs0 cs1 al0 al1) e g.built)
+      subst (λ v. IsBuilt keeps weights pieces bits v (done before c0 cs0 al0) (done mid c1 cs1 al1) next1) l
+      (subst (λ k. IsBuilt keeps weights pieces k part.low (done before c0 cs0 al0) (done mid c1 cs1 al1) next1) e g.built)
 
   -- what is done so far costs no more than its values weigh
   pub grown-light : c0 ≤ weight_below weights 0 pieces low → c1 ≤ weight_below weights 0 pieces (part.low + 2 ^ part.bits)
@@ -111,7 +111,7 @@ record IsOther (keeps : Bool) (weights : List ℕ) (pieces : List Piece) (about 
   both : (top : Gain) (sums new : List LabelCost) (cs3 : List Choice) (al3 : List ℕ) → IsGain weights xs ys top.gain top.best → AreSums xs ys sums →
       new ≡ before ++ lowered top.gain sums →
       (IsTrue keeps → al3 ≡ al2 ++ more_labels top sums) → (IsTrue keeps → IsTopped top about.low about.bits (length cs0) (length al2) (length al3) cs2 cs3) →
-      IsBuilt keeps weights pieces about.bits about.low before new c0 (c2 - top.gain) next2 cs0 cs3 al0 al3
+      IsBuilt keeps weights pieces about.bits about.low (done before c0 cs0 al0) (done new (c2 - top.gain) cs3 al3) next2
 
 -- what two parts save, one behind the other
 pub record AreReady (weights : List ℕ) (after : List LabelCost) (s m : ℕ) : Type 0 where
@@ -124,7 +124,7 @@ pub record AreReady (weights : List ℕ) (after : List LabelCost) (s m : ℕ) : 
 module _ {keeps : Bool} {weights : List ℕ} {pieces : List Piece} {bits low first : ℕ} {part : FieldPart} {before mid : List LabelCost} {c0 c1 next1 : ℕ} {cs0 cs1 : List Choice}
     {al0 al1 : List ℕ}
     (fit : AreFit weights pieces) (next : IsNext pieces first low) (within : low + 2 ^ bits ≤ reach 0 pieces) (whole : low % 2 ^ bits ≡ 0)
-    (g : IsGrown keeps weights pieces bits low first part before mid c0 c1 next1 cs0 cs1 al0 al1) where
+    (g : IsGrown keeps weights pieces bits low first part (done before c0 cs0 al0) (done mid c1 cs1 al1) next1) where
   module _ {about : FieldPart} (lt : part.bits < bits) (wide : about.bits ≡ part.bits + 1) (is : about.low ≡ part.low - part.low % 2 ^ (part.bits + 1)) where
     size : about.bits ≡ suc part.bits
     size = omega (arith, wide)
@@ -150,9 +150,9 @@ module _ {keeps : Bool} {weights : List ℕ} {pieces : List Piece} {bits low fir
     ]
 
     module _ {after : List LabelCost} {c2 next2 s m : ℕ} {cs2 : List Choice} {al2 : List ℕ}
-        (b : IsBeside keeps weights pieces first part about mid after c1 c2 next1 next2 cs1 cs2 al1 al2)
+        (b : IsBeside keeps weights pieces first part about (done mid c1 cs1 al1) (done after c2 cs2 al2) next1 next2)
         (ls : s ≡ length before) (lm : m ≡ length mid) where
-      above : about.low ≡ part.low → IsBuilt keeps weights pieces part.bits (part.low + 2 ^ part.bits) mid after c1 c2 next2 cs1 cs2 al1 al2 →
+      above : about.low ≡ part.low → IsBuilt keeps weights pieces part.bits (part.low + 2 ^ part.bits) (done mid c1 cs1 al1) (done after c2 cs2 al2) next2 →
           IsOther keeps weights pieces about g.built.savings before mid after c0 c2 next2 cs0 cs2 al0 al2
       above same hi = record {
         ys = hi.savings;
@@ -161,14 +161,14 @@ module _ {keeps : Bool} {weights : List ℕ} {pieces : List Piece} {bits low fir
         room = room-built fit size refl g.built hi;
         fits = λ top sums i t. omega (arith, halves-row fit size refl g.built hi top i t, g.built.cost, hi.cost);
         both = λ top sums new cs3 al3 i t put put_also put_choices.
-            subst (λ v. IsBuilt keeps weights pieces about.bits v before new c0 (c2 - top.gain) next2 cs0 cs3 al0 al3) (sym same)
+            subst (λ v. IsBuilt keeps weights pieces about.bits v (done before c0 cs0 al0) (done new (c2 - top.gain) cs3 al3) next2) (sym same)
             (halves-built fit size refl g.built hi top i t
             (both-chosen g.built.chosen hi.chosen about.bits part.low g.built.node hi.node size (inl (refl, refl)) (λ d. refl)) put
             (omega (arith, g.built.cost, hi.cost)) put_also
             (λ yes. subst (λ v. IsTopped top v about.bits (length cs0) (length al2) (length al3) cs2 cs3) same (put_choices yes)));
       }
 
-      below : about.low + 2 ^ part.bits ≡ part.low → IsBuilt keeps weights pieces part.bits about.low mid after c1 c2 first cs1 cs2 al1 al2 → next2 ≡ next1 →
+      below : about.low + 2 ^ part.bits ≡ part.low → IsBuilt keeps weights pieces part.bits about.low (done mid c1 cs1 al1) (done after c2 cs2 al2) first → next2 ≡ next1 →
           IsOther keeps weights pieces about g.built.savings before mid after c0 c2 next2 cs0 cs2 al0 al2
       below half lo stays = record {
         ys = lo.savings;
@@ -179,7 +179,7 @@ module _ {keeps : Bool} {weights : List ℕ} {pieces : List Piece} {bits low fir
         both = λ top sums new cs3 al3 i t put put_also put_choices.
             let turned : (d : ℕ) → least_cost (costs_of lo.node) d + least_cost (costs_of g.built.node) d ≡ least_cost (costs_of g.built.node) d + least_cost
             (costs_of lo.node) d = λ d. omega arith in
-            subst (λ k. IsBuilt keeps weights pieces about.bits about.low before new c0 (c2 - top.gain) k cs0 cs3 al0 al3) (sym stays)
+            subst (λ k. IsBuilt keeps weights pieces about.bits about.low (done before c0 cs0 al0) (done new (c2 - top.gain) cs3 al3) k) (sym stays)
             (halves-built fit size (sym half) lo g.built top (gain-turned i) (sums-turned t)
             (both-chosen g.built.chosen lo.chosen about.bits about.low lo.node g.built.node size (inr (sym half, refl)) turned) put
             (omega (arith, g.built.cost, lo.cost)) put_also put_choices);
@@ -213,7 +213,7 @@ module _ {keeps : Bool} {weights : List ℕ} {pieces : List Piece} {bits low fir
 
         pub grown-both : {cs3 : List Choice} {below also end : ℕ} → below ≡ length cs0 → also ≡ length al2 → end ≡ length al3 →
             (IsTrue keeps → IsTopped top about.low about.bits below also end cs2 cs3) →
-            IsGrown keeps weights pieces bits low first about before new c0 (c2 - top.gain) next2 cs0 cs3 al0 al3
+            IsGrown keeps weights pieces bits low first about (done before c0 cs0 al0) (done new (c2 - top.gain) cs3 al3) next2
         grown-both {cs3 = cs3} {below = below} {also = also} {end = end} p q r put = record {
           built = other.both top j.sums new cs3 al3 gained summed
               (j.savings ∙ ap (λ zs. zs ++ lowered top.gain j.sums) (front-is before mid after g.built.savings other.ys g.built.pushed other.pushed ls lm))
@@ -233,7 +233,7 @@ module _ {keeps : Bool} {weights : List ℕ} {pieces : List Piece} {bits low fir
       part.bits < wide.bits →
       IsStretch weights pieces (drop s mid) label part bits next1 wide → IsNext pieces next2 (wide.low + 2 ^ wide.bits) → below ≡ length cs0 →
       also ≡ length al1 →
-      (IsTrue keeps → IsTopped (record { gain = slice_index weights label; best = label }) wide.low wide.bits below also also cs1 cs2) → IsGrown keeps weights pieces bits low first wide before mid c0 c1 next2 cs0 cs2 al0 al1
+      (IsTrue keeps → IsTopped (record { gain = slice_index weights label; best = label }) wide.low wide.bits below also also cs1 cs2) → IsGrown keeps weights pieces bits low first wide (done before c0 cs0 al0) (done mid c1 cs2 al1) next2
   grown-wide {wide = wide} {label = label} {below = below} {also = also} {cs2 = cs2} ls lab lt st then p q put =
       let built = g.built in
       let about = st.about in
@@ -288,8 +288,8 @@ module _ {keeps : Bool} {weights : List ℕ} {pieces : List Piece} {bits low fir
 pub below-built : {keeps : Bool} {weights : List ℕ} {pieces : List Piece} {first top : ℕ} {part : FieldPart} {before after : List LabelCost} {old new was following : ℕ}
     {cs0 cs1 : List Choice} {al0 al1 : List ℕ} (fit : AreFit weights pieces) →
     first < length pieces → IsNext pieces first part.low → part.low + 2 ^ part.bits ≡ top → top ≤ end_of pieces first → top ≤ reach 0 pieces →
-    IsPut keeps weights (get_or pieces first no_piece).label part before after old new was following cs0 cs1 al0 al1 →
-    IsBuilt keeps weights pieces part.bits part.low before after old new first cs0 cs1 al0 al1
+    IsPut keeps weights (get_or pieces first no_piece).label part (done before old cs0 al0) (done after new cs1 al1) was following →
+    IsBuilt keeps weights pieces part.bits part.low (done before old cs0 al0) (done after new cs1 al1) first
 below-built fit inside next is reached within put =
     constant-built fit next (omega (arith, is, within)) (omega (arith, is, reached)) put (still-next inside next (omega arith) (omega (arith, is, reached)))
 

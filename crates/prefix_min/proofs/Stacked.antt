@@ -8,7 +8,7 @@ use Rattle.prefix_min.specs.declared.piece.Piece.{Piece}
 use Rattle.prefix_min.specs.declared.savings.LabelCost.{LabelCost}
 use Rattle.prefix_min.specs.declared.plan.Choice.{Choice}
 use Rattle.prefix_min.specs.declared.savings.Gain.{Gain}
-use Rattle.prefix_min.specs.Growth.{IsBuilt, IsPut, end_of}
+use Rattle.prefix_min.specs.Growth.{IsBuilt, IsPut, done, end_of}
 use Rattle.prefix_min.specs.Field.{IsFull, IsFullLabel, IsWhole, SomeFull, no_piece}
 use Rattle.prefix_min.specs.Plan.{Bare, IsLaid, IsTopped, more_labels}
 use Rattle.prefix_min.specs.Costs.{Costs, Has, IsConstant, IsSplit, Lists, RisesFrom, without_row}
@@ -41,7 +41,7 @@ lowered-none weights c xs r a = record {
 module _ {keeps : Bool} {weights : List ℕ} {pieces : List Piece} {first : ℕ} {part : FieldPart} {before after : List LabelCost} {old new was following next2 : ℕ}
     {cs0 cs1 : List Choice} {al0 al1 : List ℕ} (fit : AreFit weights pieces)
     (next : IsNext pieces first part.low) (within : part.low + 2 ^ part.bits ≤ reach 0 pieces) (covered : part.low + 2 ^ part.bits ≤ end_of pieces first + 1)
-    (put : IsPut keeps weights (get_or pieces first no_piece).label part before after old new was following cs0 cs1 al0 al1)
+    (put : IsPut keeps weights (get_or pieces first no_piece).label part (done before old cs0 al0) (done after new cs1 al1) was following)
     (then : IsNext pieces next2 (part.low + 2 ^ part.bits)) where
   abbrev y : ℕ
   y = (get_or pieces first no_piece).label
@@ -49,7 +49,7 @@ module _ {keeps : Bool} {weights : List ℕ} {pieces : List Piece} {first : ℕ}
   constant : IsConstant weights (one_label weights y)
   constant = one-constant weights y (piece-place fit first (part-inside fit part.bits next within))
 
-  pub constant-built : IsBuilt keeps weights pieces part.bits part.low before after old new next2 cs0 cs1 al0 al1
+  pub constant-built : IsBuilt keeps weights pieces part.bits part.low (done before old cs0 al0) (done after new cs1 al1) next2
   constant-built =
       let gives = constant_gives fit part.bits next within covered in
       record {
@@ -72,7 +72,7 @@ module _ {keeps : Bool} {weights : List ℕ} {pieces : List Piece} {first : ℕ}
 module _ {keeps : Bool} {weights : List ℕ} {pieces : List Piece} {n bits low at : ℕ} {lo0 lo1 hi0 hi1 : List LabelCost} {c0 c1 d0 d1 next1 next2 : ℕ}
     {ls0 ls1 hs0 hs1 : List Choice} {ll0 ll1 hl0 hl1 : List ℕ}
     (fit : AreFit weights pieces) (size : bits ≡ suc n) (is : at ≡ low + 2 ^ n)
-    (lo : IsBuilt keeps weights pieces n low lo0 lo1 c0 c1 next1 ls0 ls1 ll0 ll1) (hi : IsBuilt keeps weights pieces n at hi0 hi1 d0 d1 next2 hs0 hs1 hl0 hl1) where
+    (lo : IsBuilt keeps weights pieces n low (done lo0 c0 ls0 ll0) (done lo1 c1 ls1 ll1) next1) (hi : IsBuilt keeps weights pieces n at (done hi0 d0 hs0 hl0) (done hi1 d1 hs1 hl1) next2) where
   abbrev lower : Costs
   lower = costs_of lo.node
 
@@ -117,7 +117,7 @@ module _ {keeps : Bool} {weights : List ℕ} {pieces : List Piece} {n bits low a
         AreBoth keeps weights (label_at pieces) bits low lo.node hi.node cs0 cs2 al0 al2 →
         new ≡ before ++ lowered top.gain sums → all ≡ old + lower.row + upper.row → (IsTrue keeps → al3 ≡ al2 ++ more_labels top sums) →
         (IsTrue keeps → IsTopped top low bits (length cs0) (length al2) (length al3) cs2 cs3) →
-        IsBuilt keeps weights pieces bits low before new old (all - top.gain) next2 cs0 cs3 al0 al3
+        IsBuilt keeps weights pieces bits low (done before old cs0 al0) (done new (all - top.gain) cs3 al3) next2
     halves-built both put cost put_also put_choices = record {
       node = Halves node_costs lo.node hi.node;
       savings = lowered top.gain sums;
@@ -168,8 +168,8 @@ pub record IsLeft (weights : List ℕ) (pieces : List Piece) (savings : List Lab
 -- the halves of the whole field
 module _ {keeps : Bool} {weights : List ℕ} {pieces : List Piece} {n bits at : ℕ} {before mid after : List LabelCost} {c0 c1 c2 next1 next2 s m : ℕ}
     {cs0 cs1 cs2 : List Choice} {al0 al1 al2 : List ℕ}
-    (fit : AreFit weights pieces) (size : bits ≡ suc n) (is : at ≡ 0 + 2 ^ n) (lo : IsBuilt keeps weights pieces n 0 before mid c0 c1 next1 cs0 cs1 al0 al1)
-    (hi : IsBuilt keeps weights pieces n at mid after c1 c2 next2 cs1 cs2 al1 al2)
+    (fit : AreFit weights pieces) (size : bits ≡ suc n) (is : at ≡ 0 + 2 ^ n) (lo : IsBuilt keeps weights pieces n 0 (done before c0 cs0 al0) (done mid c1 cs1 al1) next1)
+    (hi : IsBuilt keeps weights pieces n at (done mid c1 cs1 al1) (done after c2 cs2 al2) next2)
     (ls : s ≡ length before) (lm : m ≡ length mid) where
   places_of : (d : ℕ) → Lists lo.savings d ⊎ Lists hi.savings d → d < length weights
   places_of d (inl h) = lo.within d (lo.saves.lists d h)

@@ -1,14 +1,15 @@
 -- The parts of the field that are done, those that lie about one another, and how a part grows.
-use Rattle.std.specs.Prelude.{◌≡◌, ℕ, ◌+◌, ◌%◌, ◌^◌, ◌≤◌, Bool, ◌<◌, List, ◌++◌, length, slice_index_or, IsTrue, ◌⊎◌, [], ◌∷◌, slice_index}
+use Rattle.std.specs.Prelude.{◌≡◌, ℕ, ◌+◌, ◌%◌, ◌^◌, ◌≤◌, Bool, ◌<◌, List, ◌++◌, length, slice_index_or, IsTrue, ◌⊎◌, [], ◌∷◌, slice_index, Option}
 use Rattle.prefix_min.specs.declared.parts.FieldPart.{FieldPart}
 use Rattle.prefix_min.specs.declared.piece.Piece.{Piece}
 use Rattle.prefix_min.specs.declared.savings.LabelCost.{LabelCost}
+use Rattle.prefix_min.specs.declared.stack.Stack.{Stack}
 use Rattle.prefix_min.specs.Costs.{Has, RisesFrom}
 use Rattle.prefix_min.specs.declared.plan.Choice.{Choice}
 use Rattle.prefix_min.specs.Merging.{AreAbove}
 use Rattle.prefix_min.specs.Plan.{AreChosen, own_choice}
 use Rattle.prefix_min.specs.Pieces.{label_at, weight_below, IsNext, reach}
-use Rattle.prefix_min.specs.Savings.{AreSavings, alone, lowered}
+use Rattle.prefix_min.specs.Savings.{AreSavings, alone, lowered, with_one}
 use Rattle.prefix_min.specs.Trie.{Node, StandsFor, costs_of}
 use Rattle.prefix_min.specs.Field.{no_piece}
 
@@ -21,10 +22,27 @@ pub record IsAbout (low bits most limit : ℕ) (wide : FieldPart) : Type 0 where
   pub aligned : wide.low % 2 ^ wide.bits ≡ 0
   pub ends : wide.low + 2 ^ wide.bits ≤ limit
 
+-- what the parts that are done save and cost, and what they choose
+pub record Done : Type 0 where
+  pub savings : List LabelCost
+  pub cost : ℕ
+  pub choices : List Choice
+  pub also : List ℕ
+
+abbrev pub done : List LabelCost → ℕ → List Choice → List ℕ → Done
+done savings cost choices also = record { savings = savings; cost = cost; choices = choices; also = also }
+
+-- the same of a call's state
+abbrev pub done_of : Stack → Done
+done_of stack = done stack.savings.items stack.cost stack.choices.items stack.also.items
+
+-- with what is handed over behind what they save
+abbrev pub handed : Done → Option LabelCost → Done
+handed d one = done (with_one d.savings one) d.cost d.choices d.also
+
 -- the part of so many bits from low on is done: what it saves stands behind what was there before, and
 -- what it costs, at most the weights of its values, is added to the cost
-pub record IsBuilt (keeps : Bool) (weights : List ℕ) (pieces : List Piece) (bits low : ℕ) (before after : List LabelCost) (old new following : ℕ)
-    (choices_before choices_after : List Choice) (also_before also_after : List ℕ) : Type 0 where
+pub record IsBuilt (keeps : Bool) (weights : List ℕ) (pieces : List Piece) (bits low : ℕ) (old new : Done) (following : ℕ) : Type 0 where
   pub node : Node
   pub savings : List LabelCost
   pub stands : StandsFor weights (label_at pieces) bits low node
@@ -33,11 +51,11 @@ pub record IsBuilt (keeps : Bool) (weights : List ℕ) (pieces : List Piece) (bi
   pub above : AreAbove savings
   pub within : (d : ℕ) → Has (costs_of node).labels d → d < length weights
   pub from : (d : ℕ) → Has (costs_of node).labels d → (k : ℕ) × (k < length pieces) × ((slice_index_or pieces k (record { hi = 0; label = 0 })).label ≡ d)
-  pub pushed : after ≡ before ++ savings
-  pub cost : new ≡ old + (costs_of node).row
+  pub pushed : new.savings ≡ old.savings ++ savings
+  pub cost : new.cost ≡ old.cost + (costs_of node).row
   pub next : IsNext pieces following (low + 2 ^ bits)
   pub light : (costs_of node).row + weight_below weights 0 pieces low ≤ weight_below weights 0 pieces (low + 2 ^ bits)
-  pub chosen : AreChosen keeps weights (label_at pieces) bits low node choices_before choices_after also_before also_after
+  pub chosen : AreChosen keeps weights (label_at pieces) bits low node old.choices new.choices old.also new.also
 
 -- where the piece at the place ends
 abbrev pub end_of : List Piece → ℕ → ℕ
@@ -58,15 +76,15 @@ IsHalf pieces first part about =
     ⊎ ((about.low + 2 ^ part.bits ≡ part.low) × (first < length pieces) × IsNext pieces first about.low × (part.low ≤ end_of pieces first) × (part.low ≤ reach 0 pieces))
 
 -- the other half is done
-abbrev pub IsBeside : Bool → List ℕ → List Piece → ℕ → FieldPart → FieldPart → List LabelCost → List LabelCost → ℕ → ℕ → ℕ → ℕ → List Choice → List Choice → List ℕ → List ℕ → Type 0
-IsBeside keeps weights pieces first part about before after old new next following cs0 cs1 al0 al1 =
-    ((about.low ≡ part.low) × IsBuilt keeps weights pieces part.bits (part.low + 2 ^ part.bits) before after old new following cs0 cs1 al0 al1)
-    ⊎ ((about.low + 2 ^ part.bits ≡ part.low) × IsBuilt keeps weights pieces part.bits about.low before after old new first cs0 cs1 al0 al1 × (following ≡ next))
+abbrev pub IsBeside : Bool → List ℕ → List Piece → ℕ → FieldPart → FieldPart → Done → Done → ℕ → ℕ → Type 0
+IsBeside keeps weights pieces first part about old new next following =
+    ((about.low ≡ part.low) × IsBuilt keeps weights pieces part.bits (part.low + 2 ^ part.bits) old new following)
+    ⊎ ((about.low + 2 ^ part.bits ≡ part.low) × IsBuilt keeps weights pieces part.bits about.low old new first × (following ≡ next))
 
 -- a part of one label is done, and its choice put down where choices are kept
-pub record IsPut (keeps : Bool) (weights : List ℕ) (label : ℕ) (part : FieldPart) (before after : List LabelCost) (old new next following : ℕ) (cs0 cs1 : List Choice) (al0 al1 : List ℕ) : Type 0 where
-  pub savings : after ≡ before ++ lowered 0 (alone weights label)
-  pub cost : new ≡ old + slice_index weights label
+pub record IsPut (keeps : Bool) (weights : List ℕ) (label : ℕ) (part : FieldPart) (old new : Done) (next following : ℕ) : Type 0 where
+  pub savings : new.savings ≡ old.savings ++ lowered 0 (alone weights label)
+  pub cost : new.cost ≡ old.cost + slice_index weights label
   pub next_is : following ≡ next
-  pub choices : IsTrue keeps → cs1 ≡ cs0 ++ own_choice part.low part.bits label (length cs0) (length al0) (length al0) ∷ []
-  pub also : al1 ≡ al0
+  pub choices : IsTrue keeps → new.choices ≡ old.choices ++ own_choice part.low part.bits label (length old.choices) (length old.also) (length old.also) ∷ []
+  pub also : new.also ≡ old.also

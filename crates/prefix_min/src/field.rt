@@ -1,7 +1,6 @@
 //! What each part of the field costs and saves, from the parts in which a piece ends up.
 ghost use Rattle.std.specs.Prelude.{◌≡◌, ◌≤◌, ◌<◌, ◌+◌, ◌%◌, ◌^◌, ℕ, false, [], length, OnOk, IfOk, IfSome, IsSome, slice_index, drop};
-ghost use Rattle.prefix_min.specs.Growth.{IsBuilt, IsBeside, IsHalf, IsPut, IsStretch, end_of};
-ghost use Rattle.prefix_min.specs.Savings.{with_one};
+ghost use Rattle.prefix_min.specs.Growth.{IsBuilt, IsBeside, IsHalf, IsPut, IsStretch, done_of, end_of, handed};
 ghost use Rattle.prefix_min.specs.Pieces.{reach, AreFit, IsNext, weight_below};
 
 mod whole_field;
@@ -30,7 +29,7 @@ impl Field<'_> {
         requires aligned { low % 2 ^ bits ≡ 0 }
         requires within { low + 2 ^ bits ≤ reach 0 self.now.pieces.now }
         requires light { stack.old.cost ≤ weight_below self.now.weights.now 0 self.now.pieces.now low }
-        ensures { OnOk result (IsBuilt K.KEEPS self.now.weights.now self.now.pieces.now bits low stack.old.savings.items stack.new.savings.items stack.old.cost stack.new.cost stack.new.next stack.old.choices.items stack.new.choices.items stack.old.also.items stack.new.also.items) }
+        ensures { OnOk result (IsBuilt K.KEEPS self.now.weights.now self.now.pieces.now bits low (done_of stack.old) (done_of stack.new) stack.new.next) }
     {
         let one = self.apart::<K>(stack, bits, low)?;
         keep(&mut stack.savings, one)
@@ -52,7 +51,7 @@ impl Field<'_> {
         requires aligned { low % 2 ^ bits ≡ 0 }
         requires within { low + 2 ^ bits ≤ reach 0 self.now.pieces.now }
         requires light { stack.old.cost ≤ weight_below self.now.weights.now 0 self.now.pieces.now low }
-        ensures built { IfOk result (λ one. IsBuilt K.KEEPS self.now.weights.now self.now.pieces.now bits low stack.old.savings.items (with_one stack.new.savings.items one) stack.old.cost stack.new.cost stack.new.next stack.old.choices.items stack.new.choices.items stack.old.also.items stack.new.also.items) }
+        ensures built { IfOk result (λ one. IsBuilt K.KEEPS self.now.weights.now self.now.pieces.now bits low (done_of stack.old) (handed (done_of stack.new) one) stack.new.next) }
         ensures apart { IfOk result (λ one. IsSome one → stack.new.savings.items ≡ stack.old.savings.items) }
     {
         let first = stack.next;
@@ -79,7 +78,7 @@ impl Field<'_> {
         requires within { low + 2 ^ bits ≤ reach 0 self.now.pieces.now }
         requires light { stack.old.cost ≤ weight_below self.now.weights.now 0 self.now.pieces.now low }
         requires ends { end_of self.now.pieces.now stack.old.next + 1 < low + 2 ^ bits }
-        ensures { OnOk result (IsBuilt K.KEEPS self.now.weights.now self.now.pieces.now bits low stack.old.savings.items stack.new.savings.items stack.old.cost stack.new.cost stack.new.next stack.old.choices.items stack.new.choices.items stack.old.also.items stack.new.also.items) }
+        ensures { OnOk result (IsBuilt K.KEEPS self.now.weights.now self.now.pieces.now bits low (done_of stack.old) (done_of stack.new) stack.new.next) }
     {
         let first = stack.next;
         let piece = self.pieces[first];
@@ -141,7 +140,7 @@ impl Field<'_> {
         requires wide { part.bits < 32 }
         requires half { IsHalf self.now.pieces.now first part about }
         requires light { stack.old.cost ≤ weight_below self.now.weights.now 0 self.now.pieces.now (part.low + 2 ^ part.bits) }
-        ensures built { IfOk result (λ one. IsBeside K.KEEPS self.now.weights.now self.now.pieces.now first part about stack.old.savings.items (with_one stack.new.savings.items one) stack.old.cost stack.new.cost stack.old.next stack.new.next stack.old.choices.items stack.new.choices.items stack.old.also.items stack.new.also.items) }
+        ensures built { IfOk result (λ one. IsBeside K.KEEPS self.now.weights.now self.now.pieces.now first part about (done_of stack.old) (handed (done_of stack.new) one) stack.old.next stack.new.next) }
         ensures apart { IfOk result (λ one. IsSome one → stack.new.savings.items ≡ stack.old.savings.items) }
     {
         if about.low < part.low {
@@ -159,7 +158,7 @@ impl Field<'_> {
     fn one<K: Keeping>(&self, stack: &mut Stack, label: u32, part: FieldPart) -> Result<(), Memory>
         requires place { label < length self.now.weights.now }
         requires room { stack.old.cost + slice_index self.now.weights.now label < 2 ^ 128 }
-        ensures { OnOk result (IsPut K.KEEPS self.now.weights.now label part stack.old.savings.items stack.new.savings.items stack.old.cost stack.new.cost stack.old.next stack.new.next stack.old.choices.items stack.new.choices.items stack.old.also.items stack.new.also.items) }
+        ensures { OnOk result (IsPut K.KEEPS self.now.weights.now label part (done_of stack.old) (done_of stack.new) stack.old.next stack.new.next) }
     {
         let saving = self.lone::<K>(stack, label, part)?;
         keep(&mut stack.savings, saving)
@@ -175,7 +174,7 @@ impl Field<'_> {
     ) -> Result<Option<LabelCost>, Memory>
         requires place { label < length self.now.weights.now }
         requires room { stack.old.cost + slice_index self.now.weights.now label < 2 ^ 128 }
-        ensures put { IfOk result (λ one. IsPut K.KEEPS self.now.weights.now label part stack.old.savings.items (with_one stack.new.savings.items one) stack.old.cost stack.new.cost stack.old.next stack.new.next stack.old.choices.items stack.new.choices.items stack.old.also.items stack.new.also.items) }
+        ensures put { IfOk result (λ one. IsPut K.KEEPS self.now.weights.now label part (done_of stack.old) (handed (done_of stack.new) one) stack.old.next stack.new.next) }
         ensures apart { stack.new.savings.items ≡ stack.old.savings.items }
     {
         let weight = self.weights[label as usize];

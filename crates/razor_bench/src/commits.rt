@@ -17,7 +17,7 @@ use std::alloc::Global;
 use std::fs::Files;
 use std::time::CpuClock;
 use tcam_sim::Bank;
-use ternary_words::Table;
+use ternary_words::{Limit, SlotWidth, Table};
 
 /// What compiles the list at a commit.
 #[derive(Clone, Copy, Debug, PartialEq, Eq)]
@@ -31,7 +31,9 @@ pub enum Way {
 /// As many slots as the memory has.
 const SLOTS: u32 = 65_536;
 
-const SLOT: u16 = 144;
+const SLOT: SlotWidth = SlotWidth { bits: 144 };
+
+const LIMIT: Limit = Limit { count: 262_144 };
 
 const NAMES: [&str; 2] = ["accept", "deny"];
 
@@ -103,7 +105,7 @@ fn session<'a>(
     ensure!(slots <= MOST_ENTRIES, "too many slots");
     let bank = Bank::new(alloc, slots)?;
     let method = Method::Compiled(order);
-    Ok(Editor::new(alloc, list, method, SLOT, MOST_ENTRIES, bank))
+    Ok(Editor::new(alloc, list, method, SLOT, LIMIT, bank))
 }
 
 /// Commits the list.
@@ -174,7 +176,7 @@ fn compare(anew: &Table, kept: &Table) -> Result<()> {
 fn table_of(alloc: Global, rules: &[Rule], editor: &Editor<'_, Bank>) -> Result<Table>
     requires { All (IsNumberedBy editor.now.session.list.names) rules.now }
 {
-    compile(alloc, rules, editor.names(), MOST_ENTRIES, SLOT).map_err(|_refused| anyhow!(
+    compile(alloc, rules, editor.names(), LIMIT, SLOT).map_err(|_refused| anyhow!(
         "no table is composed"
     ))
 }
@@ -188,7 +190,7 @@ fn kept_table(
     requires { All (IsNumberedBy editor.now.session.list.names) rules.now }
 {
     compiler
-        .compile(rules, editor.names(), MOST_ENTRIES, SLOT)
+        .compile(rules, editor.names(), LIMIT, SLOT)
         .map_err(|_refused| anyhow!("no table is composed"))
 }
 

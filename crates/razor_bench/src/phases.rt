@@ -2,7 +2,7 @@
 ghost use Rattle.std.specs.Prelude.{◌≡◌, IfOk};
 ghost use Rattle.field_boxes.specs.Headline.Fields.{stated};
 ghost use Rattle.node_store.specs.Diagram.{level_of};
-ghost use Rattle.table_compose.specs.Plans.{ArePlansOf};
+ghost use Rattle.table_compose.specs.Plans.{ArePlansOf, IsMarked};
 
 use crate::input::{input, list_of};
 use anyhow::{Result, bail};
@@ -10,12 +10,13 @@ use fdd_build::build;
 use field_boxes::Rule;
 use node_store::{NodeId, Store, stated_order};
 use razor_base::limits::{MOST_ENTRIES, MOST_LIST_BYTES};
-use redundancy::{Removal, TightTable};
+use redundancy::Removal;
 use redundancy_laws::laws::orders;
 use std::alloc::Global;
 use std::fs::Files;
 use std::time::{CpuClock, Duration};
 use table_compose::{Plans, Row, cost};
+use ternary_words::Entry;
 
 /// Compiles the list on standard input so often, and prints for each step its result and its nanoseconds. A list that
 /// costs too much ends with its cost.
@@ -66,11 +67,11 @@ fn tight(rt: &(impl Print + CpuClock + AllocGlobal), store: &Store, root: NodeId
     requires { level_of store.now root.0 ≡ stated }
 {
     let start = rt.thread_cpu_time()?;
-    let mut plans = planned(rt.alloc(), store, root)?;
+    let plans = planned(rt.alloc(), store, root)?;
     tell_rows(rt, RowTally::of(&plans), start)?;
     let start = rt.thread_cpu_time()?;
-    let table = removed(rt.alloc(), store, &mut plans, root)?;
-    tell(rt, "entries", table.entries.len() as u128, start)
+    let entries = needed(rt.alloc(), store, &plans, root)?;
+    tell(rt, "entries", entries.len() as u128, start)
 }
 
 /// Prints what came of a step, and its nanoseconds.
@@ -93,29 +94,28 @@ fn tell_rows(rt: &(impl Print + CpuClock), tally: RowTally, start: Duration) -> 
 /// The cheapest prefix lists of the diagram's nodes.
 fn planned(alloc: Global, store: &Store, root: NodeId) -> Result<Plans>
     requires { level_of store.now root.0 ≡ stated }
-    ensures { IfOk result (ArePlansOf store.now) }
+    ensures plans { IfOk result (ArePlansOf store.now) }
+    ensures known { IfOk result (λ plans. IsMarked plans.known.items root.0) }
 {
     let mut plans = Plans::new(alloc);
-    if plans
-        .learn(alloc, store, &stated_order(), root, MOST_ENTRIES)
-        .is_err()
-    {
-        bail!("no prefix lists are found");
+    match plans.learn(alloc, store, &stated_order(), root, MOST_ENTRIES) {
+        Ok(()) => Ok(plans),
+        Err(_) => bail!("no prefix lists are found"),
     }
-    Ok(plans)
 }
 
 /// What stays of the table that is composed of the lists.
-fn removed(alloc: Global, store: &Store, plans: &mut Plans, root: NodeId) -> Result<TightTable>
+fn needed(alloc: Global, store: &Store, plans: &Plans, root: NodeId) -> Result<Vec<Entry>>
     requires root { level_of store.now root.0 ≡ stated }
-    requires plans { ArePlansOf store.now plans.old }
+    requires plans { ArePlansOf store.now plans.now }
+    requires known { IsMarked plans.now.known.items root.0 }
 {
     orders();
     let order = stated_order();
     let mut removal = Removal::new(alloc);
-    match removal.compose_tight(alloc, store, plans, &order, root, MOST_ENTRIES) {
-        Ok(table) => Ok(table),
-        Err(_) => bail!("no table is composed"),
+    match removal.needed(alloc, store, plans, &order, root) {
+        Ok(entries) => Ok(entries),
+        Err(_) => bail!("memory was refused"),
     }
 }
 

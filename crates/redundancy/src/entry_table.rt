@@ -17,10 +17,10 @@ use crate::blocks::Blocks;
 use crate::blocks::lists::Lists;
 use crate::sets::Sets;
 use crate::sifting::Memo;
-use node_store::stated_order;
+use field_boxes::Order;
 use razor_base::Memory;
 use redundancy_laws::Context;
-use redundancy_laws::laws::{one_pass, orders, whole_table};
+use redundancy_laws::laws::{one_pass, whole_table};
 use std::alloc::Global;
 use ternary_words::Entry;
 
@@ -36,13 +36,11 @@ pub fn remove(alloc: Global, entries: Vec<Entry>) -> Result<Vec<Entry>, Memory>
     ensures alike { IfOk result (λ kept. AreAlike (answer kept.items) (answer entries.items)) }
     ensures tight { IfOk result (λ kept. IsTight answer kept.items) }
 {
-    orders();
-    remove_in(alloc, &stated_order(), entries)
+    remove_in(alloc, &Order::stated(), entries)
 }
 
 /// The same by blocks that read the fields in the order, which suits entries that were composed in it.
-pub fn remove_in(alloc: Global, order: &[u8], entries: Vec<Entry>) -> Result<Vec<Entry>, Memory>
-    requires order { IsOrder order.now }
+pub fn remove_in(alloc: Global, order: &Order, entries: Vec<Entry>) -> Result<Vec<Entry>, Memory>
     requires prefixes { ArePrefixes entries.items }
     ensures pass { IfOk result (λ kept. Keeps [] entries.items kept.items) }
     ensures part { IfOk result (λ kept. IsPart kept.items entries.items) }
@@ -54,7 +52,7 @@ pub fn remove_in(alloc: Global, order: &[u8], entries: Vec<Entry>) -> Result<Vec
     }
     whole_table();
     one_pass();
-    let flags = flags(alloc, order, entries.as_slice())?;
+    let flags = flags(alloc, order.fields(), entries.as_slice())?;
     let kept = flagged(alloc, entries.as_slice(), flags.as_slice())?;
     Ok(kept)
 }
@@ -70,7 +68,8 @@ fn flags(alloc: Global, order: &[u8], entries: &[Entry]) -> Result<Vec<bool>, Me
     let mut blocks = Blocks::new(alloc);
     let mut lists = Lists::new(alloc);
     let block = blocks.of(alloc, &mut sets, &mut lists, entries, order)?;
-    whole_flags(alloc, &mut sets, &blocks, block, order)
+    let mut memo = Memo::new(alloc);
+    flags_by(alloc, &mut sets, &mut memo, &blocks, block, order)
 }
 
 /// The entries that are flagged.
@@ -87,25 +86,8 @@ fn flagged(alloc: Global, entries: &[Entry], flags: &[bool]) -> Result<Vec<Entry
     Ok(kept)
 }
 
-/// A flag for each entry of the block of a whole table, which reads the fields in the order: whether it stays.
-pub(crate) fn whole_flags(
-    alloc: Global,
-    sets: &mut Sets,
-    blocks: &Blocks<'_>,
-    block: usize,
-    order: &[u8],
-) -> Result<Vec<bool>, Memory>
-    requires order { IsOrder order.now }
-    requires blocks { IsBlocks sets.old blocks.now }
-    requires block { block < length blocks.now.blocks.items }
-    requires level { (cover_at blocks.now.covers.items block).level.now ≡ order.now }
-    ensures { IfOk result (λ flags. AreWholeFlags order.now (rows_of blocks.now.blocks.items block) flags.items) }
-{
-    let mut memo = Memo::new(alloc);
-    flags_by(alloc, sets, &mut memo, blocks, block, order)
-}
-
-/// The same by what was worked out of the blocks before.
+/// A flag for each entry of the block of a whole table, which reads the fields in the order: whether it stays. What was
+/// worked out of the blocks before isn't worked out again.
 pub(crate) fn flags_by(
     alloc: Global,
     sets: &mut Sets,

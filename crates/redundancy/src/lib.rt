@@ -6,12 +6,13 @@
 //! ([`are_prefixes`]). [`remove_in`] does the same in an order of the fields: what stays doesn't depend on it, but what
 //! it costs does.
 //!
-//! [`compose_tight`] keeps the same of the table that a diagram composes, in any order of its fields. [`Removal`] does
-//! so for one diagram after another, and keeps what it works out of their nodes.
+//! [`Removal::needed`] keeps the same of the table that a diagram composes, in any order of its fields, by the plans of
+//! its nodes. It does so for one diagram after another, and keeps what it works out of their nodes.
 //!
 //! ```text
 //! let tight = remove(alloc, entries)?;
-//! let table = compose_tight(alloc, &store, &order, root, 262_144)?;
+//! plans.learn(alloc, &store, &order, root, 262_144)?;
+//! let needed = removal.needed(alloc, &store, &plans, &order, root)?;
 //! ```
 //!
 //! What is promised:
@@ -19,13 +20,10 @@
 //! - [`remove`] keeps exactly the entries that a pass from the last entry to the first keeps: part of the table in its
 //!   order, the same answer for every header, where no match and decision 0 are the same, and no entry that can be left
 //!   out alone. [`are_prefixes`] says exactly whether the words are prefixes in each field.
-//! - [`compose_tight`]: `composed` is the least cost of the diagram in the order, and the entries are what such a pass
-//!   keeps of a composed table of so many: every header has the diagram's answer, every word is a prefix in each field,
-//!   and no entry can be left out alone. It is refused exactly where the least cost is above the limit, and says that
-//!   cost, or where it runs out of memory.
-//! - [`Removal::compose_tight`] promises the same, one table after another. Of equally cheap composed tables it may
-//!   take another one than a fresh call. What it keeps stays true of the diagrams and their plans, unless it ran out of
-//!   memory.
+//! - [`Removal::needed`]: the entries are what such a pass keeps of a composed table, which has as many entries as the
+//!   diagram costs by its plans: every header has the diagram's answer, every word is a prefix in each field, and no
+//!   entry can be left out alone. It is refused only where it runs out of memory. What it keeps stays true of the
+//!   diagrams and their plans, unless it ran out of memory.
 //!
 //! Entries are seen field by field, as *blocks*: lists of entries over the fields of a level. A block is one entry with
 //! no field left, a *layer*, or two blocks in sequence. A layer has runs whose spans of the level's field rise and are
@@ -66,6 +64,5 @@ mod removal;
 mod sets;
 mod sifting;
 
-pub use diagrams::{TightTable, compose_tight};
 pub use entry_table::{are_prefixes, remove, remove_in};
 pub use removal::Removal;

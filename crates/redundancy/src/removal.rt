@@ -2,7 +2,7 @@
 
 use crate::blocks::Blocks;
 use crate::blocks::node_blocks::Known;
-use crate::diagrams::{TightTable, add_kept};
+use crate::diagrams::add_kept;
 use crate::entry_table::flags_by;
 use crate::sets::Sets;
 use crate::sifting::Memo;
@@ -11,7 +11,7 @@ use node_store::{NodeId, Store};
 use razor_base::Memory;
 use redundancy_laws::laws::one_pass;
 use std::alloc::Global;
-use table_compose::{ComposeError, Plans};
+use table_compose::Plans;
 use ternary_words::Entry;
 
 /// What removal worked out of the nodes of one store and their plans.
@@ -29,16 +29,15 @@ pub struct Removal<'a> {
 const OPEN: [Prefix; 5] = [Prefix { value: 0, len: 0 }; 5];
 
 impl<'a> Removal<'a> {
-    ghost use Rattle.std.specs.Prelude.{◌≡◌, ◌≤◌, ℕ, List, [], All, length, slice_index, IfErr, IfOk, OnOk};
+    ghost use Rattle.std.specs.Prelude.{◌≡◌, ◌≤◌, ℕ, List, [], All, length, slice_index, IfOk, OnOk};
     ghost use Rattle.std.specs.List.{AllZip};
     ghost use Rattle.field_boxes.specs.Headline.Fields.{IsHeader};
     ghost use Rattle.node_store.specs.Diagram.{Node, answer as diagram_answer, level_of};
     ghost use Rattle.ternary_words.specs.declared.entry.Entry as entries_of;
     ghost use Rattle.table_compose.specs.declared.diagram_plans.Plans as plans_of;
-    ghost use Rattle.table_compose.specs.Diagrams.{IsCostOf};
-    ghost use Rattle.table_compose.specs.Plans.{ArePlansOf};
+    ghost use Rattle.table_compose.specs.Plans.{ArePlansOf, IsMarked};
     ghost use Rattle.table_compose.specs.Rows.{rows_at};
-    ghost use Rattle.table_compose.specs.Composed.{HaveCosts, HaveLists, IsAnswer, IsPlaced, IsRefusal, boxes, open_all};
+    ghost use Rattle.table_compose.specs.Composed.{HaveLists, IsAnswer, IsPlaced, boxes, open_all};
     ghost use Rattle.redundancy_laws.specs.Built.{ArePrefixes};
     ghost use Rattle.field_boxes.specs.Alike.{IsTight};
     ghost use Rattle.ternary_words.specs.Entries.{answer};
@@ -48,7 +47,7 @@ impl<'a> Removal<'a> {
     ghost use Rattle.redundancy.specs.Blocks.{rows_of, StandsAt};
     ghost use Rattle.redundancy.specs.Kept.{AreKeptOf};
     ghost use Rattle.redundancy.specs.NodeBlocks.{HasPlans, node_rows};
-    ghost use Rattle.redundancy.specs.Removal.{IsRemovalOf, UnlessMemory};
+    ghost use Rattle.redundancy.specs.Removal.{IsRemovalOf};
 
     /// Nothing was worked out, which suits every store.
     pub fn new(alloc: Global) -> Removal<'a>
@@ -69,55 +68,13 @@ impl<'a> Removal<'a> {
         self.sets.count()
     }
 
-    /// The composed table of a diagram that reads the fields in the order, without its redundant entries: those that a
-    /// pass from the last entry to the first keeps. The table has as many entries as the field-by-field least cost;
-    /// where that is more than the limit, it is refused.
+    /// The entries that are needed of the composed table of a diagram whose plans are known, which reads the fields in the
+    /// order: those that a pass from the last entry to the first keeps. The table has as many entries as the diagram costs.
     ///
     /// No entry is written that doesn't stay: time and room go by the diagram, and by what changes from run to run of
     /// the nodes' prefix lists. What is worked out is kept, and isn't worked out again; where memory was refused, it
     /// may be of no more use.
-    pub fn compose_tight(
-        &mut self,
-        alloc: Global,
-        store: &Store,
-        plans: &mut Plans,
-        order: &'a [u8],
-        root: NodeId,
-        limit: u32,
-    ) -> Result<TightTable, ComposeError>
-        requires order { IsOrder order.now }
-        requires root { level_of store.now root.0 ≡ order.now }
-        requires plans { ArePlansOf store.now plans.old }
-        requires removal { IsRemovalOf store.now plans.old self.old }
-
-        // The whole table has as many entries as the least cost, which is within the limit.
-        ensures composed { IfOk result (λ table. IsCostOf store.now order.now root.0 table.composed) }
-        ensures within { IfOk result (λ table. table.composed ≤ limit) }
-        // What stays is what a pass keeps of it.
-        ensures pass { IfOk result (λ table. AreKeptOf store.now order.now root.0 table.composed table.entries.items) }
-        ensures few { IfOk result (λ table. length table.entries.items ≤ table.composed) }
-        ensures tight { IfOk result (λ table. IsTight answer table.entries.items) }
-        // Every header has the diagram's answer.
-        ensures answers { IfOk result (λ table. (header : List ℕ) → IsHeader header →
-            answer table.entries.items header ≡ diagram_answer store.now root.0 (picked order.now header)) }
-        // Each entry decides what the diagram answers on some header.
-        ensures decisions { IfOk result (λ table. All (λ e. IsAnswer store.now order.now root.0 e.decision) table.entries.items) }
-        ensures prefixes { IfOk result (λ table. ArePrefixes table.entries.items) }
-        ensures refusal { IfErr result (λ e. IsRefusal store.now order.now root.0 limit e) }
-        // What is kept stays true.
-        ensures plans { ArePlansOf store.now plans.new }
-        ensures removal { UnlessMemory result (IsRemovalOf store.now plans.new self.new) }
-    {
-        one_pass();
-        store.same_answers();
-        plans.learn(alloc, store, order, root, limit)?;
-        let composed = plans.cost(root) as u32;
-        let entries = self.entries(alloc, store, plans, order, root)?;
-        Ok(TightTable { composed, entries })
-    }
-
-    /// The entries that stay.
-    fn entries(
+    pub fn needed(
         &mut self,
         alloc: Global,
         store: &Store,
@@ -127,13 +84,25 @@ impl<'a> Removal<'a> {
     ) -> Result<Vec<Entry>, Memory>
         requires order { IsOrder order.now }
         requires root { level_of store.now root.0 ≡ order.now }
-        requires lists { HaveLists store.now (rows_at plans.now.lists.items) order.now root.0 }
-        requires costs { HaveCosts store.now (rows_at plans.now.lists.items) plans.now.costs.items order.now root.0 }
-        requires planned { HasPlans plans.now order.now root.0 }
+        requires plans { ArePlansOf store.now plans.now }
+        requires known { IsMarked plans.now.known.items root.0 }
         requires removal { IsRemovalOf store.now plans.now self.old }
-        ensures kept { IfOk result (λ kept. AreKeptOf store.now order.now root.0 (slice_index plans.now.costs.items root.0) kept.items) }
+
+        // They are what a pass keeps of the whole table, which has as many entries as the diagram costs.
+        ensures pass { IfOk result (λ kept. AreKeptOf store.now order.now root.0 (slice_index plans.now.costs.items root.0) kept.items) }
+        ensures few { IfOk result (λ kept. length kept.items ≤ slice_index plans.now.costs.items root.0) }
+        ensures tight { IfOk result (λ kept. IsTight answer kept.items) }
+        // Every header has the diagram's answer.
+        ensures answers { IfOk result (λ kept. (header : List ℕ) → IsHeader header →
+            answer kept.items header ≡ diagram_answer store.now root.0 (picked order.now header)) }
+        // Each entry decides what the diagram answers on some header.
+        ensures decisions { IfOk result (λ kept. All (λ e. IsAnswer store.now order.now root.0 e.decision) kept.items) }
+        ensures prefixes { IfOk result (λ kept. ArePrefixes kept.items) }
+        // What is kept stays true.
         ensures removal { OnOk result (IsRemovalOf store.now plans.now self.new) }
     {
+        one_pass();
+        store.same_answers();
         let flags = self.flags(alloc, store, plans, order, root)?;
         let mut kept = Vec::new(alloc);
         add_kept(store, plans, order, OPEN, root, flags.as_slice(), &mut kept)?;

@@ -1,6 +1,5 @@
 -- What the composed entries of a diagram are to the rules that it was made of.
 use Rattle.std.proofs.Common.{◌≡◌, ℕ, ◌≤◌, List, length, ap, sym, subst, ◌∙◌}
-use Rattle.std.specs.Prelude.{IfErr, IfOk, MatchResult, Result, Ok, Err}
 use Rattle.std.specs.List.{All, AllByRecursion}
 use Rattle.field_boxes.specs.Alike.{IsTight}
 use Rattle.field_boxes.specs.declared.rule.Rule as code
@@ -24,7 +23,6 @@ use Rattle.ternary_words.specs.Entries.{answer as number_answer}
 use Rattle.field_boxes.specs.Orders.{IsOrder, picked}
 use Rattle.node_store.proofs.Orders.{order_level, picked_values}
 use Rattle.rule_compilation.specs.Compiled.{IsRefusedIn}
-use Rattle.redundancy.specs.declared.diagrams.TightTable.{TightTable}
 use Rattle.redundancy.specs.Kept.{AreKeptOf}
 use Rattle.rule_compilation.specs.Entries.{AreTightOf}
 use Rattle.rule_compilation.specs.Pass.{IsDiagramOf}
@@ -73,22 +71,20 @@ pub refused : (order : List ℕ) (names : List (List ℕ)) (rules : List code.Ru
 refused order names rules nodes root limit Memory d h = tt
 refused order names rules nodes root limit (TooMany needed most) d h = (cost_of_rules order names rules nodes root needed d h.0, h.1, h.2)
 
--- what composing the diagram without redundant entries comes to, said of the rules
-pub compiled : (order : List ℕ) (names : List (List ℕ)) (rules : List code.Rule) (nodes : List Node) (root limit : ℕ) (result : Result TightTable ComposeError) → IsBuiltOf order names rules nodes root →
-    IfOk result (λ t. IsCostOf nodes order root t.composed) → IfOk result (λ t. AreKeptOf nodes order root t.composed t.entries.items) → IfOk result (λ t. length t.entries.items ≤ t.composed) → IfOk result (λ t. IsTight number_answer t.entries.items) →
-    IfOk result (λ t. (header : List ℕ) → IsHeader header → number_answer t.entries.items header ≡ answer nodes root (picked order header)) →
-    IfOk result (λ t. All (λ e. IsAnswer nodes order root e.decision) t.entries.items) → IfOk result (λ t. ArePrefixes t.entries.items) → IfErr result (λ e. IsRefusal nodes order root limit e) →
-    MatchResult result (λ t. AreTightOf order names (named_rules names rules) t.composed t.entries.items) (λ e. IsRefusedIn order (named_rules names rules) limit e)
-compiled order names rules nodes root limit (Ok t) d cost kept few tight answers decisions prefixes refusal = record {
-  least = cost_of_rules order names rules nodes root t.composed d cost;
+-- what is needed of the diagram's composed table, said of the rules
+pub compiled : (order : List ℕ) (names : List (List ℕ)) (rules : List code.Rule) (nodes : List Node) (root composed : ℕ) (kept : List Entry) → IsBuiltOf order names rules nodes root →
+    IsCostOf nodes order root composed → AreKeptOf nodes order root composed kept → length kept ≤ composed → IsTight number_answer kept →
+    ((header : List ℕ) → IsHeader header → number_answer kept header ≡ answer nodes root (picked order header)) →
+    All (λ e. IsAnswer nodes order root e.decision) kept → ArePrefixes kept → AreTightOf order names (named_rules names rules) composed kept
+compiled order names rules nodes root composed kept d cost are few tight answers decisions prefixes = record {
+  least = cost_of_rules order names rules nodes root composed d cost;
   few = few;
-  numbered = are_numbered order names rules nodes root t.entries.items d decisions;
-  answers = λ header is. answer_named names t.entries.items header ∙ ap (name_at names) (answers header is) ∙ by_header order names rules nodes root d header is;
+  numbered = are_numbered order names rules nodes root kept d decisions;
+  answers = λ header is. answer_named names kept header ∙ ap (name_at names) (answers header is) ∙ by_header order names rules nodes root d header is;
   prefixes = prefixes;
-  all = kept.all;
-  made = (nodes, root, diagram_of order names rules nodes root d, kept.composed);
-  many = kept.many;
-  pass = kept.pass;
+  all = are.all;
+  made = (nodes, root, diagram_of order names rules nodes root d, are.composed);
+  many = are.many;
+  pass = are.pass;
   tight = tight;
 }
-compiled order names rules nodes root limit (Err e) d cost kept few tight answers decisions prefixes refusal = refused order names rules nodes root limit e d refusal

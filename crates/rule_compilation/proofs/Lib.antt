@@ -3,4 +3,3 @@ pub mod Composed
 pub mod Removed
 pub mod Prefixed
 pub mod Whole
-pub mod Unless

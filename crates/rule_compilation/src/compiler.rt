@@ -9,7 +9,7 @@ use razor_base::Memory;
 use std::alloc::Global;
 use std::marker::Model;
 use table_compose::ComposeError;
-use ternary_words::Table;
+use ternary_words::{Limit, SlotWidth, Table};
 
 /// Compiles lists one after another, in one order of the fields, and keeps what it works out: a list that is much like
 /// an earlier one takes little time.
@@ -37,9 +37,7 @@ impl<'a> Model for Compiler<'a> {
 
 impl<'a> Compiler<'a> {
     ghost use Rattle.std.specs.Prelude.{◌≡◌, ◌≤◌, ℕ, All, IfOk, MatchResult};
-    ghost use Rattle.razor_base.specs.declared.limits.TheConstants.{MOST_ENTRIES};
     ghost use Rattle.field_boxes.specs.NamedRules.{IsNumberedBy, named_rules};
-    ghost use Rattle.ternary_words.specs.Limits.{IsSlotWidth};
     ghost use Rattle.ternary_words.specs.Views.{table_of};
     ghost use Rattle.table_compose.specs.Headline.LeastCost.{IsLeastCost};
     ghost use Rattle.rule_compilation.specs.Compiled.{IsCompiledIn, IsRefusedIn};
@@ -61,17 +59,15 @@ impl<'a> Compiler<'a> {
         &mut self,
         rules: &[Rule],
         names: &Decisions,
-        limit: u32,
-        slot: u16,
+        limit: Limit,
+        slot: SlotWidth,
     ) -> Result<Table, ComposeError>
         requires numbered { All (IsNumberedBy names.now) rules.now }
-        requires limit { limit ≤ MOST_ENTRIES }
-        requires slot { ∥ IsSlotWidth slot ∥₁ }
         ensures table { MatchResult result
-            (λ table. IsCompiledIn self.old (named_rules names.now rules.now) slot (table_of table))
-            (λ e. IsRefusedIn self.old (named_rules names.now rules.now) limit e) }
+            (λ table. IsCompiledIn self.old (named_rules names.now rules.now) slot.bits (table_of table))
+            (λ e. IsRefusedIn self.old (named_rules names.now rules.now) limit.count e) }
         ensures names { IfOk result (λ table. table.names ≡ names.now) }
-        ensures room { IfOk result (λ table. (needed : ℕ) → IsLeastCost self.old (named_rules names.now rules.now) needed → needed ≤ limit) }
+        ensures room { IfOk result (λ table. (needed : ℕ) → IsLeastCost self.old (named_rules names.now rules.now) needed → needed ≤ limit.count) }
         ensures order { self.new ≡ self.old }
     {
         let mut kept = self.taken()?;

@@ -4,12 +4,12 @@ use fdd_build::Builder;
 use field_boxes::{Decisions, Rule};
 use node_store::Store;
 use razor_base::Memory;
+use redundancy::Removal;
 use redundancy::laws::removal_lasts;
-use redundancy::{Removal, TightTable};
 use std::alloc::Global;
 use table_compose::laws::{distinct_names_tell_apart, one_least_cost, plans_last};
 use table_compose::{ComposeError, Plans};
-use ternary_words::Table;
+use ternary_words::{Entry, Limit, SlotWidth, Table};
 
 /// A store of diagrams that read the fields in one order, and what was worked out of its nodes.
 ///
@@ -24,13 +24,18 @@ pub(crate) struct Kept<'a> {
     first_count: usize,
 }
 
+/// The entries that are needed of a composed table, and how many the whole table has.
+#[derive(Drop)]
+struct TightTable {
+    composed: u32,
+    entries: Vec<Entry>,
+}
+
 impl<'a> Kept<'a> {
     ghost use Rattle.std.specs.Prelude.{◌≡◌, ◌≤◌, ℕ, List, All, IfOk, MatchResult};
-    ghost use Rattle.razor_base.specs.declared.limits.TheConstants.{MOST_ENTRIES};
     ghost use Rattle.field_boxes.specs.NamedRules.{IsNumberedBy, named_rules};
     ghost use Rattle.node_store.specs.Diagram.{Node};
     ghost use Rattle.node_store.specs.Levels.{IsLevel};
-    ghost use Rattle.ternary_words.specs.Limits.{IsSlotWidth};
     ghost use Rattle.ternary_words.specs.Views.{table_of};
     ghost use Rattle.fdd_build.specs.Builders.{IsBuilderOf};
     ghost use Rattle.field_boxes.specs.Orders.{IsOrder};
@@ -73,7 +78,7 @@ impl<'a> Kept<'a> {
         }
     }
 
-    /// The table of the list, for slots of `slot` trits (104, 144 or 288): see [`crate::compile_in`].
+    /// The table of the list, for slots of the width: see [`crate::compile_in`].
     ///
     /// Where memory was refused, what is kept is of no more use.
     pub(crate) fn compile(
@@ -82,23 +87,22 @@ impl<'a> Kept<'a> {
         order: &'a [u8],
         rules: &[Rule],
         names: &Decisions,
-        limit: u32,
-        slot: u16,
+        limit: Limit,
+        slot: SlotWidth,
     ) -> Result<Table, ComposeError>
         requires order { IsOrder order.now }
         requires kept { IsTrue order.now self.old }
         requires numbered { All (IsNumberedBy names.now) rules.now }
-        requires limit { limit ≤ MOST_ENTRIES }
-        requires slot { ∥ IsSlotWidth slot ∥₁ }
         ensures table { MatchResult result
-            (λ table. IsCompiledIn order.now (named_rules names.now rules.now) slot (table_of table))
-            (λ e. IsRefusedIn order.now (named_rules names.now rules.now) limit e) }
+            (λ table. IsCompiledIn order.now (named_rules names.now rules.now) slot.bits (table_of table))
+            (λ e. IsRefusedIn order.now (named_rules names.now rules.now) limit.count e) }
         ensures names { IfOk result (λ table. table.names ≡ names.now) }
-        ensures room { IfOk result (λ table. (needed : ℕ) → IsLeastCost order.now (named_rules names.now rules.now) needed → needed ≤ limit) }
+        ensures room { IfOk result (λ table. (needed : ℕ) → IsLeastCost order.now (named_rules names.now rules.now) needed → needed ≤ limit.count) }
         ensures kept { UnlessMemory result (IsTrue order.now self.new) }
     {
         one_least_cost();
         names.are_names();
+        let limit = limit.count;
         let TightTable { composed, entries } = self.tight_table(alloc, order, rules, names, limit)?;
         let names = names.copy(alloc)?;
         Ok(Table {
@@ -109,7 +113,8 @@ impl<'a> Kept<'a> {
         })
     }
 
-    /// What stays of the table that is composed in the order, which has as many entries as the least cost.
+    /// Builds the diagram of the list, plans its fields, and keeps what is needed of the table that is composed by the plans,
+    /// which has as many entries as the least cost.
     fn tight_table(
         &mut self,
         alloc: Global,
@@ -133,8 +138,12 @@ impl<'a> Kept<'a> {
         removal_lasts();
         let root = self.builder.build(alloc, &mut self.store, order, rules)?;
         self.store.same_answers();
-        self.removal
-            .compose_tight(alloc, &self.store, &mut self.plans, order, root, limit)
+        self.plans.learn(alloc, &self.store, order, root, limit)?;
+        let entries = self
+            .removal
+            .needed(alloc, &self.store, &self.plans, order, root)?;
+        let composed = self.plans.cost(root) as u32;
+        Ok(TightTable { composed, entries })
     }
 
     /// Whether there are more than twice as many nodes as after the first list.

@@ -1,8 +1,7 @@
 //! The table of an expansion, within a limit.
 ghost use Rattle.std.specs.Prelude.{◌≡◌, ◌≤◌, All, IfOk, MatchResult, length};
-ghost use Rattle.razor_base.specs.declared.limits.TheConstants.{MOST_RULES, MOST_ENTRIES};
+ghost use Rattle.razor_base.specs.declared.limits.TheConstants.{MOST_RULES};
 ghost use Rattle.field_boxes.specs.NamedRules.{IsNumberedBy, named_rules};
-ghost use Rattle.ternary_words.specs.Limits.{IsSlotWidth};
 ghost use Rattle.ternary_words.specs.Views.{table_of};
 ghost use Rattle.rule_expansion.specs.Expansion.{expanded_count};
 ghost use Rattle.rule_expansion.specs.declared.expanding.ExpandError.TheVariants.{Memory as RefusedMemory};
@@ -14,7 +13,7 @@ use crate::laws::{decided_words_are_entries, expansion_answers};
 use field_boxes::{Decisions, Rule};
 use razor_base::Memory;
 use std::alloc::{AllocError, Global};
-use ternary_words::Table;
+use ternary_words::{Limit, SlotWidth, Table};
 use thiserror::Error;
 
 /// Why rules were not expanded.
@@ -36,7 +35,7 @@ impl From<Memory> for ExpandError {
     }
 }
 
-/// The table with the entries of the rules, in order, for slots of `slot` trits.
+/// The table with the entries of the rules, in order, for slots of the width.
 ///
 /// The entries are counted before any is made, so a number above the limit takes no memory. Time and
 /// memory go by the number of entries.
@@ -44,19 +43,18 @@ pub fn expand(
     alloc: Global,
     rules: &[Rule],
     names: &Decisions,
-    limit: u32,
-    slot: u16,
+    limit: Limit,
+    slot: SlotWidth,
 ) -> Result<Table, ExpandError>
     requires few { length rules.now ≤ MOST_RULES }
     requires numbered { All (IsNumberedBy names.now) rules.now }
-    requires limit { limit ≤ MOST_ENTRIES }
-    requires slot { ∥ IsSlotWidth slot ∥₁ }
     ensures table { MatchResult result
-        (λ table. IsExpansion (named_rules names.now rules.now) slot (table_of table))
-        (λ e. IsRefused (named_rules names.now rules.now) limit e) }
+        (λ table. IsExpansion (named_rules names.now rules.now) slot.bits (table_of table))
+        (λ e. IsRefused (named_rules names.now rules.now) limit.count e) }
     ensures names { IfOk result (λ table. table.names ≡ names.now) }
-    ensures room { IfOk result (λ table. expanded_count (named_rules names.now rules.now) ≤ limit) }
+    ensures room { IfOk result (λ table. expanded_count (named_rules names.now rules.now) ≤ limit.count) }
 {
+    let limit = limit.count;
     let needed = entry_count(rules);
     if needed > u128::from(limit) {
         return Err(ExpandError::TooMany { needed, limit });

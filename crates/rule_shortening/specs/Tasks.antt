@@ -2,18 +2,15 @@
 use Rattle.std.specs.Prelude.{◌≡◌, ◌≤◌, ℕ, List, All, length}
 use Rattle.field_boxes.specs.NamedRules.{IsNumberedBy, named_rules}
 use Rattle.field_boxes.specs.declared.rule.Rule as rule
-use Rattle.razor_base.specs.declared.limits.TheConstants.{MOST_ENTRIES, MOST_RULES}
-use Rattle.ternary_words.specs.Limits.{IsSlotWidth}
+use Rattle.razor_base.specs.declared.limits.TheConstants.{MOST_RULES}
 use Rattle.ternary_words.specs.Views.{table_of}
 use Rattle.ternary_words.specs.declared.table.Table as table
 use Rattle.rule_shortening.specs.Shortened.{IsShortTable}
 
--- rules that are numbered by their names, a limit of entries, and a width of slots
-pub record IsTask (names : List (List ℕ)) (rules : List rule.Rule) (most width : ℕ) : Type 0 where
+-- few rules, which are numbered by their names
+pub record IsTask (names : List (List ℕ)) (rules : List rule.Rule) : Type 0 where
   pub few : length rules ≤ MOST_RULES
   pub numbered : All (IsNumberedBy names) rules
-  pub limit : most ≤ MOST_ENTRIES
-  pub slot : ∥ IsSlotWidth width ∥₁
 
 -- the table is a short one of the rules, with their names
 pub record IsTableFor (names : List (List ℕ)) (rules : List rule.Rule) (limit width : ℕ) (made : table.Table) : Type 0 where

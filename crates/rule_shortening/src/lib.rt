@@ -6,7 +6,8 @@
 //! is redundant, so that each entry is needed.
 //!
 //! ```text
-//! let table = shorten(alloc, &list.rules, &list.names, 262_144, 144)?;
+//! let (limit, slot) = (Limit { count: 262_144 }, SlotWidth { bits: 144 });
+//! let table = shorten(alloc, &list.rules, &list.names, limit, slot)?;
 //! ```
 //!
 //! What is promised, whatever the search finds:

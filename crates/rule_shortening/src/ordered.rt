@@ -2,9 +2,7 @@
 ghost use Rattle.std.specs.Prelude.{◌≡◌, ◌≤◌, ◌<◌, ℕ, List, All, IfOk, MatchResult, length};
 ghost use Rattle.field_boxes.specs.Headline.Classifier as classifiers;
 ghost use Rattle.field_boxes.specs.NamedRules.{IsNumberedBy, named_rules};
-ghost use Rattle.field_boxes.specs.Orders.{IsOrder};
-ghost use Rattle.razor_base.specs.declared.limits.TheConstants.{MOST_ENTRIES, MOST_RULES};
-ghost use Rattle.ternary_words.specs.Limits.{IsSlotWidth};
+ghost use Rattle.razor_base.specs.declared.limits.TheConstants.{MOST_RULES};
 ghost use Rattle.ternary_words.specs.Views.{table_of};
 ghost use Rattle.rule_compilation.specs.Compiled.{IsCompiledIn};
 ghost use Rattle.rule_shortening.specs.Shortened.{IsRefused, IsRefusedIn, IsShortTable, IsShortTableIn};
@@ -12,12 +10,12 @@ ghost use Rattle.table_compose.specs.Headline.LeastCost.{IsLeastCost};
 
 use crate::refusal::ShortenError;
 use crate::shortening::shorten;
-use field_boxes::{Decisions, Rule};
+use field_boxes::{Decisions, Order, Rule};
 use rule_compilation::compile_in;
 use std::alloc::Global;
 use table_compose::ComposeError;
 use table_compose::laws::one_least_cost;
-use ternary_words::Table;
+use ternary_words::{Limit, SlotWidth, Table};
 
 /// The short table of the rules as [`shorten`](crate::shorten) makes it, or the table that is composed in the order of the fields, without its
 /// redundant entries, where that is shorter. So it has at most as many entries as the rules cost field by field in the order.
@@ -25,26 +23,23 @@ use ternary_words::Table;
 /// It is refused only where the direct expansion and that cost are both above `limit`.
 pub fn shorten_in(
     alloc: Global,
-    order: &[u8],
+    order: &Order,
     rules: &[Rule],
     names: &Decisions,
-    limit: u32,
-    slot: u16,
+    limit: Limit,
+    slot: SlotWidth,
 ) -> Result<Table, ShortenError>
-    requires order { IsOrder order.now }
     requires few { length rules.now ≤ MOST_RULES }
     requires numbered { All (IsNumberedBy names.now) rules.now }
-    requires limit { limit ≤ MOST_ENTRIES }
-    requires slot { ∥ IsSlotWidth slot ∥₁ }
     ensures table { MatchResult result
-        (λ table. IsShortTableIn order.now (named_rules names.now rules.now) limit slot (table_of table))
-        (λ e. IsRefusedIn order.now (named_rules names.now rules.now) limit e) }
+        (λ table. IsShortTableIn order.now (named_rules names.now rules.now) limit.count slot.bits (table_of table))
+        (λ e. IsRefusedIn order.now (named_rules names.now rules.now) limit.count e) }
     ensures names { IfOk result (λ table. table.names ≡ names.now) }
 {
     let searched = shorten(alloc, rules, names, limit, slot);
     match compile_in(alloc, order, rules, names, limit, slot) {
-        Ok(composed) => beside(composed, limit, searched),
-        Err(ComposeError::TooMany { needed, .. }) => alone(needed, limit, searched),
+        Ok(composed) => beside(composed, limit.count, searched),
+        Err(ComposeError::TooMany { needed, .. }) => alone(needed, limit.count, searched),
         Err(ComposeError::Memory) => Err(ShortenError::Memory),
     }
 }

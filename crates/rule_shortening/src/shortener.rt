@@ -1,8 +1,7 @@
 //! A shortener of lists one after another.
 ghost use Rattle.std.specs.Prelude.{◌≡◌, ◌≤◌, All, IfOk, IfSome, MatchResult, length};
 ghost use Rattle.field_boxes.specs.NamedRules.{IsNumberedBy, named_rules};
-ghost use Rattle.razor_base.specs.declared.limits.TheConstants.{MOST_ENTRIES, MOST_RULES};
-ghost use Rattle.ternary_words.specs.Limits.{IsSlotWidth};
+ghost use Rattle.razor_base.specs.declared.limits.TheConstants.{MOST_RULES};
 ghost use Rattle.ternary_words.specs.Views.{table_of};
 ghost use Rattle.rule_shortening.specs.Drafts.{AreFor};
 ghost use Rattle.rule_shortening.specs.Shortened.{IsRefused, IsShortTable};
@@ -18,7 +17,7 @@ use crate::trimming::trim_for;
 use field_boxes::{Decisions, Rule};
 use razor_base::Memory;
 use std::alloc::Global;
-use ternary_words::{Entry, Table};
+use ternary_words::{Entry, Limit, SlotWidth, Table};
 
 /// Shortens lists one after another: a list that an edit changed gets the table of a list before, repaired, which differs
 /// from that one in few entries and takes little time. That is the table to which an update [`began`](Shortener::begin)
@@ -55,16 +54,14 @@ impl Shortener {
         &mut self,
         rules: &[Rule],
         names: &Decisions,
-        limit: u32,
-        slot: u16,
+        limit: Limit,
+        slot: SlotWidth,
     ) -> Result<Table, ShortenError>
         requires few { length rules.now ≤ MOST_RULES }
         requires numbered { All (IsNumberedBy names.now) rules.now }
-        requires limit { limit ≤ MOST_ENTRIES }
-        requires slot { ∥ IsSlotWidth slot ∥₁ }
         ensures table { MatchResult result
-            (λ table. IsShortTable (named_rules names.now rules.now) limit slot (table_of table))
-            (λ e. IsRefused (named_rules names.now rules.now) limit e) }
+            (λ table. IsShortTable (named_rules names.now rules.now) limit.count slot.bits (table_of table))
+            (λ e. IsRefused (named_rules names.now rules.now) limit.count e) }
         ensures names { IfOk result (λ table. table.names ≡ names.now) }
     {
         let task = Task {
@@ -118,8 +115,8 @@ impl Shortener {
 
     /// A table that is made anew, where that is due and makes it shorter than so many entries.
     fn rebuilt(&mut self, task: Task, count: usize) -> Option<Table>
-        requires { IsTask task.names.now task.rules.now task.limit task.slot }
-        ensures { IfSome result (IsTableFor task.entry.names.now task.entry.rules.now task.entry.limit task.entry.slot) }
+        requires { IsTask task.names.now task.rules.now }
+        ensures { IfSome result (IsTableFor task.entry.names.now task.entry.rules.now task.entry.limit.count task.entry.slot.bits) }
     {
         let below = self.due(task.rules, count)?;
         let Ok(table) = shorten(self.alloc, task.rules, task.names, task.limit, task.slot) else {
@@ -138,8 +135,8 @@ impl Shortener {
 
     /// The settled table, repaired; none where that isn't seen to be right, or above the limit.
     fn repaired(&self, task: Task) -> Result<Option<Table>, Memory>
-        requires { IsTask task.names.now task.rules.now task.limit task.slot }
-        ensures { IfOk result (λ made. IfSome made (IsTableFor task.entry.names.now task.entry.rules.now task.entry.limit task.entry.slot)) }
+        requires { IsTask task.names.now task.rules.now }
+        ensures { IfOk result (λ made. IfSome made (IsTableFor task.entry.names.now task.entry.rules.now task.entry.limit.count task.entry.slot.bits)) }
     {
         let Some(known) = &self.settled else {
             return Ok(None);
@@ -157,10 +154,10 @@ impl Shortener {
 
     /// The table that [`crate::shorten`] makes.
     fn anew(&mut self, task: Task) -> Result<Table, ShortenError>
-        requires { IsTask task.names.now task.rules.now task.limit task.slot }
+        requires { IsTask task.names.now task.rules.now }
         ensures { MatchResult result
-            (IsTableFor task.entry.names.now task.entry.rules.now task.entry.limit task.entry.slot)
-            (IsRefused (named_rules task.entry.names.now task.entry.rules.now) task.entry.limit) }
+            (IsTableFor task.entry.names.now task.entry.rules.now task.entry.limit.count task.entry.slot.bits)
+            (IsRefused (named_rules task.entry.names.now task.entry.rules.now) task.entry.limit.count) }
     {
         let table = shorten(self.alloc, task.rules, task.names, task.limit, task.slot)?;
         self.made = Some(Known::new(self.alloc, task.rules, &table.entries)?);
@@ -170,14 +167,14 @@ impl Shortener {
 
 /// The table that is known, repaired for the list; none where that isn't seen to be right, or above the limit.
 fn mended_table(alloc: Global, known: &Known, task: Task) -> Result<Option<Table>, Memory>
-    requires { IsTask task.names.now task.rules.now task.limit task.slot }
-    ensures { IfOk result (λ made. IfSome made (IsTableFor task.entry.names.now task.entry.rules.now task.entry.limit task.entry.slot)) }
+    requires { IsTask task.names.now task.rules.now }
+    ensures { IfOk result (λ made. IfSome made (IsTableFor task.entry.names.now task.entry.rules.now task.entry.limit.count task.entry.slot.bits)) }
 {
     let Some(mended) = mended(alloc, known, task.rules, task.names)? else {
         return Ok(None);
     };
     let entries = trim_for(alloc, task.rules, task.names, mended)?;
-    if entries.len() > task.limit as usize {
+    if entries.len() > task.limit.count as usize {
         return Ok(None);
     }
     Ok(Some(table_for(alloc, task.rules, task.names, task.slot, entries)?))

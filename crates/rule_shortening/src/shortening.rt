@@ -3,7 +3,6 @@ ghost use Rattle.std.specs.Prelude.{◌≡◌, ◌≤◌, ◌<◌, All, IfOk, Ma
 ghost use Rattle.field_boxes.specs.NamedRules.{IsNumberedBy, named_rules};
 ghost use Rattle.field_boxes.specs.Rules.{rule_of};
 ghost use Rattle.razor_base.specs.declared.limits.TheConstants.{MOST_ENTRIES, MOST_RULES};
-ghost use Rattle.ternary_words.specs.Limits.{IsSlotWidth};
 ghost use Rattle.ternary_words.specs.Views.{table_of};
 ghost use Rattle.rule_expansion.specs.Expansion.{expanded_count};
 ghost use Rattle.rule_shortening.specs.Drafts.{AreFor, AreShortFor};
@@ -19,12 +18,12 @@ use razor_base::Memory;
 use rule_expansion::entry_count;
 use rule_expansion::laws::{decided_words_are_entries, expansion_answers, names_count_alike};
 use std::alloc::Global;
-use ternary_words::{Entry, Table};
+use ternary_words::{Entry, Limit, SlotWidth, Table};
 
-/// The short table of the rules, which decides every header as they do, for slots of `slot` trits (104, 144 or 288).
+/// The short table of the rules, which decides every header as they do, for slots of the width.
 ///
 /// Its words are prefixes in each field, and of its entries none can go. There are at most as many as the direct expansion
-/// has, mostly far fewer, and at most `limit`, which is at most 262,144; `composed` is their number. A header that no rule matches is
+/// has, mostly far fewer, and at most `limit`; `composed` is their number. A header that no rule matches is
 /// matched by no entry, or by one that decides nothing, written `miss`.
 ///
 /// It is refused only where the direct expansion has more than `limit` entries. The same rules give the same table. Time goes by
@@ -33,20 +32,19 @@ pub fn shorten(
     alloc: Global,
     rules: &[Rule],
     names: &Decisions,
-    limit: u32,
-    slot: u16,
+    limit: Limit,
+    slot: SlotWidth,
 ) -> Result<Table, ShortenError>
     requires few { length rules.now ≤ MOST_RULES }
     requires numbered { All (IsNumberedBy names.now) rules.now }
-    requires limit { limit ≤ MOST_ENTRIES }
-    requires slot { ∥ IsSlotWidth slot ∥₁ }
     ensures table { MatchResult result
-        (λ table. IsShortTable (named_rules names.now rules.now) limit slot (table_of table))
-        (λ e. IsRefused (named_rules names.now rules.now) limit e) }
+        (λ table. IsShortTable (named_rules names.now rules.now) limit.count slot.bits (table_of table))
+        (λ e. IsRefused (named_rules names.now rules.now) limit.count e) }
     ensures names { IfOk result (λ table. table.names ≡ names.now) }
 {
     names_count_alike();
     decided_words_are_entries();
+    let limit = limit.count;
     let needed = entry_count(rules);
     let Some(entries) = short_entries(alloc, rules, names, limit)? else {
         return Err(ShortenError::TooMany { needed, limit });
@@ -107,14 +105,13 @@ pub(crate) fn table_for(
     alloc: Global,
     rules: &[Rule],
     names: &Decisions,
-    slot: u16,
+    slot: SlotWidth,
     entries: Vec<Entry>,
 ) -> Result<Table, Memory>
     requires few { length entries.items ≤ MOST_ENTRIES }
     requires numbered { All (IsNumberedBy names.now) rules.now }
-    requires slot { ∥ IsSlotWidth slot ∥₁ }
     requires entries { AreShortFor (length names.now) rules.now entries.items }
-    ensures table { IfOk result (λ table. IsShortTable (named_rules names.now rules.now) (length entries.items) slot (table_of table)) }
+    ensures table { IfOk result (λ table. IsShortTable (named_rules names.now rules.now) (length entries.items) slot.bits (table_of table)) }
     ensures entries { IfOk result (λ table. table.entries.items ≡ entries.items) }
     ensures names { IfOk result (λ table. table.names ≡ names.now) }
 {

@@ -17,7 +17,7 @@ abbrev pub entry_of : List (List ℕ) → code_entry.Entry → Entry
 entry_of names e = record { word = word_of e.word; decision = name_at names e.decision }
 
 abbrev pub table_of : code_table.Table → Table
-table_of t = record { slot = t.slot; composed = t.composed; entries = map (entry_of t.names) t.entries.items }
+table_of t = record { slot = t.slot.bits; composed = t.composed; entries = map (entry_of t.names) t.entries.items }
 
 -- the place of the first entry whose word matches the header
 abbrev pub first_match : List ℕ → List code_entry.Entry → Option ℕ

@@ -13,13 +13,17 @@
 //! - [`look`] gives the place of the first entry that matches, and none exactly where none does; what it decides is the
 //!   table's answer ([`laws`]).
 //! - [`write_table`] writes exactly the text of its table, or after a failed write a front of it.
+//! - [`SlotWidth::of`] and [`Limit::of`] give a width or a limit exactly where it is one.
 //! - [`Table::copy`] has the same entries, with the same names under the same numbers.
+//! - [`text::read_table`] gives exactly the table that a text spells, or its first bad line.
 //!
 //! | Room | Holds |
 //! |---|---|
 //! | `word`, `masks`, `parts`, `key` | ternary words as values and masks, their prefixes, and the bits of a header |
 //! | `entry`, `table`, `lookup` | entries, tables, and the first match |
-//! | `write`, `hexadecimal` | the text of a table |
+//! | `slot_width`, `limit` | the width of a slot, and how many entries a table may have |
+//! | `write`, `hexadecimal` | the text of a table, written |
+//! | `text` | the text of a table, read |
 //! | `laws` | laws of the definitions |
 #![tactic(auto)]
 
@@ -27,15 +31,20 @@ mod entry;
 mod hexadecimal;
 mod key;
 pub mod laws;
+mod limit;
 mod lookup;
 mod masks;
 mod parts;
+mod slot_width;
 mod table;
+pub mod text;
 mod word;
 mod write;
 
 pub use entry::Entry;
+pub use limit::Limit;
 pub use lookup::look;
+pub use slot_width::SlotWidth;
 pub use table::Table;
 pub use word::Word;
 pub use write::{put_word, write_table};

@@ -1,24 +1,24 @@
 //! Tables: entries, the width of their slots, and the names of their decisions.
 ghost use Rattle.std.specs.Prelude.{◌≤◌, length, vec_len};
 ghost use Rattle.razor_base.specs.declared.limits.TheConstants.{MOST_ENTRIES};
-ghost use Rattle.ternary_words.specs.Limits.{IsSlotWidth, AreNumbered};
+ghost use Rattle.ternary_words.specs.Limits.{AreNumbered};
 
 use crate::entry::Entry;
+use crate::slot_width::SlotWidth;
 use field_boxes::Decisions;
 use razor_base::Memory;
 use std::alloc::Global;
 
-/// A list of entries for slots of `slot` trits (104, 144 or 288), with the names of their decisions.
+/// A list of entries for slots of the width, with the names of their decisions.
 ///
 /// `composed` is the number of entries before redundant ones were removed. Both it and the number of
 /// entries are at most 262,144.
 #[derive(Drop)]
 pub struct Table {
-    pub slot: u16,
+    pub slot: SlotWidth,
     pub composed: u32,
     pub entries: Vec<Entry>,
     pub names: Decisions,
-    pub ghost width: { ∥ IsSlotWidth slot ∥₁ },
     pub ghost counted: { composed ≤ MOST_ENTRIES },
     pub ghost few: { vec_len entries ≤ MOST_ENTRIES },
     pub ghost numbered: { AreNumbered (length names) entries.items },

@@ -35,7 +35,7 @@ fn put_first_line<K: Sink>(table: &Table, pending: &mut Pending, out: &mut K) ->
         out,
         &[
             Part::Text("table 2 slot "),
-            Part::Number(u128::from(table.slot)),
+            Part::Number(u128::from(table.slot.bits)),
             Part::Text(" composed "),
             Part::Number(u128::from(table.composed)),
             Part::Text(" entries "),

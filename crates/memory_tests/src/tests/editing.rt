@@ -7,6 +7,7 @@ use razor_base::MemSink;
 use std::process::Abort;
 use std::test::Fail;
 use tcam_sim::FaultyBank;
+use ternary_words::{Limit, SlotWidth};
 
 /// A session over the list and an empty device, whose writes of these numbers fail. Its tables are compiled in the order.
 pub(super) fn editor<'a, R: Abort + AllocGlobal>(
@@ -17,11 +18,12 @@ pub(super) fn editor<'a, R: Abort + AllocGlobal>(
     failing: [u64; 4],
     list: &str,
 ) -> Result<Editor<'a, FaultyBank>, Fail> {
-    assert!(rt; limit <= 262_144);
+    let limit = Limit::of(limit).ok_or("no limit")?;
     let list = read_list(rt.alloc(), list.as_bytes())?;
     let bank = bank(rt, rt.alloc(), slots, failing)?;
     let method = Method::Compiled(order);
-    Ok(Editor::new(rt.alloc(), list, method, 144, limit, bank))
+    let slot = SlotWidth { bits: 144 };
+    Ok(Editor::new(rt.alloc(), list, method, slot, limit, bank))
 }
 
 /// Does the commands of the text, and answers how many there are; none where a write of a line failed.

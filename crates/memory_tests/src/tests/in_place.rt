@@ -14,6 +14,7 @@ use slot_patch::SlotTable;
 use std::process::Abort;
 use std::test::Fail;
 use tcam_sim::FaultyBank;
+use ternary_words::{Limit, SlotWidth};
 
 /// Room for two tables of the lists that are drawn.
 const ROOM: u32 = 64;
@@ -36,7 +37,9 @@ fn in_place<'a, R: Abort + AllocGlobal>(
 ) -> Result<InPlace<'a>, Fail> {
     let list = read_list(rt.alloc(), b"")?;
     let bank = bank(rt, rt.alloc(), ROOM, failing)?;
-    made(Editor::in_place(rt.alloc(), list, method, 144, 262_144, bank))
+    let slot = SlotWidth { bits: 144 };
+    let limit = Limit { count: 262_144 };
+    made(Editor::in_place(rt.alloc(), list, method, slot, limit, bank))
 }
 
 /// Steps until no update is pending; a write that fails is tried again.

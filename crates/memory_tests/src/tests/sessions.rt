@@ -18,6 +18,7 @@ use std::process::Abort;
 use std::test::Fail;
 use table_compose::ComposeError;
 use tcam_sim::FaultyBank;
+use ternary_words::{Limit, SlotWidth};
 
 /// What comes of compiling the list of the editor anew.
 fn compiled(alloc: Global, editor: &Editor<'_, FaultyBank>) -> Result<Compiled, Fail> {
@@ -33,7 +34,8 @@ fn compiled_of(
 ) -> Result<Compiled, Fail>
     requires { All (IsNumberedBy editor.now.session.list.names) rules.now }
 {
-    match compile(alloc, rules, editor.names(), LIMIT, 144) {
+    let limit = Limit { count: LIMIT };
+    match compile(alloc, rules, editor.names(), limit, SlotWidth { bits: 144 }) {
         Ok(table) => Ok(Compiled::Entries(table.entries.len() as u32)),
         Err(ComposeError::TooMany { needed, .. }) => Ok(Compiled::TooMany(needed)),
         Err(ComposeError::Memory) => Err("memory was refused".into()),

@@ -7,7 +7,7 @@ use field_boxes::{Decisions, Prefix};
 use std::alloc::Global;
 use std::process::Abort;
 use std::test::Fail;
-use ternary_words::{Entry, Table, Word};
+use ternary_words::{Entry, SlotWidth, Table, Word};
 
 /// The whole field.
 const OPEN: Prefix = Prefix { value: 0, len: 0 };
@@ -54,7 +54,7 @@ pub(super) fn table(rt: &impl Abort, entries: Vec<Entry>, names: Decisions) -> T
     assert!(rt; entries.len() <= 4);
     assert!(rt; are_numbered(&entries, names.count()));
     Table {
-        slot: 144,
+        slot: SlotWidth { bits: 144 },
         composed: 4,
         entries,
         names,

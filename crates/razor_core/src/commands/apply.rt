@@ -74,7 +74,7 @@ fn misfit(memory: &SlotMemory, plan: &SlotPlan) -> Option<LineReason>
     if plan.slots as usize != memory.slots.len() {
         return Some(LineReason::SlotCount);
     }
-    if plan.width != memory.width {
+    if plan.width.bits != memory.width.bits {
         return Some(LineReason::SlotWidth);
     }
     None

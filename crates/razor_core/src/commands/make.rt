@@ -62,9 +62,9 @@ fn make_by<'a>(
 ) -> Result<Made, Ending<'a>>
     ensures made { MatchResult result
         (λ made. IsOrderOf (method_seen method) (filter_list list.now).rules made.order × IsMade (method_seen method) made.order (filter_list list.now).rules (sizes_of sizes) (table_of made.table))
-        (λ ending. IsNotMade (IsNeeded (method_seen method) (filter_list list.now).rules) sizes.limit ending) }
+        (λ ending. IsNotMade (IsNeeded (method_seen method) (filter_list list.now).rules) sizes.limit.count ending) }
     ensures names { IfOk result (λ made. made.table.names ≡ list.now.names) }
-    ensures room { IfOk result (λ made. IsRoom (method_seen method) (filter_list list.now).rules sizes.limit) }
+    ensures room { IfOk result (λ made. IsRoom (method_seen method) (filter_list list.now).rules sizes.limit.count) }
 {
     match method {
         Method::Expand => expand_list(alloc, list, sizes),

@@ -56,7 +56,7 @@ fn patch_over<'a, K: Sink>(
     ensures { (first : List ℕ) → EndsOver (patching first file.now) (memory_value_of memory ∷ table_value_of table.now ∷ [])
         (K.written out.old) (K.written out.new) (K.faults out.old) (K.faults out.new) result }
 {
-    if table.slot != memory.width {
+    if table.slot.bits != memory.width.bits {
         return Ending::BadLine {
             file,
             line: 1,

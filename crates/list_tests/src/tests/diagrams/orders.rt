@@ -45,9 +45,7 @@ const THREE: &[u8] =
 fn count(alloc: Global, fields: [u8; 5], limit: u32) -> Result<Result<usize, ComposeError>, Fail> {
     let order = Order::new(fields).ok_or("no order")?;
     let list = read_list(alloc, THREE)?;
-    Ok(compose_in(alloc, order.fields(), &list.rules, &list.names, limit).map(
-        |entries| entries.len(),
-    ))
+    Ok(compose_in(alloc, &order, &list.rules, &list.names, limit).map(|entries| entries.len()))
 }
 
 /// What the list costs in the stated order.

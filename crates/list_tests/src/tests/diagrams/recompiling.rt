@@ -10,7 +10,7 @@ use rule_compilation::{Compiler, compile};
 use std::alloc::Global;
 use std::process::Abort;
 use std::test::Fail;
-use ternary_words::{Table, write_table};
+use ternary_words::{Limit, SlotWidth, Table, write_table};
 
 /// As many rules as a list has before it is edited.
 const RULES: u32 = 24;
@@ -26,7 +26,13 @@ fn text(alloc: Global, table: &Table) -> Result<MemSink, Fail> {
 fn anew(alloc: Global, rules: &[Rule], names: &Decisions) -> Result<MemSink, Fail>
     requires { All (IsNumberedBy names.now) rules.now }
 {
-    let table = compile(alloc, rules, names, 262_144, 144)?;
+    let table = compile(
+        alloc,
+        rules,
+        names,
+        Limit { count: 262_144 },
+        SlotWidth { bits: 144 },
+    )?;
     text(alloc, &table)
 }
 
@@ -39,7 +45,12 @@ fn kept(
 ) -> Result<MemSink, Fail>
     requires { All (IsNumberedBy names.now) rules.now }
 {
-    let table = compiler.compile(rules, names, 262_144, 144)?;
+    let table = compiler.compile(
+        rules,
+        names,
+        Limit { count: 262_144 },
+        SlotWidth { bits: 144 },
+    )?;
     text(alloc, &table)
 }
 

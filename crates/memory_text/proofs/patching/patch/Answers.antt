@@ -6,7 +6,7 @@ use Rattle.slot_patch.specs.Planning.{IsPlanned}
 use Rattle.slot_patch.specs.declared.plan.Planned.{Planned}
 use Rattle.slot_patch.specs.declared.plan.Planned.TheVariants.{Ready}
 use Rattle.bank_update.specs.declared.write.Write.{Write}
-use Rattle.table_text.specs.Names.{is_name}
+use Rattle.ternary_words.specs.Names.{is_name}
 use Rattle.memory_text.specs.Kept.{Extends}
 use Rattle.memory_text.specs.Patched.{AreCopies}
 use Rattle.memory_text.proofs.Leading.{counted, enough, lacks, leads, within}
@@ -43,7 +43,6 @@ invariant_of-result c =
     record {
       some = omega (arith, c.len.ensures, m.some);
       few = omega (arith, c.len.ensures, m.few);
-      wide = m.wide;
       counted = omega (arith, counted m.names names m.slots.items entries (table_of table) more m.numbered named c.in-Ready.plan puts made same (omega (arith, m.few)) new);
       within = within m.names names m.slots.items entries (table_of table) more m.numbered named c.in-Ready.plan puts made same c.len.result all;
       named = more.spelled m.named;
@@ -61,7 +60,7 @@ returns-in-Ready c =
     let same = copies (goal.at.returns-in-Ready c).In_ok-writes-in-Ready in
     let named = c.in_ok-entries.ensures.names in
     let all : c.len.result ≡ length m.slots.items = omega (arith, c.len.ensures) in (
-      leads m.names names m.slots.items entries table more m.numbered named c.in-Ready.plan puts made same c.len.result m.width all,
+      leads m.names names m.slots.items entries table more m.numbered named c.in-Ready.plan puts made same c.len.result m.width.bits all,
       enough m.names names m.slots.items entries table more m.numbered named c.in-Ready.plan puts made same,
     )
 

@@ -1,8 +1,9 @@
 use Rattle.std.proofs.Common.{◌∙◌, ℕ, List, Option, None, Some, ap, arith, map, replicate, set, subst, sym, take, IsTrue}
 use Rattle.ternary_words.specs.declared.entry.Entry as code_entry
+use Rattle.ternary_words.specs.declared.slot_width.SlotWidth.{SlotWidth}
 use Rattle.ternary_words.specs.Headline.Table.{Entry}
 use Rattle.ternary_words.specs.Views.{entry_of}
-use Rattle.table_text.specs.Names.{is_decision}
+use Rattle.ternary_words.specs.Names.{is_decision}
 use Rattle.memory_text.specs.Memory.{after}
 use Rattle.memory_text.specs.Spreading.{even_slot, even_writes}
 use Rattle.memory_text.proofs.Afterwards.{spread_more}
@@ -23,7 +24,7 @@ loop-place-preserved c =
     let done = after base (even_writes c.args.slots c.len-many.result 0 (map (entry_of table.names) (take l.place table.entries.items))) in
     record {
       many = c.in_ok-set.ensures.many ∙ l.invariant.many;
-      width = c.in_ok-set.ensures.width ∙ l.invariant.width;
+      width = ap (λ (w : SlotWidth). w.bits) c.in_ok-set.ensures.width ∙ l.invariant.width;
       slots = c.in_ok-set.ensures.set
           ∙ ap (λ (xs : List (Option Entry)). set xs c.even_slot.result (Some (named_entry e c.name-name.result.now))) l.invariant.slots
           ∙ ap (λ (n : ℕ). set done n (Some (named_entry e c.name-name.result.now))) c.even_slot.ensures.slot

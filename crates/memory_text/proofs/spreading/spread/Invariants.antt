@@ -8,6 +8,6 @@ use Rattle.memory_text.proofs.spreading.spread.Given as goal
 abbrev pub invariant-loop-place : goal.invariant-loop-place
 invariant-loop-place l = record {
   many : vec_len l.memory.slots ≡ l.slots;
-  width : l.memory.width ≡ l.table.slot;
+  width : l.memory.width.bits ≡ l.table.slot.bits;
   slots : (memory_of l.memory).slots ≡ after (replicate l.slots None) (even_writes l.slots l.many 0 (map (entry_of l.table.names) (take l.place l.table.entries.items)));
 }

@@ -10,18 +10,18 @@ returns-in_err-put_first_line g c =
     let m = c.args.memory.now in
     let slots = c.as_slice-slots.result.now in
     writes-is (puts-unwritten c.from_residual.ensures.0 c.new-pending.ensures (puts-more (slot_lines 0 (slots_of m.names slots)) c.in_err-put_first_line.ensures))
-    (whole_memory m.names m.width (length slots) c.count_entries-count.result slots m.slots.items refl c.count_entries-count.ensures c.as_slice-slots.ensures.value)
+    (whole_memory m.names m.width.bits (length slots) c.count_entries-count.result slots m.slots.items refl c.count_entries-count.ensures c.as_slice-slots.ensures.value)
 
 pub returns-in_err-put_slots : goal.returns-in_err-put_slots
 returns-in_err-put_slots g c =
     let m = c.args.memory.now in
     let slots = c.as_slice-slots.result.now in
     writes-is (puts-unwritten c.from_residual-in_err-put_slots.ensures.0 c.new-pending.ensures (puts-then c.in_ok-put_first_line.ensures c.in_err-put_slots.ensures))
-    (whole_memory m.names m.width (length slots) c.count_entries-count.result slots m.slots.items refl c.count_entries-count.ensures c.as_slice-slots.ensures.value)
+    (whole_memory m.names m.width.bits (length slots) c.count_entries-count.result slots m.slots.items refl c.count_entries-count.ensures c.as_slice-slots.ensures.value)
 
 pub returns : goal.returns
 returns g c =
     let m = c.args.memory.now in
     let slots = c.as_slice-slots.result.now in
     writes-is (puts-written c.new-pending.ensures (puts-then c.in_ok-put_first_line.ensures c.in_ok-put_slots.ensures) c.flush.ensures.whole)
-    (whole_memory m.names m.width (length slots) c.count_entries-count.result slots m.slots.items refl c.count_entries-count.ensures c.as_slice-slots.ensures.value)
+    (whole_memory m.names m.width.bits (length slots) c.count_entries-count.result slots m.slots.items refl c.count_entries-count.ensures c.as_slice-slots.ensures.value)

@@ -11,18 +11,18 @@ returns-in_err-put_first_line g c =
     let p = c.args.plan.now in
     let writes = c.as_slice-writes.result.now in
     writes-is (puts-unwritten c.from_residual.ensures.0 c.new-pending.ensures (puts-more (flat_map write_line (writes_of p.names writes)) c.in_err-put_first_line.ensures))
-    (whole_plan p.names p.slots p.width (length writes) writes p.writes.items refl c.as_slice-writes.ensures.value)
+    (whole_plan p.names p.slots p.width.bits (length writes) writes p.writes.items refl c.as_slice-writes.ensures.value)
 
 pub returns-in_err-put_writes : goal.returns-in_err-put_writes
 returns-in_err-put_writes g c =
     let p = c.args.plan.now in
     let writes = c.as_slice-writes.result.now in
     writes-is (puts-unwritten c.from_residual-in_err-put_writes.ensures.0 c.new-pending.ensures (puts-then c.in_ok-put_first_line.ensures c.in_err-put_writes.ensures))
-    (whole_plan p.names p.slots p.width (length writes) writes p.writes.items refl c.as_slice-writes.ensures.value)
+    (whole_plan p.names p.slots p.width.bits (length writes) writes p.writes.items refl c.as_slice-writes.ensures.value)
 
 pub returns : goal.returns
 returns g c =
     let p = c.args.plan.now in
     let writes = c.as_slice-writes.result.now in
     writes-is (puts-written c.new-pending.ensures (puts-then c.in_ok-put_first_line.ensures c.in_ok-put_writes.ensures) c.flush.ensures.whole)
-    (whole_plan p.names p.slots p.width (length writes) writes p.writes.items refl c.as_slice-writes.ensures.value)
+    (whole_plan p.names p.slots p.width.bits (length writes) writes p.writes.items refl c.as_slice-writes.ensures.value)

@@ -1,5 +1,23 @@
+use Rattle.std.proofs.Common.{List, ℕ, subst}
+use Rattle.std.specs.Prelude.{IfOk, MatchResult, ◌≤◌}
+use Rattle.field_boxes.specs.NamedRules.{named_rules}
+use Rattle.ternary_words.specs.Views.{table_of}
 use Rattle.node_store.proofs.Orders.{order_level}
+use Rattle.table_compose.specs.Headline.LeastCost.{IsLeastCost}
+use Rattle.rule_compilation.specs.Compiled.{IsCompiledIn, IsRefusedIn}
 use Rattle.rule_compilation.proofs.compiling.compile_in.Goals as goal
 
 pub once-requires : goal.once-requires
-once-requires c = order_level c.args.order.now c.requires.order
+once-requires c = order_level c.fields-level.result.now c.fields-level.ensures.order
+
+pub returns-clause-table : goal.returns-clause-table
+returns-clause-table c =
+    let rules = named_rules c.args.names.now c.args.rules.now in
+    subst
+    (λ (order : List ℕ). MatchResult c.compile.result (λ table. IsCompiledIn order rules c.args.slot.bits (table_of table)) (λ e. IsRefusedIn order rules c.args.limit.count e))
+    c.fields-level.ensures.fields c.compile.ensures.table
+
+pub returns-clause-room : goal.returns-clause-room
+returns-clause-room c =
+    let rules = named_rules c.args.names.now c.args.rules.now in
+    subst (λ (order : List ℕ). IfOk c.compile.result (λ table. (needed : ℕ) → IsLeastCost order rules needed → needed ≤ c.args.limit.count)) c.fields-level.ensures.fields c.compile.ensures.room

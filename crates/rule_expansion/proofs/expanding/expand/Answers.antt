@@ -10,9 +10,8 @@ invariant_of-result c =
     let all = c.decided_words_are_entries.ensures c.args.names.now c.args.rules.now c.in_ok-entries.entries.items c.in_ok-entries.ensures c.requires.numbered in
     let same : c.in_ok-names.names ≡ c.args.names.now = c.in_ok-names.ensures in
     record {
-      width = c.requires.slot;
-      counted = omega (arith, c.entry_count-needed.ensures, c.requires.limit);
-      few = omega (arith, all.many, c.entry_count-needed.ensures, c.requires.limit, c.in_ok-entries.entries.ok.0);
+      counted = omega (arith, c.entry_count-needed.ensures, c.args.limit.few);
+      few = omega (arith, all.many, c.entry_count-needed.ensures, c.args.limit.few, c.in_ok-entries.entries.ok.0);
       numbered = subst (λ (names : List (List ℕ)). AreNumbered (length names) c.in_ok-entries.entries.items) (sym same) all.numbered;
     }
 

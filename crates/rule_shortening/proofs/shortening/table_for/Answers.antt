@@ -9,5 +9,5 @@ returns-clause-table c =
     let entries = c.args.entries.items in
     let short = c.requires.entries in
     rw c.in_ok-copy.ensures
-    (short_table names rules entries short (c.decided_words_are_entries.ensures names rules short.for_rules.all short.for_rules.spelled c.requires.numbered) c.args.slot c.len.result (omega (arith, c.len.ensures, c.args.entries.ok.0))
+    (short_table names rules entries short (c.decided_words_are_entries.ensures names rules short.for_rules.all short.for_rules.spelled c.requires.numbered) c.args.slot.bits c.len.result (omega (arith, c.len.ensures, c.args.entries.ok.0))
     c.are_names.ensures.distinct c.expansion_answers.ensures)

@@ -25,7 +25,7 @@ returns-in_err-table-clause-commit g c =
     let s = c.args.self.now.session in
     let r = c.from_residual-in_err-table.result in
     let same = ap (λ (v : Editing g.row.V.Denot). v.session) c.self.view_is in
-    let now = ap (λ (m : Method). session_by e.list e.swapper.state e.swapper.copies m g.T.Replaced.way e.slot e.limit) c.in_err-table.ensures.method ∙ same in
+    let now = ap (λ (m : Method). session_by e.list e.swapper.state e.swapper.copies m g.T.Replaced.way e.slot.bits e.limit.count) c.in_err-table.ensures.method ∙ same in
     subst (λ (x : SessionState). IsCommit s x r) (sym now) (make-refused s _ _ r c.from_residual-in_err-table.ensures.1 none c.in_err-table.ensures.refused same)
 
 pub returns-in_err-copy-clause-commit : goal.returns-in_err-copy-clause-commit
@@ -34,7 +34,7 @@ returns-in_err-copy-clause-commit g c =
     let e = c.self.inside in
     let s = c.args.self.now.session in
     let r = c.from_residual-in_err-copy.result in
-    let now = same-session e.list c.settle.new.self (method_of e.maker) (method_of c.table.new.self) e.swapper.state e.swapper.copies g.T.Replaced.way e.slot e.limit c.in_err-copy.ensures.same c.in_ok-table.ensures.method
+    let now = same-session e.list c.settle.new.self (method_of e.maker) (method_of c.table.new.self) e.swapper.state e.swapper.copies g.T.Replaced.way e.slot.bits e.limit.count c.in_err-copy.ensures.same c.in_ok-table.ensures.method
     ∙ ap (λ (v : Editing g.row.V.Denot). v.session) c.self.view_is in
     subst (λ (x : SessionState). IsCommit s x r) (sym now) (copy-refused s _ r c.from_residual-in_err-copy.ensures.1 none now)
 
@@ -47,8 +47,8 @@ begin-requires-clause-idle g c =
 pub begin-requires-clause-table : goal.begin-requires-clause-table
 begin-requires-clause-table g c =
     let e = c.self.inside in
-    subst (λ (l : Listed). IsTableFor (method_of c.table.new.self) l e.slot e.limit c.in_ok-table.table) (sym c.in_ok-copy.ensures.same)
-    (subst (λ (m : Method). IsTableFor m e.list e.slot e.limit c.in_ok-table.table) (sym c.in_ok-table.ensures.method) c.in_ok-table.ensures.table)
+    subst (λ (l : Listed). IsTableFor (method_of c.table.new.self) l e.slot.bits e.limit.count c.in_ok-table.table) (sym c.in_ok-copy.ensures.same)
+    (subst (λ (m : Method). IsTableFor m e.list e.slot.bits e.limit.count c.in_ok-table.table) (sym c.in_ok-table.ensures.method) c.in_ok-table.ensures.table)
 
 pub begin-requires-clause-copy : goal.begin-requires-clause-copy
 begin-requires-clause-copy g c = c.in_ok-copy.ensures.copy ∙ sym c.in_ok-copy.ensures.same
@@ -56,6 +56,6 @@ begin-requires-clause-copy g c = c.in_ok-copy.ensures.copy ∙ sym c.in_ok-copy.
 pub returns-clause-commit : goal.returns-clause-commit
 returns-clause-commit g c =
     let e = c.self.inside in
-    let now = same-session e.list c.settle.new.self (method_of e.maker) (method_of c.table.new.self) e.swapper.state e.swapper.copies g.T.Replaced.way e.slot e.limit c.in_ok-copy.ensures.same c.in_ok-table.ensures.method
+    let now = same-session e.list c.settle.new.self (method_of e.maker) (method_of c.table.new.self) e.swapper.state e.swapper.copies g.T.Replaced.way e.slot.bits e.limit.count c.in_ok-copy.ensures.same c.in_ok-table.ensures.method
     ∙ ap (λ (v : Editing g.row.V.Denot). v.session) c.self.view_is in
     subst (λ (x : SessionState). IsCommit x c.begin.new.self.session c.begin.result) now c.begin.ensures.commit

@@ -8,4 +8,4 @@ use Rattle.memory_text.proofs.memory.SlotMemory.empty.Goals as goal
 pub returns-clause-empty : goal.returns-clause-empty
 returns-clause-empty c =
     let items : c.in_ok-vec.field-0.items ≡ replicate c.args.slots None = search rules in
-    ap (λ slots. let m : Memory = record { width = c.args.width; slots = slots } in m) (ap (λ (xs : List (Option code_entry.Entry)). slots_of c.new.result xs) items ∙ none_held c.new.result c.args.slots)
+    ap (λ slots. let m : Memory = record { width = c.args.width.bits; slots = slots } in m) (ap (λ (xs : List (Option code_entry.Entry)). slots_of c.new.result xs) items ∙ none_held c.new.result c.args.slots)

@@ -2,10 +2,9 @@ use Rattle.std.proofs.Common.{◌≤◌, ◌<◌, ◌≡◌, ◌∙◌, arith, r
 use Rattle.std.proofs.lemmas.List.{length-append}
 use Rattle.std.proofs.lemmas.Nat.{pow_pos}
 use Rattle.std.proofs.lemmas.Result.{IfOk-weaker}
-use Rattle.prefix_min.specs.Growth.{IsBuilt, end_of}
+use Rattle.prefix_min.specs.Growth.{IsBuilt, done_of, end_of, handed}
 use Rattle.prefix_min.specs.Field.{no_piece}
 use Rattle.prefix_min.specs.Pieces.{IsNext, weight_below}
-use Rattle.prefix_min.specs.Savings.{with_one}
 use Rattle.prefix_min.proofs.PieceWeights.{part-inside, piece-place}
 use Rattle.prefix_min.proofs.FullLabel.{end-reached}
 use Rattle.prefix_min.proofs.Grown.{above-half, below-built, below-half, both-fits, grown-both, grown-first, grown-last, grown-light, grown-wide, half-of, one-room, ready}
@@ -60,8 +59,7 @@ beside-returns-clause-built g t c =
     let new = c.apart.new.stack in
     IfOk-weaker c.apart.result _ _ (λ one b. inl (
       (above-half c.args.self.now.pieces.now c.args.first c.args.part c.args.about c.requires.half c.if-about-part.false).0,
-      subst (λ v. IsBuilt g.K.Keeping.KEEPS c.args.self.now.weights.now c.args.self.now.pieces.now c.args.part.bits v old.savings.items (with_one new.savings.items one) old.cost new.cost
-          new.next old.choices.items new.choices.items old.also.items new.also.items) c.end.ensures b,
+      subst (λ v. IsBuilt g.K.Keeping.KEEPS c.args.self.now.weights.now c.args.self.now.pieces.now c.args.part.bits v (done_of old) (handed (done_of new) one) new.next) c.end.ensures b,
     )) c.apart.ensures.built
 
 pub apart-offset_bounds-self-first : goal.apart-offset_bounds-self-first

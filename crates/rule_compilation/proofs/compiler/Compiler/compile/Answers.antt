@@ -10,10 +10,10 @@ pub returns-clause-table : goal.returns-clause-table
 returns-clause-table c =
     let rules = named_rules c.args.names.now c.args.rules.now in
     subst
-    (λ (order : List ℕ). MatchResult c.compile-made.result (λ table. IsCompiledIn order rules c.args.slot (table_of table)) (λ e. IsRefusedIn order rules c.args.limit e))
+    (λ (order : List ℕ). MatchResult c.compile-made.result (λ table. IsCompiledIn order rules c.args.slot.bits (table_of table)) (λ e. IsRefusedIn order rules c.args.limit.count e))
     (c.self.view_is ∙ c.in_ok-kept.ensures.order) c.compile-made.ensures.table
 
 pub returns-clause-room : goal.returns-clause-room
 returns-clause-room c =
     let rules = named_rules c.args.names.now c.args.rules.now in
-    subst (λ (order : List ℕ). IfOk c.compile-made.result (λ table. (needed : ℕ) → IsLeastCost order rules needed → needed ≤ c.args.limit)) (c.self.view_is ∙ c.in_ok-kept.ensures.order) c.compile-made.ensures.room
+    subst (λ (order : List ℕ). IfOk c.compile-made.result (λ table. (needed : ℕ) → IsLeastCost order rules needed → needed ≤ c.args.limit.count)) (c.self.view_is ∙ c.in_ok-kept.ensures.order) c.compile-made.ensures.room

@@ -16,9 +16,8 @@ invariant_of-result c =
     let entries = c.in_ok-composed.field-0.entries in
     let same : c.in_ok-names.names ≡ c.args.names.now = c.in_ok-names.ensures in
     record {
-      width = c.requires.slot;
-      counted = omega (arith, c.in_ok-composed.ensures.within, c.requires.limit);
-      few = omega (arith, tight.few, entries.ok.0, c.in_ok-composed.ensures.within, c.requires.limit);
+      counted = omega (arith, c.in_ok-composed.ensures.within, c.args.limit.few);
+      few = omega (arith, tight.few, entries.ok.0, c.in_ok-composed.ensures.within, c.args.limit.few);
       numbered = subst (λ (ns : List (List ℕ)). AreNumbered (length ns) entries.items) (sym same) tight.numbered;
     }
 
