@@ -63,19 +63,22 @@ fn push_gap(
     let olds = end.old.saturating_sub(gap.start.old);
     let free = high.saturating_sub(gap.low).saturating_sub(olds);
     for old in gap.start.old..end.old {
+        let before = old.saturating_sub(gap.start.old);
         let passed = slot_or(slots, old, high)
             .saturating_sub(gap.low)
-            .saturating_sub(old.saturating_sub(gap.start.old));
-        wishes.push(gap.start.new.saturating_add(share(passed, wanted, free)))?;
+            .saturating_sub(before);
+        let above = if wanted > free {
+            share(before, wanted, olds)
+        } else {
+            share(passed, wanted, free)
+        };
+        wishes.push(gap.start.new.saturating_add(above))?;
     }
     Ok(())
 }
 
-/// How many of the wanted entries come into the free slots that were passed, evenly over all that are free.
+/// How many of the wanted entries come into the slots that were passed, evenly over all of them.
 fn share(passed: usize, wanted: usize, free: usize) -> usize {
-    if wanted > free {
-        return passed;
-    }
     let parts = passed
         .saturating_add(1)
         .saturating_mul(wanted.saturating_add(1))
