@@ -1,6 +1,7 @@
 //! What is kept of a list that was shortened.
 
 use crate::differences::Differences;
+use crate::ordering::in_old_order;
 use field_boxes::Rule;
 use razor_base::Memory;
 use rule_expansion::expanded_entries;
@@ -75,8 +76,17 @@ impl Known {
         Ok(words.iter().any(|word| word.mask.count_ones() <= BROAD))
     }
 
-    /// The kept entries repaired for these rules, of which `list` is the direct expansion; none where too much was edited.
-    pub fn repaired(&self, rules: &[Rule], list: &[Entry]) -> Result<Option<Vec<Entry>>, Memory> {
+    /// Entries for these rules, of which `list` is the direct expansion: those that were made anew, in the order of the kept ones,
+    /// or else the kept ones repaired; none where too much was edited.
+    pub fn proposed(
+        &self,
+        rules: &[Rule],
+        list: &[Entry],
+        anew: Option<&[Entry]>,
+    ) -> Result<Option<Vec<Entry>>, Memory> {
+        if let Some(entries) = anew {
+            return Ok(Some(in_old_order(self.alloc, &self.entries, entries)?));
+        }
         let Some(words) = self.edited_words(rules)? else {
             return Ok(None);
         };

@@ -42,6 +42,7 @@ mod draft;
 mod known;
 mod laying;
 mod ordered;
+mod ordering;
 mod refusal;
 mod searching;
 mod shortener;

@@ -125,12 +125,28 @@ impl Shortener {
         if table.entries.len() >= below {
             return None;
         }
+        let table = self.in_old_order(task, table);
         let Ok(made) = Known::new(self.alloc, task.rules, &table.entries) else {
             return None;
         };
         self.made = Some(made);
         self.has_other = true;
         Some(table)
+    }
+
+    /// The table with its entries in an order like that of the settled one, where that is seen to be right.
+    fn in_old_order(&self, task: Task, table: Table) -> Table
+        requires task { IsTask task.names.now task.rules.now }
+        requires table { IsTableFor task.names.now task.rules.now task.limit.count task.slot.bits table }
+        ensures { IsTableFor task.entry.names.now task.entry.rules.now task.entry.limit.count task.entry.slot.bits result }
+    {
+        let Some(known) = &self.settled else {
+            return table;
+        };
+        match next_table(self.alloc, known, task, Some(&table.entries)) {
+            Ok(Some(ordered)) => ordered,
+            _ => table,
+        }
     }
 
     /// The settled table, repaired; none where that isn't seen to be right, or above the limit.
@@ -141,7 +157,7 @@ impl Shortener {
         let Some(known) = &self.settled else {
             return Ok(None);
         };
-        mended_table(self.alloc, known, task)
+        next_table(self.alloc, known, task, None)
     }
 
     /// The repaired table of these rules, which has these entries, is the one that was made last.
@@ -165,27 +181,34 @@ impl Shortener {
     }
 }
 
-/// The table that is known, repaired for the list; none where that isn't seen to be right, or above the limit.
-fn mended_table(alloc: Global, known: &Known, task: Task) -> Result<Option<Table>, Memory>
+/// The table that is known, repaired for the list, or the one made anew in its order; none where that isn't seen to be right, or
+/// above the limit.
+fn next_table(
+    alloc: Global,
+    known: &Known,
+    task: Task,
+    anew: Option<&[Entry]>,
+) -> Result<Option<Table>, Memory>
     requires { IsTask task.names.now task.rules.now }
     ensures { IfOk result (λ made. IfSome made (IsTableFor task.entry.names.now task.entry.rules.now task.entry.limit.count task.entry.slot.bits)) }
 {
-    let Some(mended) = mended(alloc, known, task.rules, task.names)? else {
+    let Some(entries) = next_entries(alloc, known, task.rules, task.names, anew)? else {
         return Ok(None);
     };
-    let entries = trim_for(alloc, task.rules, task.names, mended)?;
+    let entries = trim_for(alloc, task.rules, task.names, entries)?;
     if entries.len() > task.limit.count as usize {
         return Ok(None);
     }
     Ok(Some(table_for(alloc, task.rules, task.names, task.slot, entries)?))
 }
 
-/// The entries that are known, repaired for the rules; none where that isn't seen to be right.
-fn mended(
+/// The entries that are known, repaired for the rules, or those made anew in their order; none where that isn't seen to be right.
+fn next_entries(
     alloc: Global,
     known: &Known,
     rules: &[Rule],
     names: &Decisions,
+    anew: Option<&[Entry]>,
 ) -> Result<Option<Vec<Entry>>, Memory>
     requires few { length rules.now ≤ MOST_RULES }
     requires numbered { All (IsNumberedBy names.now) rules.now }
@@ -195,7 +218,7 @@ fn mended(
         return Ok(None);
     }
     let list = in_full(alloc, rules, names)?;
-    let Some(new) = known.repaired(rules, list.as_slice())? else {
+    let Some(new) = known.proposed(rules, list.as_slice(), anew)? else {
         return Ok(None);
     };
     let Some(seen) = if_as_short(alloc, list.as_slice(), new, names.count())? else {

@@ -1,6 +1,6 @@
 use Rattle.std.proofs.Common.{length}
 use Rattle.rule_shortening.proofs.Fronts.{shorter_for}
-use Rattle.rule_shortening.proofs.shortener.mended.Goals as goal
+use Rattle.rule_shortening.proofs.shortener.next_entries.Goals as goal
 
 pub returns : goal.returns
 returns c =
