@@ -74,15 +74,6 @@ pub copy-refused : (s t : SessionState) (r : Result ℕ CommitRefusal) → IsErr
 copy-refused s t (Ok total) is none same = absurd is
 copy-refused s t (Err refusal) is none same = subst (λ x. IsCommit s s (Err x)) (sym is) (idle-still s t none same, refl)
 
--- a commit is refused as busy exactly while an update is pending
-pub busy-exactly : (s new : SessionState) (r : Result ℕ CommitRefusal) → IsCommit s new r → (r ≡ Err commits.Busy ↔ s.state.pending ≢ None)
-busy-exactly s new (Ok total) h = ((λ e. absurd (cc)), (λ some. absurd (some (planned s.way s.state h.state h.table total h.begun).idle)))
-busy-exactly s new (Err commits.Busy) h = ((λ e. h.0), (λ some. refl))
-busy-exactly s new (Err (commits.TooMany needed limit)) h = ((λ e. absurd (cc)), (λ some. absurd (some h.0.idle)))
-busy-exactly s new (Err (commits.NoRoom above below wanted)) h = ((λ e. absurd (cc)), (λ some. absurd (some h.0.idle)))
-busy-exactly s new (Err (commits.NoSlots needed slots)) h = ((λ e. absurd (cc)), (λ some. absurd (some h.0.idle)))
-busy-exactly s new (Err commits.Memory) h = ((λ e. absurd (cc)), (λ some. absurd (some h.0)))
-
 -- an update to a table of the list is begun
 pub begins-commit : (s : SessionState) (state : State) (table : code.Table) (copy : Listed) (total : ℕ) → IsTableFor s.method s.list s.slot s.limit table → copy ≡ s.list →
     HasBegun s.way s.state state table total → IsCommit s (with_state s state (copies_begun copy total s.copies)) (Ok total)

@@ -136,7 +136,3 @@ settled-listing a list rules items names numbered spelled few = record {
   spelled = subst (All IsFilterRule) (sym items) spelled;
   numbered = subst (λ (ns : List (List ℕ)). All (IsNumberedBy ns) a.rules) (sym names) (subst (All (IsNumberedBy list.names)) (sym items) numbered);
 }
-
-pub settled-list : (a : Inside) (list : Listed) (rules : List code.Rule) → a.rules ≡ rules → a.names ≡ list.names → named_rules list.names rules ≡ list.rules → listed a ≡ list
-settled-list a list rules items names same =
-    ap (list_of a.names) items ∙ ap (λ (ns : List (List ℕ)). list_of ns rules) names ∙ ap (λ (rs : List (Rule (List ℕ))). let l : Listed = record { rules = rs; names = list.names } in l) same

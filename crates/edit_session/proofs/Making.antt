@@ -22,27 +22,6 @@ use Rattle.edit_session.specs.declared.refusal.CommitRefusal.{CommitRefusal}
 abbrev pub Makes : Method → List (Rule (List ℕ)) → ℕ → ℕ → Result code.Table CommitRefusal → Type 0
 Makes method rules limit slot r = MatchResult r (λ table. IsMade method rules limit slot (table_of table)) (IsUnmade method rules limit)
 
-pub is-table-for : (method : Method) (list : Listed) (rules : List (Rule (List ℕ))) (names : List (List ℕ)) (limit slot : ℕ) (r : Result code.Table CommitRefusal) → rules ≡ list.rules → names ≡ list.names →
-    Makes method rules limit slot r → IfOk r (λ table. table.names ≡ names) → IfOk r (IsTableFor method list slot limit)
-is-table-for method list rules names limit slot (Ok table) same named made keeps = record {
-  made = subst (λ (rs : List (Rule (List ℕ))). IsMade method rs limit slot (table_of table)) same made;
-  names = keeps ∙ named;
-}
-is-table-for method list rules names limit slot (Err refusal) same named made keeps = tt
-
-pub is-unmade : (method : Method) (list : Listed) (rules : List (Rule (List ℕ))) (limit slot : ℕ) (r : Result code.Table CommitRefusal) → rules ≡ list.rules → Makes method rules limit slot r → IfErr r (IsUnmade method list.rules limit)
-is-unmade method list rules limit slot (Ok table) same made = tt
-is-unmade method list rules limit slot (Err refusal) same made = subst (λ (rs : List (Rule (List ℕ))). IsUnmade method rs limit refusal) same made
-
--- why nothing is compiled, and why nothing is shortened
-pub uncompiled : (order : List ℕ) (rules : List (Rule (List ℕ))) (limit : ℕ) (e : ComposeError) → IsRefusedIn order rules limit e → IsUnmade (Compiled order) rules limit (commit_refusal_of e)
-uncompiled order rules limit composes.Memory h = tt
-uncompiled order rules limit (composes.TooMany needed most) h = h
-
-pub unshortened : (rules : List (Rule (List ℕ))) (limit : ℕ) (e : ShortenError) → IsRefused rules limit e → IsUnmade Shortened rules limit (shorten_refusal_of e)
-unshortened rules limit shortens.Memory h = tt
-unshortened rules limit (shortens.TooMany needed most) h = h
-
 -- what is made answers as the rules decide
 pub made-answers : (method : Method) (rules : List (Rule (List ℕ))) (limit slot : ℕ) (table : Table) → IsMade method rules limit slot table → AreAlike (answer table.entries) (source_of rules)
 made-answers (Compiled order) rules limit slot table made = made.0.answers

@@ -44,9 +44,6 @@ inserted-within kept r places index within =
 pub number-removed : (kept : List Rule) (places : List ℕ) (index : ℕ) → gathered kept (remove places index) ≡ remove (gathered kept places) index
 number-removed kept places index = map-remove (λ place. slice_index_or kept place no_rule) places index
 
-pub removed-within : (kept : List Rule) (places : List ℕ) (index : ℕ) → AreWithin kept places → AreWithin kept (remove places index)
-removed-within kept places index within = All-remove (λ place. place < length kept) places index within
-
 -- all numbers in turn stand for the rules as they are kept
 pub numbered-gathered : (kept : List Rule) → gathered kept (range_with_len 0 (length kept)) ≡ kept
 numbered-gathered kept = sym (fill_by_all (λ place. slice_index_or kept place no_rule) kept (length kept) no_rule refl (λ k low. refl))

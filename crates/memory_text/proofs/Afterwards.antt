@@ -39,12 +39,6 @@ even_within slots many place lt some =
     let k : 0 < 2 * many = omega (arith, lt) in
     (div-lt_iff_lt-mul k).1 (subst (λ n. (2 * place + 1) * slots < n) (mul_comm (2 * many) slots) ahead)
 
--- it can be counted
-pub even_small : (slots place : ℕ) → place < 262144 → slots ≤ 262144 → (2 * place + 1) * slots < 2 ^ 64
-even_small slots place lt le =
-    let most : (2 * place + 1) * slots ≤ 524288 * 262144 = mul-le-mul (let e : 2 * place + 1 ≤ 524288 = omega (arith, lt) in e) le in
-    omega (arith, most)
-
 -- one write more
 pub after_more : (names : List (List ℕ)) (slots : List (Option Entry)) (puts : List Put) (k : ℕ) (p : Put) → p ≡ get_or puts k p → k < length puts →
     set (after slots (writes_of names (take k puts))) p.slot (option_map (entry_of names) p.entry) ≡ after slots (writes_of names (take (k + 1) puts))

@@ -19,12 +19,6 @@ extends_as old new e = record {
   spelled = λ named. subst AreSpelled (sym e) named;
 }
 
-pub extends_on : (a b c : Names) → Extends a b → Extends b c → Extends a c
-extends_on a b c h g = record {
-  grow = grow-on a b c h.grow g.grow;
-  spelled = λ named. g.spelled (h.spelled named);
-}
-
 -- with a decision's name
 with_text : (text name : List ℕ) → bytes_eq text miss ≡ false → decided text ≡ Some text
 with_text text name other = rw other refl

@@ -47,12 +47,6 @@ numbered_more old new slots grown all =
     let more = longer old new grown.grow in
     All-weaker (λ (x : Option code_entry.Entry). number_in x ≤ length old) (λ (x : Option code_entry.Entry). number_in x ≤ length new) (λ x le. omega (arith, le, more)) slots all
 
-pub numbered_set : (old new : List (List ℕ)) (slots items : List (Option code_entry.Entry)) (k : ℕ) (held : Option code_entry.Entry) → Extends old new → AreNumbered (length old) slots → items ≡ set slots k held →
-    number_in held ≤ length new → AreNumbered (length new) items
-numbered_set old new slots items k held grown all is le =
-    let P = λ (x : Option code_entry.Entry). number_in x ≤ length new in
-    All-same P items (set slots k held) is (All-set P slots k held le (numbered_more old new slots grown all))
-
 -- a write stands behind others
 pub writes_push : (old new : List (List ℕ)) (puts items : List Put) (p : Put) (w : Write) → Extends old new → AreNumberedPuts (length old) puts → items ≡ puts ++ p ∷ [] → write_of new p ≡ w → writes_of new items ≡ writes_of old puts ++ w ∷ []
 writes_push old new puts items p w grown all is same =

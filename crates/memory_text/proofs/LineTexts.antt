@@ -21,10 +21,6 @@ use Rattle.memory_text.specs.MemoryText.{slot_entry, write_line, write_text}
 use Rattle.memory_text.specs.Views.{write_of}
 use Rattle.memory_text.proofs.HeadingTexts.{from_one}
 
--- the text in front of a space
-pub word-joined : (word rest : List ℕ) → list_all (is_other 32) word ≡ true → first_word (word ++ 32 ∷ rest) ≡ (word, rest)
-word-joined word rest h = rw (split_once-joined 32 word rest h) refl
-
 -- the name with any number, or none
 name_beyond : (names : List (List ℕ)) (k : ℕ) → length names ≤ k → slice_get names k ≡ None
 name_beyond [] k h = refl

@@ -58,12 +58,6 @@ resumed-all kind slots stated from front lines =
     let none : stated - stated ≡ 0 = omega arith in
     ap (λ n. with_front front (writes_in kind slots (stated + 2) from (take n lines))) none ∙ ap (λ ws. Ok ws) (append-nil front)
 
--- no line is left
-pub resumed-none : (kind : TextKind) (slots stated place from : ℕ) (front : List Write) → resumed kind slots stated front place from [] ≡ Ok front
-resumed-none kind slots stated place from front =
-    let none : take (stated - place) [] ≡ [] = grind (arith, common_steps) in
-    ap (λ (ls : List Line). with_front front (writes_in kind slots (place + 2) from ls)) none ∙ ap (λ ws. Ok ws) (append-nil front)
-
 -- as many lines were found as were stated
 pub counted_same : (kind : TextKind) (heading : Heading) (found : ℕ) (read : Result (List Write) (BadLine SlotReason)) (writes : List Write) → read ≡ Ok writes → found ≡ heading.lines →
     counted kind heading found read ≡ Ok (record { slots = heading.slots; width = heading.width; writes = writes })

@@ -48,9 +48,6 @@ lines_rest names slots k =
     sym (lines-append 0 (slots_of names (take k slots)) (slots_of names (drop k slots)))
     ∙ ap (slot_lines 0) (sym (map-append view (take k slots) (drop k slots))) ∙ ap (λ xs. slot_lines 0 (slots_of names xs)) (take-append-drop k slots)
 
-pub lines_all : (names : List (List ℕ)) (slots : List (Option code_entry.Entry)) (k : ℕ) → length slots ≤ k → slot_lines 0 (slots_of names (take k slots)) ≡ slot_lines 0 (slots_of names slots)
-lines_all names slots k le = ap (λ xs. slot_lines 0 (slots_of names xs)) (take_all k slots le)
-
 -- as many slots hold an entry
 pub as_many : (names : List (List ℕ)) (slots : List (Option code_entry.Entry)) → count_by is_some slots ≡ length (entries_in (slots_of names slots))
 as_many names [] = refl

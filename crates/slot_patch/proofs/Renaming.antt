@@ -37,9 +37,6 @@ entries_kept before now (e ∷ es) g h =
     ap (λ (x : words.Entry). x ∷ map (entry_of now) es) one
     ∙ ap (λ (xs : List words.Entry). entry_of before e ∷ xs) (entries_kept before now es g (All-tail (UpTo (length before)) e es h))
 
-pub table-kept : (before now : Names) (slots : List (Option Entry)) → Grow before now → AreNumbered (length before) (entries_in slots) → table_in now slots ≡ table_in before slots
-table-kept before now slots g h = entries_kept before now (entries_in slots) g h
-
 pub grown : (before now : Names) → Grow before now → length before ≤ length now
 grown before now g = let e = ap length g.1 in let long = length-append before g.0 in omega (arith, e, long)
 
