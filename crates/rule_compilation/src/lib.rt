@@ -5,7 +5,7 @@
 //! redundant.
 //!
 //! ```text
-//! let table = compile(alloc, &list.rules, &list.names, 262_144, 144)?;
+//! let table = compile(alloc, &list.rules, &list.names, limit, slot)?;
 //! ```
 //!
 //! [`compile_in`] reads the fields in another order, in which the least cost may be another, and [`compose_in`] gives

@@ -5,7 +5,7 @@
 //! times 480 for two ports of sixteen ranges each.
 //!
 //! ```text
-//! let table = expand(alloc, &list.rules, &list.names, 262_144, 144)?;
+//! let table = expand(alloc, &list.rules, &list.names, limit, slot)?;
 //! ```
 //!
 //! What is promised:

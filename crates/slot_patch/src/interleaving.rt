@@ -67,11 +67,7 @@ fn push_gap(
         let passed = slot_or(slots, old, high)
             .saturating_sub(gap.low)
             .saturating_sub(before);
-        let above = if wanted > free {
-            share(before, wanted, olds)
-        } else {
-            share(passed, wanted, free)
-        };
+        let above = share(passed, wanted, free);
         wishes.push(gap.start.new.saturating_add(above))?;
     }
     Ok(())

@@ -1,7 +1,7 @@
 use Rattle.std.proofs.Common.{[]}
 use Rattle.std.proofs.lemmas.List.Elements.{All-append, All-drop, All-nil, All-same, All-take}
 use Rattle.field_boxes.specs.NamedRules.{IsNumberedBy}
-use Rattle.list_tests.proofs.tests.diagrams.recompiling.edited.Goals as goal
+use Rattle.library_tests.proofs.tests.lists.diagrams.recompiling.edited.Goals as goal
 
 pub returns : goal.returns
 returns c =

@@ -1,5 +1,5 @@
 //! Rows of certificates as they are written.
-use crate::tests::boxes::protocols;
+use crate::tests::lists::boxes::protocols;
 use partition_check::{Row, write_row};
 use razor_base::MemSink;
 use std::test::Fail;

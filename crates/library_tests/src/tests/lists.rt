@@ -1,4 +1,4 @@
-//! The tests, by what they are about.
+//! Rule lists, and what is made of them.
 
 mod boxes;
 mod diagrams;

@@ -3,7 +3,7 @@ ghost use Rattle.std.specs.Prelude.{◌≡◌};
 ghost use Rattle.field_boxes.specs.Headline.Fields.{stated};
 ghost use Rattle.node_store.specs.Diagram.{level_of};
 
-use crate::tests::boxes::{ADDRESSES, PORTS, protocols};
+use crate::tests::lists::boxes::{ADDRESSES, PORTS, protocols};
 use fdd_build::{build, over, under, under_rule};
 use fdd_ops::agrees_where;
 use field_boxes::{Header, Ports, Rule, Span};

@@ -1,4 +1,4 @@
-//! The tests, by what they are about.
+//! Memories whose tables are replaced.
 
 mod action;
 mod bank;

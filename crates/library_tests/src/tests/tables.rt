@@ -1,4 +1,4 @@
-//! The tests, by what they are about.
+//! Ternary tables.
 
 mod covers;
 mod index;

@@ -1,7 +1,7 @@
 use Rattle.std.proofs.Common.{ℕ, List, subst, sym}
 use Rattle.std.specs.Prelude.{All}
 use Rattle.field_boxes.specs.NamedRules.{IsNumberedBy}
-use Rattle.memory_tests.proofs.tests.sessions.compiled_of.Goals as goal
+use Rattle.library_tests.proofs.tests.memories.sessions.compiled_of.Goals as goal
 
 pub compile-requires : goal.compile-requires
 compile-requires c =
