@@ -1,12 +1,11 @@
 //! What is kept of a list that was shortened.
 
 use crate::differences::Differences;
-use crate::ordering::in_old_order;
 use field_boxes::Rule;
 use razor_base::Memory;
 use rule_expansion::expanded_entries;
 use std::alloc::Global;
-use table_search::repaired;
+use table_search::{in_old_order, repaired, stands_after};
 use ternary_words::{Entry, Word};
 
 /// Rules that are edited at once at most, on either side.
@@ -21,12 +20,13 @@ const MOST_REPAIRS: u32 = 32;
 /// A word of so many bits, or of fewer, is broad.
 const BROAD: u32 = 16;
 
-/// The rules of a list, and the entries of their table. Nothing is promised of it.
+/// The rules of a list, the entries of their table, and where these stand in the memory. Nothing is promised of it.
 #[derive(Drop)]
 pub(crate) struct Known {
     alloc: Global,
     rules: Vec<Rule>,
     entries: Vec<Entry>,
+    stands: Vec<u32>,
     /// A table is made anew where a repaired one has more entries than this, or no repair is left.
     most: usize,
     left: u32,
@@ -35,21 +35,29 @@ pub(crate) struct Known {
 }
 
 impl Known {
-    /// Of rules whose table was made anew.
+    /// Of rules whose table was made anew, and stands evenly.
     pub fn new(alloc: Global, rules: &[Rule], entries: &[Entry]) -> Result<Known, Memory> {
         Ok(Known {
             alloc,
             rules: Vec::from_slice(alloc, rules)?,
             entries: Vec::from_slice(alloc, entries)?,
+            stands: stands_after(alloc, &[], &[], entries)?,
             most: grown(entries.len()),
             left: MOST_REPAIRS,
             has_tried: false,
         })
     }
 
+    /// Of rules whose table was made anew, and stands in the place of this one.
+    pub fn replaced(&self, rules: &[Rule], entries: &[Entry]) -> Result<Known, Memory> {
+        let mut known = Known::new(self.alloc, rules, entries)?;
+        known.stands = stands_after(self.alloc, &self.entries, &self.stands, entries)?;
+        Ok(known)
+    }
+
     /// Of rules whose table is this one, repaired.
     pub fn followed(&self, rules: &[Rule], entries: &[Entry]) -> Result<Known, Memory> {
-        let mut followed = Known::new(self.alloc, rules, entries)?;
+        let mut followed = self.replaced(rules, entries)?;
         followed.most = self.most;
         followed.left = self.left.saturating_sub(1);
         Ok(followed)
@@ -85,12 +93,13 @@ impl Known {
         anew: Option<&[Entry]>,
     ) -> Result<Option<Vec<Entry>>, Memory> {
         if let Some(entries) = anew {
-            return Ok(Some(in_old_order(self.alloc, &self.entries, entries)?));
+            let ordered = in_old_order(self.alloc, &self.entries, &self.stands, entries)?;
+            return Ok(Some(ordered));
         }
         let Some(words) = self.edited_words(rules)? else {
             return Ok(None);
         };
-        Ok(repaired(self.alloc, &self.entries, list, &words)?)
+        Ok(repaired(self.alloc, &self.entries, &self.stands, list, &words)?)
     }
 
     /// The words in which the edit of the kept rules to these can show; none where they are too many.

@@ -42,7 +42,6 @@ mod draft;
 mod known;
 mod laying;
 mod ordered;
-mod ordering;
 mod refusal;
 mod searching;
 mod shortener;

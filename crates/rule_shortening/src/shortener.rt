@@ -126,7 +126,7 @@ impl Shortener {
             return None;
         }
         let table = self.in_old_order(task, table);
-        let Ok(made) = Known::new(self.alloc, task.rules, &table.entries) else {
+        let Ok(made) = self.known(task.rules, &table.entries) else {
             return None;
         };
         self.made = Some(made);
@@ -176,8 +176,16 @@ impl Shortener {
             (IsRefused (named_rules task.entry.names.now task.entry.rules.now) task.entry.limit.count) }
     {
         let table = shorten(self.alloc, task.rules, task.names, task.limit, task.slot)?;
-        self.made = Some(Known::new(self.alloc, task.rules, &table.entries)?);
+        self.made = Some(self.known(task.rules, &table.entries)?);
         Ok(table)
+    }
+
+    /// What is known of rules whose table was made anew.
+    fn known(&self, rules: &[Rule], entries: &[Entry]) -> Result<Known, Memory> {
+        match &self.settled {
+            Some(known) => known.replaced(rules, entries),
+            None => Known::new(self.alloc, rules, entries),
+        }
     }
 }
 

@@ -1,8 +1,8 @@
 //! A table with new rows, made shorter by local steps that leave the other rows where they are.
 
 use crate::effort::{REPAIR_REACH, REPAIR_ROUNDS};
-use crate::placing::{Placed, spread};
-use crate::rows::{entries_of, push_rows};
+use crate::placing::{Placed, entries_placed, spread};
+use crate::rows::push_rows;
 use crate::search::Search;
 use entry_index::{Cube, Row, Table};
 use razor_base::Memory;
@@ -58,8 +58,8 @@ impl Mending {
         self.sink(REPAIR_REACH)
     }
 
-    /// The entries as they are now, the new ones spread over the places where they may stand.
-    pub fn entries(&self) -> Result<Vec<Entry>, Memory> {
+    /// The entries as they are now, the new ones where there is room between the old ones, which stand there.
+    pub fn entries(&self, stands: &[u32]) -> Result<Vec<Entry>, Memory> {
         let mut placed = Vec::with_capacity(self.alloc, self.table.len())?;
         for id in &self.table.ids(self.alloc)? {
             placed.push(Placed {
@@ -68,12 +68,8 @@ impl Mending {
                 at_home: !self.is_new(*id),
             })?;
         }
-        spread(&mut placed)?;
-        let mut rows = Vec::with_capacity(self.alloc, placed.len())?;
-        for one in &placed {
-            rows.push(one.row)?;
-        }
-        entries_of(self.alloc, &rows)
+        spread(&mut placed, stands)?;
+        entries_placed(self.alloc, &placed)
     }
 
     /// Whether the row with the id is new.

@@ -1,5 +1,8 @@
 //! A table that is made anew, in the order of the one before.
 
+use crate::placing::{Placed, entries_placed, sink, spread};
+use crate::rows::row_of;
+use crate::stands::{old_places, rising};
 use razor_base::Memory;
 use std::alloc::Global;
 use ternary_words::Entry;
@@ -23,12 +26,13 @@ impl Ranked {
     }
 }
 
-/// The entries in an order much like that of the old ones, so that few writes lead from one table to the other. Entries that
-/// can't change places keep their order: either the earlier one comes up, or the later one goes down, whichever of both leaves
-/// more words in the old order.
-pub(crate) fn in_old_order(
+/// The entries in an order much like that of the old ones, which stand there in a memory: few writes lead from one table to the
+/// other. Entries that can't change places keep their order: either the earlier one comes up, or the later one goes down,
+/// whichever of both leaves more words in the old order. What doesn't stay then comes where there is room.
+pub fn in_old_order(
     alloc: Global,
     old: &[Entry],
+    stands: &[u32],
     new: &[Entry],
 ) -> Result<Vec<Entry>, Memory> {
     if old.len() > MOST_ORDERED || new.len() > MOST_ORDERED {
@@ -40,22 +44,22 @@ pub(crate) fn in_old_order(
     lower(&mut down);
     up.sort_by_key(|ranked: &Ranked| ranked.wish)?;
     down.sort_by_key(|ranked: &Ranked| ranked.wish)?;
-    if rising(alloc, &up)? >= rising(alloc, &down)? {
-        return entries_of(alloc, &up);
+    if in_order(alloc, &up)?.len() >= in_order(alloc, &down)?.len() {
+        return parted(alloc, &up, stands);
     }
-    entries_of(alloc, &down)
+    parted(alloc, &down, stands)
 }
 
 /// The new entries: each wants to stand where its word stood, or else where the next one wants to.
 fn with_wishes(alloc: Global, old: &[Entry], new: &[Entry]) -> Result<Vec<Ranked>, Memory> {
     let mut all = Vec::with_capacity(alloc, new.len())?;
     let mut wish = old.len();
-    for entry in new.iter().rev() {
-        let place = old.iter().position(|other| other.word == entry.word);
+    let places = old_places(alloc, old, new)?;
+    for (entry, place) in new.iter().zip(&places).rev() {
         wish = place.unwrap_or(wish);
         all.push(Ranked {
             entry: *entry,
-            old: place,
+            old: *place,
             wish,
         })?;
     }
@@ -114,26 +118,31 @@ fn set_wish(all: &mut Vec<Ranked>, place: usize, wish: Option<usize>) {
     }
 }
 
-/// How many words can stand in the old order at most.
-fn rising(alloc: Global, all: &[Ranked]) -> Result<usize, Memory> {
-    let mut tops: Vec<usize> = Vec::with_capacity(alloc, all.len())?;
+/// The most entries whose words stand in the old order, by their places in both.
+fn in_order(alloc: Global, all: &[Ranked]) -> Result<Vec<(usize, usize)>, Memory> {
+    let mut places = Vec::with_capacity(alloc, all.len())?;
     for ranked in all {
-        if let Some(place) = ranked.old {
-            let pile = tops.partition_point(|&top| top < place);
-            match tops.get_mut(pile) {
-                Some(top) => *top = place,
-                None => tops.push(place)?,
-            }
-        }
+        places.push(ranked.old)?;
     }
-    Ok(tops.len())
+    rising(alloc, &places)
 }
 
-/// The entries as they stand.
-fn entries_of(alloc: Global, all: &[Ranked]) -> Result<Vec<Entry>, Memory> {
-    let mut entries = Vec::with_capacity(alloc, all.len())?;
+/// The entries, those that don't stay where there is room between the old ones.
+fn parted(alloc: Global, all: &[Ranked], stands: &[u32]) -> Result<Vec<Entry>, Memory> {
+    let mut rows = Vec::with_capacity(alloc, all.len())?;
     for ranked in all {
-        entries.push(ranked.entry)?;
+        rows.push(Placed {
+            row: row_of(&ranked.entry),
+            home: ranked.old,
+            at_home: false,
+        })?;
     }
-    Ok(entries)
+    for (place, _) in &in_order(alloc, all)? {
+        if let Some(placed) = rows.get_mut(*place) {
+            placed.at_home = true;
+        }
+    }
+    sink(&mut rows)?;
+    spread(&mut rows, stands)?;
+    entries_placed(alloc, &rows)
 }

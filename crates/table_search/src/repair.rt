@@ -10,10 +10,12 @@ use ternary_words::{Entry, Word};
 
 /// Entries for a list that was edited, from those that stood for it before; most of them stay. None where too much was edited.
 ///
-/// `list` are the entries of the list as it is now, and `words` those of the edit: outside of them nothing changed.
+/// `list` are the entries of the list as it is now, and `words` those of the edit: outside of them nothing changed. New entries come
+/// where there is room between the old ones, each of which stands there in a memory: numbers that rise, from 0 to `u32::MAX`.
 pub fn repaired(
     alloc: Global,
     old: &[Entry],
+    stands: &[u32],
     list: &[Entry],
     words: &[Word],
 ) -> Result<Option<Vec<Entry>>, Memory> {
@@ -25,7 +27,7 @@ pub fn repaired(
     };
     let mut mending = Mending::new(alloc, front, old)?;
     mending.settle(&cubes)?;
-    Ok(Some(mending.entries()?))
+    Ok(Some(mending.entries(stands)?))
 }
 
 /// The words' cubes, the widest first.
