@@ -10,14 +10,7 @@ use Rattle.slot_patch.specs.declared.pair.Link.{Link}
 use Rattle.slot_patch.specs.declared.piles.Piles.{Piles}
 use Rattle.slot_patch.proofs.Builders.{get-front, get-last}
 use Rattle.slot_patch.proofs.Counts.{at-laid, beside-laid, laid-same-length, length-laid}
-
--- pairs from later places on are pairs from earlier ones on
-pub shared-from : (old new : List Entry) (i j m n : ℕ) (pairs : List Pair) → m ≤ i → n ≤ j → AreShared old new i j pairs → AreShared old new m n pairs
-shared-from old new i j m n [] x y h = let a = h.0 in let b = h.1 in (omega (arith, x, a), omega (arith, y, b))
-shared-from old new i j m n (p ∷ pairs) x y h =
-    let a = h.0.old_from in
-    let b = h.0.new_from in
-    (record { old_from = omega (arith, x, a); new_from = omega (arith, y, b); word = h.0.word }, h.1)
+use Rattle.slot_patch.proofs.Trimming.{places-within, shared-from}
 
 -- links that are put down later don't matter
 follows-more : (links more : List Link) (at : Option ℕ) (pairs : List Pair) → Follows links at pairs → Follows (links ++ more) at pairs
@@ -41,12 +34,6 @@ front-pair old new pair place word is =
     let small = slice_get_within new pair.new word.b word.new_at in
     record { old_from = omega arith; new_from = omega (arith, is, small); word = word }
 
-ends : (old new : List Entry) (pair : Pair) → HaveOneWordAt old new pair.old pair.new → AreShared old new (suc pair.old) (suc pair.new) []
-ends old new pair word =
-    let a = slice_get_within old pair.old word.a word.old_at in
-    let b = slice_get_within new pair.new word.b word.new_at in
-    (omega (arith, a), omega (arith, b))
-
 -- what a new link leads on to: nothing on the first pile, and else the top of the pile before
 abbrev pub LeadsOn : List Entry → List Entry → List Link → Pair → ℕ → ℕ → Option ℕ → Type 0
 LeadsOn old new links pair place zero behind = behind ≡ None
@@ -62,7 +49,7 @@ new-chain old new links pair place zero behind word is on =
       pairs = pair ∷ [];
       many = refl;
       leads = (behind, get-last links link, subst (λ (o : Option ℕ). Follows (links ++ link ∷ []) o []) (sym on) tt);
-      shared = (front-pair old new pair place word is, ends old new pair word);
+      shared = (front-pair old new pair place word is, places-within old new pair.old pair.new word);
     }
 new-chain old new links pair place (suc k) behind word is on =
     let link : Link = record { pair = pair; behind = behind } in

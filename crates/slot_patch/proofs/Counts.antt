@@ -1,26 +1,10 @@
 -- How many places are below a number, when one of them is lowered or one more is laid.
 use Rattle.std.proofs.Common.{◌≡◌, ◌⊎◌, ◌≢◌, ◌≤◌, ◌<◌, ◌∷◌, ◌++◌, ℕ, zero, suc, Bool, if◌then◌else◌, List, [], length, set, inl, inr, refl, ap, arith, get_or}
-use Rattle.std.proofs.lemmas.Bool.{cases_lt, lt-ltb, le-ltb}
 use Rattle.slot_patch.specs.Piles.{AreLowered, IsTaken, below, laid}
-
-abbrev one_if : Bool → ℕ → ℕ
-one_if t n = if t then suc n else n
-
-below_in : (n p : ℕ) (places : List ℕ) → p < n → below n (p ∷ places) ≡ suc (below n places)
-below_in n p places h = ap (λ t. one_if t (below n places)) (lt-ltb p n h)
-
-below_out : (n p : ℕ) (places : List ℕ) → n ≤ p → below n (p ∷ places) ≡ below n places
-below_out n p places h = ap (λ t. one_if t (below n places)) (le-ltb p n h)
-
-cons_case : (n p q : ℕ) (xs ys : List ℕ) → q ≤ p → below n xs ≤ below n ys → (p < n) ⊎ (n ≤ p) → (q < n) ⊎ (n ≤ q) → below n (p ∷ xs) ≤ below n (q ∷ ys)
-cons_case n p q xs ys le h (inl a) (inl b) = let x = below_in n p xs a in let y = below_in n q ys b in omega (arith, x, y, h)
-cons_case n p q xs ys le h (inl a) (inr b) = absurd (omega (arith, le, a, b))
-cons_case n p q xs ys le h (inr a) (inl b) = let x = below_out n p xs a in let y = below_in n q ys b in omega (arith, x, y, h)
-cons_case n p q xs ys le h (inr a) (inr b) = let x = below_out n p xs a in let y = below_out n q ys b in omega (arith, x, y, h)
 
 -- in front of as many or more a place that is no greater
 cons_lowered : (n p q : ℕ) (xs ys : List ℕ) → q ≤ p → below n xs ≤ below n ys → below n (p ∷ xs) ≤ below n (q ∷ ys)
-cons_lowered n p q xs ys le h = cons_case n p q xs ys le h (cases_lt p n) (cases_lt q n)
+cons_lowered n p q xs ys le h = grind arith
 
 -- of all piles the place at k isn't above what is laid there
 abbrev pub IsNoLess : List ℕ → ℕ → ℕ → Type 0
@@ -34,34 +18,15 @@ laid-lowered [] k x h = λ n. omega arith
 laid-lowered (y ∷ xs) zero x h = λ n. cons_lowered n y x xs xs (h (omega arith)) (omega arith)
 laid-lowered (y ∷ xs) (suc k) x h = λ n. cons_lowered n y y xs (laid xs k x) (omega arith) (laid-lowered xs k x (tail_less y xs k x h) n)
 
-more_case : (n p : ℕ) (xs : List ℕ) → below n xs ≤ below (suc n) xs → (p < n) ⊎ (n ≤ p) → (p < suc n) ⊎ (suc n ≤ p) → below n (p ∷ xs) ≤ below (suc n) (p ∷ xs)
-more_case n p xs h (inl a) (inl b) = let x = below_in n p xs a in let y = below_in (suc n) p xs b in omega (arith, x, y, h)
-more_case n p xs h (inl a) (inr b) = absurd (omega (arith, a, b))
-more_case n p xs h (inr a) (inl b) = let x = below_out n p xs a in let y = below_in (suc n) p xs b in omega (arith, x, y, h)
-more_case n p xs h (inr a) (inr b) = let x = below_out n p xs a in let y = below_out (suc n) p xs b in omega (arith, x, y, h)
-
 pub below-more : (n : ℕ) (xs : List ℕ) → below n xs ≤ below (suc n) xs
 below-more n [] = omega arith
-below-more n (p ∷ xs) = more_case n p xs (below-more n xs) (cases_lt p n) (cases_lt p (suc n))
-
-last_in : (x : ℕ) → below (suc x) (x ∷ []) ≡ 1
-last_in x = below_in (suc x) x [] (omega arith)
+below-more n (p ∷ xs) = grind (arith, below-more n xs)
 
 -- the place that was laid is below the next number, and none was there
-taken_case : (y : ℕ) (xs ys : List ℕ) (x : ℕ) → below x xs < below (suc x) ys → (y < x) ⊎ (x ≤ y) → (y < suc x) ⊎ (suc x ≤ y) → below x (y ∷ xs) < below (suc x) (y ∷ ys)
-taken_case y xs ys x h (inl a) (inl b) = let p = below_in x y xs a in let q = below_in (suc x) y ys b in omega (arith, p, q, h)
-taken_case y xs ys x h (inl a) (inr b) = absurd (omega (arith, a, b))
-taken_case y xs ys x h (inr a) (inl b) = let p = below_out x y xs a in let q = below_in (suc x) y ys b in omega (arith, p, q, h)
-taken_case y xs ys x h (inr a) (inr b) = let p = below_out x y xs a in let q = below_out (suc x) y ys b in omega (arith, p, q, h)
-
 pub laid-taken : (xs : List ℕ) (k x : ℕ) → k ≤ length xs → IsNoLess xs k x → IsTaken x xs (laid xs k x)
-laid-taken [] k x le h = let one = last_in x in omega (arith, one)
-laid-taken (y ∷ xs) zero x le h =
-    let p = below_out x y xs (h (omega arith)) in
-    let q = below_in (suc x) x xs (omega arith) in
-    let more = below-more x xs in
-    omega (arith, p, q, more)
-laid-taken (y ∷ xs) (suc k) x le h = taken_case y xs (laid xs k x) x (laid-taken xs k x (omega (arith, le)) (tail_less y xs k x h)) (cases_lt y x) (cases_lt y (suc x))
+laid-taken [] k x le h = grind arith
+laid-taken (y ∷ xs) zero x le h = let above = h (omega arith) in grind (arith, above, below-more x xs)
+laid-taken (y ∷ xs) (suc k) x le h = let rest = laid-taken xs k x (omega (arith, le)) (tail_less y xs k x h) in grind (arith, rest)
 
 pub lowered-on : (a b c : List ℕ) → AreLowered a b → AreLowered b c → AreLowered a c
 lowered-on a b c f g = λ n. let x = f n in let y = g n in omega (arith, x, y)
@@ -70,32 +35,23 @@ lowered-on a b c f g = λ n. let x = f n in let y = g n in omega (arith, x, y)
 pub taken-on : (place : ℕ) (a b c d : List ℕ) → AreLowered a b → IsTaken place b c → AreLowered c d → IsTaken place a d
 taken-on place a b c d f t g = let x = f place in let y = g (suc place) in omega (arith, x, t, y)
 
-all_case : (n p : ℕ) (xs : List ℕ) → below n xs ≤ length xs → (p < n) ⊎ (n ≤ p) → below n (p ∷ xs) ≤ suc (length xs)
-all_case n p xs h (inl a) = let x = below_in n p xs a in omega (arith, x, h)
-all_case n p xs h (inr a) = let x = below_out n p xs a in omega (arith, x, h)
-
 pub below-all : (n : ℕ) (xs : List ℕ) → below n xs ≤ length xs
 below-all n [] = omega arith
-below-all n (p ∷ xs) = all_case n p xs (below-all n xs) (cases_lt p n)
+below-all n (p ∷ xs) = grind (arith, below-all n xs)
 
 -- a list with an item laid
-
-laid_case : {X : Type 0} (y : X) (xs : List X) (n k : ℕ) → (n < length xs) ⊎ (n ≡ k) → (suc n < length (y ∷ xs)) ⊎ (suc n ≡ suc k)
-laid_case y xs n k (inl a) = inl (omega (arith, a))
-laid_case y xs n k (inr b) = inr (ap suc b)
 
 pub length-laid : {X : Type 0} (xs : List X) (k : ℕ) (x : X) → k ≤ length xs → (n : ℕ) → n < length (laid xs k x) → (n < length xs) ⊎ (n ≡ k)
 length-laid [] k x le n h = inr (omega (arith, le, h))
 length-laid (y ∷ xs) zero x le n h = inl (omega (arith, h))
 length-laid (y ∷ xs) (suc k) x le zero h = inl (omega arith)
-length-laid (y ∷ xs) (suc k) x le (suc n) h = laid_case y xs n k (length-laid xs k x (omega (arith, le)) n (omega (arith, h)))
+length-laid (y ∷ xs) (suc k) x le (suc n) h = let rest = length-laid xs k x (omega (arith, le)) n (omega (arith, h)) in grind (arith, rest)
 
 pub laid-same-length : {X Y : Type 0} (xs : List X) (ys : List Y) (k : ℕ) (x : X) (y : Y) → length xs ≡ length ys → length (laid xs k x) ≡ length (laid ys k y)
 laid-same-length [] [] k x y h = refl
-laid-same-length [] (b ∷ ys) k x y h = absurd (omega (arith, h))
-laid-same-length (a ∷ xs) [] k x y h = absurd (omega (arith, h))
 laid-same-length (a ∷ xs) (b ∷ ys) zero x y h = h
 laid-same-length (a ∷ xs) (b ∷ ys) (suc k) x y h = ap suc (laid-same-length xs ys k x y (omega (arith, h)))
+laid-same-length xs ys k x y h = absurd (omega (arith, h))
 
 pub at-laid : {X : Type 0} (xs : List X) (k : ℕ) (x d : X) → k ≤ length xs → get_or (laid xs k x) k d ≡ x
 at-laid [] zero x d h = refl

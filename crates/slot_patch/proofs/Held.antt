@@ -2,14 +2,14 @@
 use Rattle.std.proofs.Common.{◌≡◌, ◌≤◌, ◌<◌, ◌+◌, ◌-◌, ◌∷◌, nat_eq, true, Bool, ℕ, zero, suc, List, [], Option, Some, None, length, take, slice_get, if◌then◌else◌, refl, ap, sym, ◌∙◌, subst, arith, length-append}
 use Rattle.std.specs.Option.{option_to_list}
 use Rattle.std.proofs.lemmas.Bool.{eq-eqb, ne_eqb}
-use Rattle.std.proofs.lemmas.Option.{none-some}
+use Rattle.std.proofs.lemmas.Option.{none-some, slice_get-get_or}
 use Rattle.ternary_words.specs.declared.entry.Entry.{Entry}
 use Rattle.bank_update.specs.Standing.{entries_in}
 use Rattle.slot_patch.specs.Held.{StandIn, held_by, is_slot}
 use Rattle.slot_patch.specs.InPlace.{at}
 use Rattle.slot_patch.specs.Ordered.{places}
 use Rattle.std.proofs.Math.Seq.{take-length}
-use Rattle.slot_patch.proofs.Merges.{standing-more, take-none}
+use Rattle.slot_patch.proofs.Merges.{standing-more}
 use Rattle.slot_patch.proofs.Outlines.{length-places}
 
 abbrev Slots : Type 0
@@ -18,9 +18,6 @@ Slots = List (Option Entry)
 -- how many entries stand before a slot
 abbrev pub count_before : ℕ → Slots → ℕ
 count_before k held = length (entries_in (take k held))
-
-pub none-before : (held : Slots) → count_before 0 held ≡ 0
-none-before held = ap (λ (s : Slots). length (entries_in s)) (take-none held)
 
 -- no slot is before the first
 not-before : (j : ℕ) (held : Slots) (n p : ℕ) → slice_get (places j held) n ≡ Some p → j ≤ p
@@ -32,7 +29,7 @@ not-before j (Some e ∷ held) (suc n) p h = let rest = not-before (suc j) held 
 -- the slots of the entries that stand before one are before it
 is-before : (j : ℕ) (held : Slots) (k n p : ℕ) → n < count_before k held → slice_get (places j held) n ≡ Some p → p < j + k
 is-before j [] k n p small h = absurd (none-some p h)
-is-before j (x ∷ held) zero n p small h = let none = none-before (x ∷ held) in absurd (omega (arith, none, small))
+is-before j (x ∷ held) zero n p small h = absurd (omega (arith, small))
 is-before j (None ∷ held) (suc k) n p small h = let rest = is-before (suc j) held k n p small h in omega (arith, rest)
 is-before j (Some e ∷ held) (suc k) zero p small h = let e : j ≡ p = cc in omega (arith, e)
 is-before j (Some e ∷ held) (suc k) (suc n) p small h = let rest = is-before (suc j) held k n p (omega (arith, small)) h in omega (arith, rest)
@@ -49,14 +46,9 @@ other-slot slots entries n slot other = other-case entries (slice_get slots n) n
 found-from : (j : ℕ) (held : Slots) (k : ℕ) (x : Option Entry) → slice_get held k ≡ Some x → held_by (places j held) (entries_in held) (count_before k held) (j + k) ≡ x
 found-from j [] k x h = absurd (none-some x h)
 found-from j (None ∷ held) zero x h =
-    let none = none-before (None ∷ held) in
-    subst (λ n. held_by (places (suc j) held) (entries_in held) n (j + 0) ≡ x) (sym none)
-    (other-slot (places (suc j) held) (entries_in held) 0 (j + 0) (λ p at same. let less = not-before (suc j) held 0 p at in omega (arith, less, same)) ∙ (let e : None ≡ x = cc in e))
+    other-slot (places (suc j) held) (entries_in held) 0 (j + 0) (λ p at same. let less = not-before (suc j) held 0 p at in omega (arith, less, same)) ∙ (let e : None ≡ x = cc in e)
 found-from j (Some e ∷ held) zero x h =
-    let none = none-before (Some e ∷ held) in
-    let same : nat_eq j (j + 0) ≡ true = eq-eqb j (j + 0) (let e : j ≡ j + 0 = omega arith in e) in
-    subst (λ n. held_by (j ∷ places (suc j) held) (e ∷ entries_in held) n (j + 0) ≡ x) (sym none)
-    (ap (λ (t : Bool). let o : Option Entry = if t then Some e else None in o) same ∙ (let e : Some e ≡ x = cc in e))
+    ap (λ (t : Bool). let o : Option Entry = if t then Some e else None in o) (eq-eqb j (j + 0) (let e : j ≡ j + 0 = omega arith in e)) ∙ (let e : Some e ≡ x = cc in e)
 found-from j (None ∷ held) (suc k) x h =
     subst (λ n. held_by (places (suc j) held) (entries_in held) (count_before k held) n ≡ x) (let e : suc j + k ≡ j + suc k = omega arith in e) (found-from (suc j) held k x h)
 found-from j (Some e ∷ held) (suc k) x h =
@@ -83,29 +75,24 @@ found-back held k x h = back_case held k (count_before (suc k) held) x h (count-
 
 -- the same of a slot as the code has it
 
-there : (held : Slots) (k : ℕ) → k < length held → slice_get held k ≡ Some (at held k)
-there [] k small = absurd (omega (arith, small))
-there (x ∷ held) zero small = refl
-there (x ∷ held) (suc k) small = there held k (omega (arith, small))
-
 stands : (held : Slots) (slots : List ℕ) (entries : List Entry) (n m k : ℕ) (x : Option Entry) → StandIn held slots entries → n ≡ m → held_by (places 0 held) (entries_in held) m k ≡ x → held_by slots entries n k ≡ x
 stands held slots entries n m k x stand is h =
     ap (λ (i : ℕ). held_by slots entries i k) is ∙ ap (λ (ns : List ℕ). held_by ns entries m k) (sym stand.0) ∙ ap (λ (es : List Entry). held_by (places 0 held) es m k) (sym stand.1) ∙ h
 
 pub found-in : (held : Slots) (slots : List ℕ) (entries : List Entry) (k n : ℕ) → k < length held → StandIn held slots entries → n ≡ count_before k held → held_by slots entries n k ≡ at held k
-found-in held slots entries k n small stand is = stands held slots entries n (count_before k held) k (at held k) stand is (found held k (at held k) (there held k small))
+found-in held slots entries k n small stand is = stands held slots entries n (count_before k held) k (at held k) stand is (found held k (at held k) (slice_get-get_or held k None small))
 
 pub found-in-back : (held : Slots) (slots : List ℕ) (entries : List Entry) (k n : ℕ) → k < length held → StandIn held slots entries → n ≡ count_before (suc k) held → held_by slots entries (n - 1) k ≡ at held k
 found-in-back held slots entries k n small stand is =
-    stands held slots entries (n - 1) (count_before (suc k) held - 1) k (at held k) stand (ap (λ m. m - 1) is) (found-back held k (at held k) (there held k small))
+    stands held slots entries (n - 1) (count_before (suc k) held - 1) k (at held k) stand (ap (λ m. m - 1) is) (found-back held k (at held k) (slice_get-get_or held k None small))
 
 pub count-next : (held : Slots) (k n : ℕ) (x : Option Entry) → k < length held → n ≡ count_before k held → x ≡ at held k → n + length (option_to_list x) ≡ count_before (suc k) held
 count-next held k n x small is same =
-    ap (λ m. m + length (option_to_list x)) is ∙ ap (λ (y : Option Entry). count_before k held + length (option_to_list y)) same ∙ sym (count-more held k (at held k) (there held k small))
+    ap (λ m. m + length (option_to_list x)) is ∙ ap (λ (y : Option Entry). count_before k held + length (option_to_list y)) same ∙ sym (count-more held k (at held k) (slice_get-get_or held k None small))
 
 pub count-last : (held : Slots) (k n : ℕ) (x : Option Entry) (one : ℕ) → k < length held → n ≡ count_before (suc k) held → x ≡ at held k → one ≡ length (option_to_list x) → n - one ≡ count_before k held
 count-last held k n x one small is same count =
-    let more = count-more held k (at held k) (there held k small) in
+    let more = count-more held k (at held k) (slice_get-get_or held k None small) in
     let long = ap (λ (y : Option Entry). length (option_to_list y)) same in
     omega (arith, more, is, count, long)
 

@@ -23,23 +23,19 @@ skip (suc n) (suc d) = suc (skip n d)
 
 skip_on : (n d e : ℕ) → d ≤ e → skip n d ≤ skip n e
 skip_on zero zero e h = omega arith
-skip_on zero (suc d) zero h = absurd (omega (arith, h))
 skip_on zero (suc d) (suc e) h = omega (arith, h)
-skip_on (suc n) zero e h = omega arith
-skip_on (suc n) (suc d) zero h = absurd (omega (arith, h))
-skip_on (suc n) (suc d) (suc e) h = let rest = skip_on n d e (omega (arith, h)) in omega (arith, rest)
+skip_on (suc n) (suc d) (suc e) h = omega (arith, skip_on n d e (omega (arith, h)))
+skip_on n d e h = omega arith
 
 skip_most : (n d : ℕ) → skip n d ≤ suc d
-skip_most zero zero = omega arith
 skip_most zero (suc d) = omega arith
-skip_most (suc n) zero = omega arith
-skip_most (suc n) (suc d) = let rest = skip_most n d in omega (arith, rest)
+skip_most (suc n) (suc d) = omega (arith, skip_most n d)
+skip_most n d = omega arith
 
 skip_behind : (n d : ℕ) → n < d → skip n d ≡ suc d
-skip_behind zero zero h = absurd (omega (arith, h))
 skip_behind zero (suc d) h = refl
-skip_behind (suc n) zero h = absurd (omega (arith, h))
 skip_behind (suc n) (suc d) h = ap suc (skip_behind n d (omega (arith, h)))
+skip_behind n d h = omega arith
 
 -- how many of the states are among the first ones
 abbrev cut : ℕ → ℕ → ℕ
@@ -49,22 +45,16 @@ cut zero (suc (suc m)) = suc m
 cut (suc n) (suc m) = suc (cut n m)
 
 below_cut : (n m d : ℕ) → d < cut n m → skip n d < m
-below_cut n zero d h = absurd (omega (arith, h))
 below_cut zero (suc zero) zero h = omega arith
-below_cut zero (suc zero) (suc d) h = absurd (omega (arith, h))
-below_cut zero (suc (suc m)) zero h = omega arith
 below_cut zero (suc (suc m)) (suc d) h = omega (arith, h)
-below_cut (suc n) (suc m) zero h = omega arith
-below_cut (suc n) (suc m) (suc d) h = let rest = below_cut n m d (omega (arith, h)) in omega (arith, rest)
+below_cut (suc n) (suc m) (suc d) h = omega (arith, below_cut n m d (omega (arith, h)))
+below_cut n m d h = omega arith
 
 above_cut : (n m d : ℕ) → cut n m ≤ d → m ≤ skip n d
-above_cut n zero d h = omega arith
-above_cut zero (suc zero) zero h = absurd (omega (arith, h))
 above_cut zero (suc zero) (suc d) h = omega arith
-above_cut zero (suc (suc m)) zero h = absurd (omega (arith, h))
 above_cut zero (suc (suc m)) (suc d) h = omega (arith, h)
-above_cut (suc n) (suc m) zero h = absurd (omega (arith, h))
-above_cut (suc n) (suc m) (suc d) h = let rest = above_cut n m d (omega (arith, h)) in omega (arith, rest)
+above_cut (suc n) (suc m) (suc d) h = omega (arith, above_cut n m d (omega (arith, h)))
+above_cut n m d h = omega arith
 
 cut_case : (n m all : ℕ) → n < all → m ≤ suc all → (all < cut n m) ⊎ (cut n m ≤ all) → cut n m ≤ all
 cut_case n m all less most (inl more) = let low = below_cut n m all more in let is = skip_behind n all less in absurd (omega (arith, low, is, most))
@@ -72,9 +62,9 @@ cut_case n m all less most (inr le) = le
 
 -- the states
 
-after_first : (old : Bank) (w : Write) (writes : List Write) (d : ℕ) → after old (w ∷ writes) (suc d) ≡ after (written old (Some w)) writes d
-after_first old w writes zero = refl
-after_first old w writes (suc d) = ap (λ (bank : Bank). written bank (slice_get writes d)) (after_first old w writes d)
+pub after-first : (old : Bank) (w : Write) (writes : List Write) (d : ℕ) → after old (w ∷ writes) (suc d) ≡ after (written old (Some w)) writes d
+after-first old w writes zero = refl
+after-first old w writes (suc d) = ap (λ (bank : Bank). written bank (slice_get writes d)) (after-first old w writes d)
 
 one_write : (old : Bank) (w v : Write) → v.slot ≡ w.slot → written old (Some (joint w v)) ≡ written (written old (Some w)) (Some v)
 one_write old w v same =
@@ -84,12 +74,12 @@ same_after : (front : List Write) (w v : Write) (rest : List Write) (old : Bank)
     after old (front ++ joint w v ∷ rest) d ≡ after old (front ++ w ∷ v ∷ rest) (skip (length front) d)
 same_after [] w v rest old zero same = refl
 same_after [] w v rest old (suc d) same =
-    after_first old (joint w v) rest d ∙ ap (λ (bank : Bank). after bank rest d) (one_write old w v same)
-    ∙ sym (after_first old w (v ∷ rest) (suc d) ∙ after_first (written old (Some w)) v rest d)
+    after-first old (joint w v) rest d ∙ ap (λ (bank : Bank). after bank rest d) (one_write old w v same)
+    ∙ sym (after-first old w (v ∷ rest) (suc d) ∙ after-first (written old (Some w)) v rest d)
 same_after (f ∷ front) w v rest old zero same = refl
 same_after (f ∷ front) w v rest old (suc d) same =
-    after_first old f (front ++ joint w v ∷ rest) d ∙ same_after front w v rest (written old (Some f)) d same
-    ∙ sym (after_first old f (front ++ w ∷ v ∷ rest) (skip (length front) d))
+    after-first old f (front ++ joint w v ∷ rest) d ∙ same_after front w v rest (written old (Some f)) d same
+    ∙ sym (after-first old f (front ++ w ∷ v ∷ rest) (skip (length front) d))
 
 found_at : (front : List Write) (w v : Write) (rest : List Write) (d : ℕ) (u : Write) → slice_get (front ++ joint w v ∷ rest) d ≡ Some u →
     (slice_get (front ++ w ∷ v ∷ rest) (skip (length front) d) ≡ Some u) ⊎ ((joint w v ≡ u) × (slice_get (front ++ w ∷ v ∷ rest) (skip (length front) d) ≡ Some w))

@@ -1,22 +1,21 @@
 -- Layouts that grow by one slot.
 use Rattle.std.proofs.Common.{◌≡◌, ◌<◌, ◌+◌, ◌∷◌, ◌++◌, ℕ, zero, suc, List, [], Option, Some, None, option_map, length, take, drop, slice_get, get_or, refl, ap, sym, ◌∙◌, subst, arith, append-nil, drop-cons}
 use Rattle.std.specs.Option.{option_to_list}
-use Rattle.std.proofs.lemmas.Option.{none-some, slice_get-map, slice_get_within}
-use Rattle.std.proofs.Math.Seq.{take-length}
+use Rattle.std.proofs.lemmas.Option.{get_or_from_slice_get, none-some, slice_get-map, slice_get_within}
+use Rattle.std.proofs.Math.Seq.{take-length, take-suc}
 use Rattle.std.proofs.lemmas.List.{length-map, length-take-le, map-append}
 use Rattle.ternary_words.specs.declared.entry.Entry.{Entry}
 use Rattle.tcam_sim.specs.Slots.{stored}
 use Rattle.slot_patch.specs.Banks.{HaveOneWord, ShareWords}
-use Rattle.bank_update.specs.Standing.{bank_of}
+use Rattle.bank_update.specs.Standing.{bank_of, entries_in}
 use Rattle.slot_patch.specs.Layouts.{IsLayout}
 use Rattle.slot_patch.specs.Merging.{IsLayoutOf, IsMerged, IsSpread, entries_at, entry_at}
-use Rattle.bank_update.specs.Standing.{entries_in}
 use Rattle.slot_patch.specs.Ordered.{placed, places}
 use Rattle.slot_patch.specs.Sharing.{AreShared, HaveOneWordAt, IsPairFrom}
 use Rattle.slot_patch.specs.declared.layout.Layout.{Layout}
 use Rattle.slot_patch.specs.declared.pair.Pair.{Pair}
 use Rattle.slot_patch.specs.declared.spreading.Spread.{Spread}
-use Rattle.slot_patch.proofs.Builders.{length-more}
+use Rattle.slot_patch.proofs.Builders.{length-more, some-at}
 use Rattle.slot_patch.proofs.Telling.{words-alike}
 
 abbrev Slots : Type 0
@@ -31,9 +30,8 @@ entries-more (Some e ∷ xs) x = ap (λ (es : List Entry). e ∷ es) (entries-mo
 pub words-more : (xs ys : Slots) (x y : Option Entry) → ShareWords (bank_of xs) (bank_of ys) → HaveOneWord (option_map stored x) (option_map stored y) →
     ShareWords (bank_of (xs ++ x ∷ [])) (bank_of (ys ++ y ∷ []))
 words-more [] [] x y h w = (w, tt)
-words-more [] (b ∷ ys) x y h w = absurd h
-words-more (a ∷ xs) [] x y h w = absurd h
 words-more (a ∷ xs) (b ∷ ys) x y h w = (h.0, words-more xs ys x y h.1 w)
+words-more xs ys x y h w = absurd assumption
 
 pub places-more : (k : ℕ) (xs : Slots) (x : Option Entry) → places k (xs ++ x ∷ []) ≡ places k xs ++ placed x (k + length xs)
 places-more k [] None = refl
@@ -43,13 +41,7 @@ places-more k (Some e ∷ xs) x =
     ap (λ (ns : List ℕ). k ∷ ns) (places-more (suc k) xs x ∙ ap (λ n. places (suc k) xs ++ placed x n) (let e : suc k + length xs ≡ k + suc (length xs) = omega arith in e))
 
 pub take-more : {X : Type 0} (xs : List X) (i : ℕ) (x : X) → slice_get xs i ≡ Some x → take (suc i) xs ≡ take i xs ++ x ∷ []
-take-more [] i x h = absurd (none-some x h)
-take-more (y ∷ xs) zero x h = cc
-take-more {X = X} (y ∷ xs) (suc i) x h = ap (λ (zs : List X). y ∷ zs) (take-more xs i x h)
-
-pub take-none : {X : Type 0} (xs : List X) → take 0 xs ≡ []
-take-none [] = refl
-take-none (x ∷ xs) = refl
+take-more xs i x h = take-suc xs i x (slice_get_within xs i x h) ∙ ap (λ y. take i xs ++ y ∷ []) (get_or_from_slice_get xs i x x h)
 
 -- a slot more, in front of which so many entries stood
 abbrev pub AreNext : List Entry → ℕ → ℕ → Option Entry → Type 0
@@ -84,21 +76,16 @@ merged-more old new i j shared m n many before now p q x y h start next is_x is_
       count = omega (arith, more_start, count, counts);
     }
 
-entry-there : (es : List Entry) (k : ℕ) → k < length es → (e : Entry) × (slice_get es k ≡ Some e)
-entry-there [] k small = absurd (omega (arith, small))
-entry-there (e ∷ es) zero small = (e, refl)
-entry-there (e ∷ es) (suc k) small = entry-there es k (omega (arith, small))
-
 pub merged-new : (old new : List Entry) (i j shared : ℕ) (before now : Layout) → IsMerged old new i j shared before →
     now.start.items ≡ before.start.items ++ None ∷ [] → now.next.items ≡ before.next.items ++ Some j ∷ [] → j < length new → IsMerged old new i (suc j) shared now
 merged-new old new i j shared before now h start next small =
-    let b = entry-there new j small in
+    let b = some-at new j small in
     merged-more old new i j shared i (suc j) shared before now None (Some j) None (Some b.0) h start next refl b.1 tt (none-next old i) (take-more new j b.0 b.1) (omega arith)
 
 pub merged-old : (old new : List Entry) (i j shared : ℕ) (before now : Layout) → IsMerged old new i j shared before →
     now.start.items ≡ before.start.items ++ Some i ∷ [] → now.next.items ≡ before.next.items ++ None ∷ [] → i < length old → IsMerged old new (suc i) j shared now
 merged-old old new i j shared before now h start next small =
-    let a = entry-there old i small in
+    let a = some-at old i small in
     merged-more old new i j shared (suc i) j shared before now (Some i) None (Some a.0) None h start next a.1 refl tt (take-more old i a.0 a.1) (none-next new j) (omega arith)
 
 pub merged-both : (old new : List Entry) (i j shared : ℕ) (before now : Layout) → IsMerged old new i j shared before →
@@ -122,9 +109,6 @@ merged-all old new shared l h = record {
 pub next-shared : (old new : List Entry) (i j k : ℕ) (pairs : List Pair) (d : Pair) → k < length pairs → AreShared old new i j (drop k pairs) →
     IsPairFrom old new i j (get_or pairs k d) × AreShared old new (suc (get_or pairs k d).old) (suc (get_or pairs k d).new) (drop (suc k) pairs)
 next-shared old new i j k pairs d small h = subst (λ (ps : List Pair). AreShared old new i j ps) (drop-cons pairs k d small) h
-
-pub pair-inside : (old new : List Entry) (i j : ℕ) (p : Pair) → IsPairFrom old new i j p → (p.old < length old) × (p.new < length new)
-pair-inside old new i j p h = (slice_get_within old p.old h.word.a h.word.old_at, slice_get_within new p.new h.word.b h.word.new_at)
 
 -- slots with empty ones
 
@@ -166,13 +150,12 @@ spread-new s next slots = record {
 -- the entries of one slot have one word
 pub word-at : (start next : Slots) (k : ℕ) (x y : Option Entry) → ShareWords (bank_of start) (bank_of next) → slice_get start k ≡ Some x → slice_get next k ≡ Some y →
     HaveOneWord (option_map stored x) (option_map stored y)
-word-at [] next k x y w h g = absurd (none-some x h)
-word-at (a ∷ start) [] k x y w h g = absurd w
 word-at (a ∷ start) (b ∷ next) zero x y w h g =
     let one : a ≡ x = cc in
     let two : b ≡ y = cc in
     subst (λ (z : Option Entry). HaveOneWord (option_map stored z) (option_map stored y)) one (subst (λ (z : Option Entry). HaveOneWord (option_map stored a) (option_map stored z)) two w.0)
 word-at (a ∷ start) (b ∷ next) (suc k) x y w h g = word-at start next k x y w.1 h g
+word-at start next k x y w h g = absurd (grind arith)
 
 -- what stands at a place
 pub seen-at : (es : List Entry) (places : List (Option ℕ)) (k : ℕ) (p : Option ℕ) (x : Option Entry) → slice_get places k ≡ Some p → x ≡ entry_at es p → slice_get (entries_at es places) k ≡ Some x
@@ -190,11 +173,6 @@ spread-next start next k x y now h g s =
     let news = ap entries_in (take-more next k y g) ∙ entries-more (take k next) y in
     subst (λ (es : List Entry). IsSpread es (entries_in (take (suc k) next)) now) (sym olds)
     (subst (λ (es : List Entry). IsSpread (entries_in (take k start) ++ option_to_list x) es now) (sym news) s)
-
-pub spread-none : (start next : Slots) (now : Spread) → IsSpread [] [] now → AreSpread 0 start next now
-spread-none start next now h =
-    subst (λ (es : List Entry). IsSpread es (entries_in (take 0 next)) now) (ap entries_in (sym (take-none start)))
-    (subst (λ (es : List Entry). IsSpread [] es now) (ap entries_in (sym (take-none next))) h)
 
 pub spread-layout : (old new : List Entry) (compact : Layout) (now : Spread) (slots : ℕ) → IsLayoutOf old new compact →
     AreSpread (length compact.start.items) (entries_at old compact.start.items) (entries_at new compact.next.items) now → length now.next.items ≡ slots →

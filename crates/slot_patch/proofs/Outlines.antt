@@ -1,11 +1,10 @@
 -- Plans that are made of a layout.
 use Rattle.std.proofs.Common.{◌≡◌, ◌≤◌, ◌+◌, ◌*◌, ◌∷◌, ◌++◌, ℕ, suc, List, [], Option, Some, None, length, refl, ap, sym, ◌∙◌, subst, arith}
 use Rattle.ternary_words.specs.declared.entry.Entry.{Entry}
-use Rattle.bank_update.specs.Standing.{bank_of}
+use Rattle.bank_update.specs.Standing.{bank_of, entries_in}
 use Rattle.slot_patch.specs.InPlace.{in_place}
 use Rattle.slot_patch.specs.Layouts.{IsLayout}
 use Rattle.slot_patch.specs.Least.{least_slots, same_word}
-use Rattle.bank_update.specs.Standing.{entries_in}
 use Rattle.slot_patch.specs.Ordered.{moves_of, places}
 use Rattle.slot_patch.specs.Planning.{IsPlan}
 use Rattle.slot_patch.specs.Plans.{IsPatch}

@@ -3,6 +3,8 @@ use Rattle.std.proofs.Common.{◌≡◌, ◌≤◌, ◌<◌, ◌-◌, ◌∷◌,
 use Rattle.std.specs.Prelude.{All, IsTrue}
 use Rattle.std.proofs.lemmas.Bool.{cases_eq}
 use Rattle.std.proofs.lemmas.Option.{slice_get-map}
+use Rattle.std.proofs.lemmas.List.{get_or_append_left}
+use Rattle.std.proofs.Math.Seq.{get_or-append_seam}
 use Rattle.std.proofs.lemmas.List.Elements.{All-head, All-tail, All-nil, All-cons, All-push}
 use Rattle.slot_patch.proofs.Builders.{get-front}
 use Rattle.field_boxes.specs.Headline.Names.{miss, text_of}
@@ -12,9 +14,8 @@ use Rattle.ternary_words.specs.Views.{entry_of, word_of}
 use Rattle.ternary_words.specs.Headline.Table as words
 use Rattle.ternary_words.specs.declared.entry.Entry.{Entry}
 use Rattle.ternary_words.specs.declared.word.Word.{Word}
-use Rattle.bank_update.specs.Standing.{table_in}
+use Rattle.bank_update.specs.Standing.{table_in, entries_in}
 use Rattle.slot_patch.specs.Least.{least_slots, same_word}
-use Rattle.bank_update.specs.Standing.{entries_in}
 use Rattle.slot_patch.specs.Naming.{AreNumbersOf, ComeFrom, Grow, HaveWordsOf, renumbered}
 
 abbrev Names : Type 0
@@ -99,23 +100,14 @@ name_there [] k h = absurd (omega (arith, h))
 name_there (x ∷ names) zero h = refl
 name_there (x ∷ names) (suc k) h = name_there names k (omega (arith, h))
 
-index_front : (xs : List ℕ) (n k : ℕ) → k < length xs → slice_index (xs ++ n ∷ []) k ≡ slice_index xs k
-index_front [] n k h = absurd (omega (arith, h))
-index_front (x ∷ xs) n zero h = refl
-index_front (x ∷ xs) n (suc k) h = index_front xs n k (omega (arith, h))
-
-index_last : (xs : List ℕ) (n : ℕ) → slice_index (xs ++ n ∷ []) (length xs) ≡ n
-index_last [] n = refl
-index_last (x ∷ xs) n = index_last xs n
-
 pub numbers-more : (names before now : Names) (numbers made : List ℕ) (count n : ℕ) (text : List ℕ) → AreNumbersOf count names before numbers → Grow before now → name_at now n ≡ Some text →
     text ≡ text_of (name_at names (suc count)) → count < length names → n ≤ length now → made ≡ numbers ++ n ∷ [] → AreNumbersOf (suc count) names now made
 numbers-more names before now numbers made count n text h g name is less small made_is =
     let many = h.many in
     let long = length-append numbers (n ∷ []) in
     let more = grown before now g in
-    let last : slice_index made (suc count) ≡ n = ap (λ (ns : List ℕ). slice_index ns (suc count)) made_is ∙ ap (slice_index (numbers ++ n ∷ [])) (sym many) ∙ index_last numbers n in
-    let front = λ (k : ℕ) (le : k ≤ count). (ap (λ (ns : List ℕ). slice_index ns k) made_is ∙ index_front numbers n k (omega (arith, le, many))) in
+    let last : slice_index made (suc count) ≡ n = ap (λ (ns : List ℕ). slice_index ns (suc count)) made_is ∙ ap (slice_index (numbers ++ n ∷ [])) (sym many) ∙ get_or-append_seam numbers n [] 0 in
+    let front = λ (k : ℕ) (le : k ≤ count). (ap (λ (ns : List ℕ). slice_index ns k) made_is ∙ get_or_append_left numbers (n ∷ []) 0 k (omega (arith, le, many))) in
     record {
       many = ap length made_is ∙ (let e : length (numbers ++ n ∷ []) ≡ suc (suc count) = omega (arith, long, many) in e);
       same = λ k le. elim (cases_eq k (suc count)) [
@@ -142,27 +134,20 @@ same_either a b c h = ap (λ (w : Word). nat_eq a.word.mask w.mask && nat_eq a.w
 
 pub least-alike : (old made new : List Entry) → HaveWordsOf made new → least_slots same_word old made ≡ least_slots same_word old new
 least-alike [] [] [] h = refl
-least-alike [] [] (b ∷ new) h = absurd h
-least-alike [] (m ∷ made) [] h = absurd h
 least-alike [] (m ∷ made) (b ∷ new) h = ap suc (least-alike [] made new h.1)
 least-alike (a ∷ old) [] [] h = refl
-least-alike (a ∷ old) [] (b ∷ new) h = absurd h
-least-alike (a ∷ old) (m ∷ made) [] h = absurd h
 least-alike (a ∷ old) (m ∷ made) (b ∷ new) h =
     let x = least-alike old (m ∷ made) (b ∷ new) h in
     let y = least-alike (a ∷ old) made new h.1 in
     let z = least-alike old made new h.1 in
     let t = same_either a m b h.0 in
-    ap (λ n. suc (min (min n (least_slots same_word (a ∷ old) made)) (if same_word a m then least_slots same_word old made else n))) x
-    ∙ ap (λ n. suc (min (min (least_slots same_word old (b ∷ new)) n) (if same_word a m then least_slots same_word old made else least_slots same_word old (b ∷ new)))) y
-    ∙ ap (λ n. suc (min (min (least_slots same_word old (b ∷ new)) (least_slots same_word (a ∷ old) new)) (if same_word a m then n else least_slots same_word old (b ∷ new)))) z
-    ∙ ap (λ u. suc (min (min (least_slots same_word old (b ∷ new)) (least_slots same_word (a ∷ old) new)) (if u then least_slots same_word old new else least_slots same_word old (b ∷ new)))) t
+    cc (x, y, z, t)
+least-alike old made new h = absurd assumption
 
 pub length-words : (made new : List Entry) → HaveWordsOf made new → length made ≡ length new
 length-words [] [] h = refl
-length-words [] (b ∷ new) h = absurd h
-length-words (m ∷ made) [] h = absurd h
 length-words (m ∷ made) (b ∷ new) h = ap suc (length-words made new h.1)
+length-words made new h = absurd assumption
 
 -- a number behind the last name has none
 pub text-none : {K : Type 0} (text : K → List ℕ) (keys : List K) (n : ℕ) → (n ≡ 0 → ⊥) → slice_get keys (n - 1) ≡ None → text_of (name_at (map text keys) n) ≡ miss

@@ -2,7 +2,7 @@
 use Rattle.std.proofs.Common.{◌≡◌, ◌≤◌, ◌<◌, ◌+◌, ◌-◌, ◌∷◌, ℕ, zero, suc, min, Bool, true, false, if◌then◌else◌, List, [], Option, Some, None, length, drop, slice_get, get_or, inl, inr, refl, ap, sym, ◌∙◌, subst, arith, drop-cons}
 use Rattle.std.specs.Prelude.{slice_index_or, nat_eq, ◌&&◌}
 use Rattle.std.proofs.lemmas.Bool.{cases_eq, cases_lt, and_parts, eqb-true, eq-eqb}
-use Rattle.std.proofs.lemmas.Option.{get_or_from_slice_get, slice_get_within}
+use Rattle.std.proofs.lemmas.Option.{get_or_from_slice_get, slice_get_read, slice_get_within}
 use Rattle.std.proofs.Math.Seq.{drop-length}
 use Rattle.ternary_words.specs.declared.entry.Entry.{Entry}
 use Rattle.slot_patch.specs.Finding.{ArePlaces, HasWord, IsNext}
@@ -11,56 +11,37 @@ use Rattle.slot_patch.specs.Piles.{AreBounded, AreLaid, AreLowered, AreTaken, Is
 use Rattle.slot_patch.specs.Sharing.{HaveOneWordAt}
 use Rattle.slot_patch.specs.declared.piles.Piles.{Piles}
 use Rattle.slot_patch.specs.declared.word_places.WordPlaces.{WordPlaces}
+use Rattle.slot_patch.proofs.Builders.{some-at}
 use Rattle.slot_patch.proofs.Counts.{below-more, lowered-on, taken-on}
 
 -- the first slot is taken in one of three ways
 
-least_of : (x y z m : ℕ) → m ≤ x → m ≤ y → m ≤ z → m ≤ min (min x y) z
-least_of x y z m a b c = omega (arith, a, b, c)
-
-both_way : (t : Bool) (x z m : ℕ) → m ≤ x → (t ≡ true → m ≤ z) → m ≤ (if t then z else x)
-both_way true x z m a b = b refl
-both_way false x z m a b = a
-
-bounded_first : (a b : Entry) (old new : List Entry) (n m behind here there : ℕ) → n + suc m ≤ least_slots same_word old (b ∷ new) + behind → behind ≤ here →
-    suc n + m ≤ least_slots same_word (a ∷ old) new + there → there ≤ here →
-    (same_word a b ≡ true → n + suc m ≤ least_slots same_word old new + here) →
-    suc n + suc m ≤ least_slots same_word (a ∷ old) (b ∷ new) + here
-bounded_first a b old new n m behind here there skip_old old_more skip_new new_more share =
-    let x = least_slots same_word old (b ∷ new) in
-    let y = least_slots same_word (a ∷ old) new in
-    let z = if same_word a b then least_slots same_word old new else least_slots same_word old (b ∷ new) in
-    let by_old : n + suc m - here ≤ x = omega (arith, skip_old, old_more) in
-    let by_new : n + suc m - here ≤ y = omega (arith, skip_new, new_more) in
-    let by_both : n + suc m - here ≤ z =
-    both_way (same_word a b) x (least_slots same_word old new) (n + suc m - here) by_old (λ e. let s = share e in omega (arith, s)) in
-    let least = least_of x y z (n + suc m - here) by_old by_new by_both in
-    omega (arith, least)
+bounded_first : (t : Bool) (x y z n m behind here there : ℕ) → n + suc m ≤ x + behind → behind ≤ here → suc n + m ≤ y + there → there ≤ here →
+    (t ≡ true → n + suc m ≤ z + here) → suc n + suc m ≤ suc (min (min x y) (if t then z else x)) + here
+bounded_first true x y z n m behind here there skip_old old_more skip_new new_more share = let s = share refl in omega arith
+bounded_first false x y z n m behind here there skip_old old_more skip_new new_more share = omega arith
 
 -- the head of what is bounded
-bounded_head : (old new : List Entry) (places : List ℕ) → AreBounded old new places → length old + length new ≤ least_slots same_word old new + below (length new) places
-bounded_head old [] places h = omega (arith, h)
-bounded_head old (b ∷ new) places h = h.0
+pub bounded-least : (old new : List Entry) (places : List ℕ) → AreBounded old new places → length old + length new ≤ least_slots same_word old new + below (length new) places
+bounded-least old [] places h = omega (arith, h)
+bounded-least old (b ∷ new) places h = h.0
 
 pub bounded-row : (a : Entry) (old new : List Entry) (before now : List ℕ) → AreLowered before now → AreBounded old new before → AreTaken a new before now → AreBounded (a ∷ old) new now
 bounded-row a old [] before now lowered h taken = let l = lowered 0 in omega (arith, h, l)
 bounded-row a old (b ∷ new) before now lowered h taken =
     let rest = bounded-row a old new before now lowered h.1 taken.1 in
-    let head = bounded_head (a ∷ old) new now rest in
-    let behind = bounded_head old new before h.1 in
+    let head = bounded-least (a ∷ old) new now rest in
+    let behind = bounded-least old new before h.1 in
     let l = lowered (suc (length new)) in
     let more = below-more (length new) now in (
-      bounded_first a b old new (length old) (length new) (below (suc (length new)) before) (below (suc (length new)) now) (below (length new) now)
-          h.0 l head more (λ same. let t = taken.0 same in omega (arith, t, behind)),
+      bounded_first (same_word a b) (least_slots same_word old (b ∷ new)) (least_slots same_word (a ∷ old) new) (least_slots same_word old new) (length old) (length new)
+          (below (suc (length new)) before) (below (suc (length new)) now) (below (length new) now) h.0 l head more (λ same. let t = taken.0 same in omega (arith, t, behind)),
       rest,
     )
 
 pub bounded-none : (new : List Entry) → AreBounded [] new []
 bounded-none [] = omega arith
 bounded-none (b ∷ new) = (omega arith, bounded-none new)
-
-pub bounded-least : (old new : List Entry) (places : List ℕ) → AreBounded old new places → length old + length new ≤ least_slots same_word old new + below (length new) places
-bounded-least old new places h = bounded_head old new places h
 
 -- entries that are taken, by their places
 
@@ -145,13 +126,14 @@ row-taken old new row a before now h = taken-all a new before.places.items now.p
 pub next-pair : (old new : List Entry) (row : ℕ) (a : Entry) (before now : Piles) (place : ℕ) → slice_get old row ≡ Some a → AreRowTaken old new row a before now (Some place) → HaveOneWordAt old new row place
 next-pair old new row a before now place at h = record { a = a; b = h.found.entry; old_at = at; new_at = h.found.at; same = same_words a h.found.entry h.found.word }
 
-pub place-within : (old new : List Entry) (row : ℕ) (a : Entry) (before now : Piles) (place : ℕ) → AreRowTaken old new row a before now (Some place) → place < length new
-place-within old new row a before now place h = slice_get_within new place h.found.entry h.found.at
+pub place-within : {old new : List Entry} {row : ℕ} {a : Entry} {before now : Piles} {place : ℕ} → AreRowTaken old new row a before now (Some place) → place < length new
+place-within {new = new} {place = place} h = slice_get_within new place h.found.entry h.found.at
 
-some-at : {X : Type 0} (xs : List X) (k : ℕ) → k < length xs → (x : X) × (slice_get xs k ≡ Some x)
-some-at [] k h = absurd (omega (arith, h))
-some-at (x ∷ xs) zero h = (x, refl)
-some-at (x ∷ xs) (suc k) h = some-at xs k (omega (arith, h))
+-- the same as the code comes to it
+pub row-so-far : (old new : List Entry) (row : ℕ) (a : Entry) (before now : Piles) (at : Option ℕ) (place : ℕ) → at ≡ Some place → row < length old → a ≡ get_or old row a →
+    ((x : Entry) → slice_get old row ≡ Some x → AreRowTaken old new row x before now at) → AreRowTaken old new row a before now (Some place)
+row-so-far old new row a before now at place is small there h =
+    subst (λ (o : Option ℕ). AreRowTaken old new row a before now o) is (h a (slice_get_read old (length old) row a refl small there))
 
 -- one row more
 pub rows-on : (old new : List Entry) (row : ℕ) (before now : List ℕ) → row < length old → AreBounded (drop (suc row) old) new before → AreLowered before now →

@@ -2,8 +2,7 @@
 use Rattle.std.specs.Prelude.{◌≡◌, ℕ, ◌+◌, List, Option, Some, None, length, map, slice_get, take}
 use Rattle.ternary_words.specs.declared.entry.Entry.{Entry}
 use Rattle.slot_patch.specs.Banks.{ShareWords}
-use Rattle.bank_update.specs.Standing.{bank_of}
-use Rattle.bank_update.specs.Standing.{entries_in}
+use Rattle.bank_update.specs.Standing.{bank_of, entries_in}
 use Rattle.slot_patch.specs.Layouts.{IsLayout}
 use Rattle.slot_patch.specs.Ordered.{places}
 use Rattle.slot_patch.specs.declared.layout.Layout.{Layout}

@@ -1,9 +1,8 @@
 -- What a plan for a new table is.
 use Rattle.std.specs.Prelude.{◌≡◌, ◌+◌, ◌*◌, ◌≤◌, ◌<◌, List, length, Option}
 use Rattle.ternary_words.specs.declared.entry.Entry.{Entry}
-use Rattle.bank_update.specs.Standing.{bank_of}
+use Rattle.bank_update.specs.Standing.{bank_of, entries_in}
 use Rattle.slot_patch.specs.Least.{least_slots, same_word}
-use Rattle.bank_update.specs.Standing.{entries_in}
 use Rattle.slot_patch.specs.Plans.{IsPatch}
 use Rattle.slot_patch.specs.declared.plan.Plan.{Plan}
 use Rattle.slot_patch.specs.declared.plan.Planned.{Planned}

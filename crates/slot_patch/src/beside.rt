@@ -1,9 +1,8 @@
 //! A new table whole, beside the old one.
 ghost use Rattle.std.specs.Prelude.{◌≡◌, ◌≤◌, ◌+◌, ◌<◌, ◌^◌, length, IfOk};
-ghost use Rattle.bank_update.specs.Standing.{bank_of};
+ghost use Rattle.bank_update.specs.Standing.{bank_of, entries_in};
 ghost use Rattle.slot_patch.specs.Held.{StandIn};
 ghost use Rattle.slot_patch.specs.Layouts.{free_slots};
-ghost use Rattle.bank_update.specs.Standing.{entries_in};
 ghost use Rattle.slot_patch.specs.Plans.{IsPatch};
 
 use crate::draft::in_place;

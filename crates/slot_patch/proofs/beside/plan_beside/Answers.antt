@@ -2,9 +2,8 @@ use Rattle.std.specs.Global.{Vec}
 use Rattle.std.proofs.Common.{◌≡◌, ◌+◌, List, Option, length, ap, sym, ◌∙◌, subst, arith}
 use Rattle.ternary_words.specs.declared.entry.Entry.{Entry}
 use Rattle.slot_patch.specs.Banks.{ShareWords}
-use Rattle.bank_update.specs.Standing.{bank_of}
+use Rattle.bank_update.specs.Standing.{bank_of, entries_in}
 use Rattle.slot_patch.specs.Layouts.{free_slots}
-use Rattle.bank_update.specs.Standing.{entries_in}
 use Rattle.slot_patch.specs.InPlace.{differing, in_place}
 use Rattle.slot_patch.specs.Plans.{IsPatch}
 use Rattle.bank_update.specs.declared.write.Write.{Write}

@@ -1,11 +1,11 @@
-use Rattle.std.proofs.Common.{◌≡◌, ◌<◌, ◌+◌, ◌++◌, length, sym, ap, ◌∙◌, append-nil, arith, add-one}
+use Rattle.std.proofs.Common.{◌≡◌, ◌<◌, ◌+◌, ◌++◌, length, refl, sym, ap, ◌∙◌, append-nil, arith, add-one}
 use Rattle.slot_patch.specs.InPlace.{additions}
-use Rattle.slot_patch.proofs.Held.{count-next, count_before, found-in, none-before}
+use Rattle.slot_patch.proofs.Held.{count-next, count_before, found-in}
 use Rattle.slot_patch.proofs.Places.{next-addition}
 use Rattle.slot_patch.proofs.draft.add_all.Goals as goal
 
 pub loop-slot-init : goal.loop-slot-init
-loop-slot-init c = record { few = omega arith; added = λ old stand long. (sym (none-before old), sym (append-nil c.args.writes.now.items)) }
+loop-slot-init c = record { few = omega arith; added = λ old stand long. (refl, sym (append-nil c.args.writes.now.items)) }
 
 pub loop-slot-preserved : goal.loop-slot-preserved
 loop-slot-preserved c =

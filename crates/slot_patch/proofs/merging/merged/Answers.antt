@@ -1,49 +1,48 @@
-use Rattle.std.proofs.Common.{◌+◌, ℕ, suc, drop, get_or, sym, subst, arith, add-one}
+use Rattle.std.proofs.Common.{◌≡◌, ◌<◌, ◌+◌, ℕ, suc, List, drop, get_or, length, arith, add-one}
+use Rattle.ternary_words.specs.declared.entry.Entry.{Entry}
 use Rattle.slot_patch.specs.Merging.{IsMerged}
 use Rattle.slot_patch.specs.Sharing.{AreShared}
 use Rattle.slot_patch.specs.declared.pair.Pair.{Pair}
-use Rattle.slot_patch.proofs.Merges.{merged-all, next-shared, pair-inside}
+use Rattle.slot_patch.proofs.Merges.{merged-all, next-shared}
+use Rattle.slot_patch.proofs.Trimming.{places-within}
 use Rattle.slot_patch.proofs.merging.merged.Goals as goal
+
+abbrev none : Pair
+none = record { old = 0; new = 0 }
+
+-- the next pair stands in both tables
+inside : (old new : List Entry) (i j k : ℕ) (pairs : List Pair) → k < length pairs → AreShared old new i j (drop k pairs) →
+    ((get_or pairs k none).old < length old) × ((get_or pairs k none).new < length new)
+inside old new i j k pairs small h =
+    let p = get_or pairs k none in places-within old new p.old p.new (next-shared old new i j k pairs none small h).0.word
 
 pub loop-pair-preserved : goal.loop-pair-preserved
 loop-pair-preserved c =
     let l = c.loop-pair in
     let old = c.args.old.now in
     let new = c.args.new.now in
-    let d : Pair = record { old = 0; new = 0 } in
-    let p = get_or c.args.pairs.now l.pair-index d in
-    let next = next-shared old new l.at.old l.at.new l.pair-index c.args.pairs.now d c.loop-pair-test.true l.invariant.shared in
+    let p = get_or c.args.pairs.now l.pair-index none in
+    let next = next-shared old new l.at.old l.at.new l.pair-index c.args.pairs.now none c.loop-pair-test.true l.invariant.shared in
     record {
-      shared = subst (λ (n : ℕ). AreShared old new n (p.new + 1) (drop (l.pair-index + 1) c.args.pairs.now)) (sym (add-one p.old))
-          (subst (λ (n : ℕ). AreShared old new (suc p.old) n (drop (l.pair-index + 1) c.args.pairs.now)) (sym (add-one p.new))
-          (subst (λ (n : ℕ). AreShared old new (suc p.old) (suc p.new) (drop n c.args.pairs.now)) (sym (add-one l.pair-index)) next.1));
-      merged = subst (λ (n : ℕ). IsMerged old new n (p.new + 1) (l.pair-index + 1) c.put_pair.new.layout) (sym (add-one p.old))
-          (subst (λ (n : ℕ). IsMerged old new (suc p.old) n (l.pair-index + 1) c.put_pair.new.layout) (sym (add-one p.new))
-          (subst (λ (n : ℕ). IsMerged old new (suc p.old) (suc p.new) n c.put_pair.new.layout) (sym (add-one l.pair-index))
-          (c.in_ok-put_pair.ensures old new l.pair-index next.0.word l.invariant.merged)));
+      shared = rw (add-one p.old, add-one p.new, add-one l.pair-index) next.1;
+      merged = rw (add-one p.old, add-one p.new, add-one l.pair-index) (c.in_ok-put_pair.ensures old new l.pair-index next.0.word l.invariant.merged);
     }
 
 pub put_pair-requires : goal.put_pair-requires
 put_pair-requires c =
     let l = c.loop-pair in
-    let next = next-shared c.args.old.now c.args.new.now l.at.old l.at.new l.pair-index c.args.pairs.now (record { old = 0; new = 0 }) c.loop-pair-test.true l.invariant.shared in
+    let next = next-shared c.args.old.now c.args.new.now l.at.old l.at.new l.pair-index c.args.pairs.now none c.loop-pair-test.true l.invariant.shared in
     record { old = next.0.old_from; new = next.0.new_from }
 
 pub overflow_add-at : goal.overflow_add-at
 overflow_add-at c =
     let l = c.loop-pair in
-    let d : Pair = record { old = 0; new = 0 } in
-    let next = next-shared c.args.old.now c.args.new.now l.at.old l.at.new l.pair-index c.args.pairs.now d c.loop-pair-test.true l.invariant.shared in
-    let inside = pair-inside c.args.old.now c.args.new.now l.at.old l.at.new (get_or c.args.pairs.now l.pair-index d) next.0 in
-    omega (arith, inside.0)
+    omega (arith, (inside c.args.old.now c.args.new.now l.at.old l.at.new l.pair-index c.args.pairs.now c.loop-pair-test.true l.invariant.shared).0)
 
 pub overflow_add-at-in-loop-pair : goal.overflow_add-at-in-loop-pair
 overflow_add-at-in-loop-pair c =
     let l = c.loop-pair in
-    let d : Pair = record { old = 0; new = 0 } in
-    let next = next-shared c.args.old.now c.args.new.now l.at.old l.at.new l.pair-index c.args.pairs.now d c.loop-pair-test.true l.invariant.shared in
-    let inside = pair-inside c.args.old.now c.args.new.now l.at.old l.at.new (get_or c.args.pairs.now l.pair-index d) next.0 in
-    omega (arith, inside.1)
+    omega (arith, (inside c.args.old.now c.args.new.now l.at.old l.at.new l.pair-index c.args.pairs.now c.loop-pair-test.true l.invariant.shared).1)
 
 pub returns-clause-layout : goal.returns-clause-layout
 returns-clause-layout c =

@@ -4,7 +4,7 @@ use Rattle.ternary_words.specs.declared.entry.Entry.{Entry}
 use Rattle.slot_patch.specs.Finding.{IsNext}
 use Rattle.slot_patch.specs.Piles.{AreLaid, IsTaken}
 use Rattle.slot_patch.proofs.Chains.{laid-stacked}
-use Rattle.slot_patch.proofs.Rows.{AreRowTaken, left-less, next-pair, place-within, places_left, row-begins, row-goes-on, row-taken}
+use Rattle.slot_patch.proofs.Rows.{AreRowTaken, left-less, next-pair, place-within, places_left, row-begins, row-goes-on, row-so-far, row-taken}
 use Rattle.slot_patch.proofs.sharing.lay_row.Goals as goal
 
 pub loop-at-init : goal.loop-at-init
@@ -18,23 +18,15 @@ loop-at-init c = λ a at.
 
 pub overflow_sub-new : goal.overflow_sub-new
 overflow_sub-new c =
-    let old = c.args.old.now in
-    let new = c.args.new.now in
-    let r = c.index-old-row.result in
-    let at = slice_get_read old (length old) c.args.row r refl c.requires.within c.index-old-row.is in
-    let h = subst (λ (o : Option ℕ). AreRowTaken old new c.args.row r c.args.piles.now c.loop-at.piles o) c.in-Some.is (c.loop-at.invariant r at) in
-    let small = place-within old new c.args.row r c.args.piles.now c.loop-at.piles c.in-Some.place h in
-    omega (arith, small)
+    let h = row-so-far c.args.old.now c.args.new.now c.args.row c.index-old-row.result c.args.piles.now c.loop-at.piles c.loop-at.at c.in-Some.place c.in-Some.is
+    c.requires.within c.index-old-row.is c.loop-at.invariant in
+    omega (arith, place-within h)
 
 pub overflow_sub-new-in-Some : goal.overflow_sub-new-in-Some
 overflow_sub-new-in-Some c =
-    let old = c.args.old.now in
-    let new = c.args.new.now in
-    let r = c.index-old-row.result in
-    let at = slice_get_read old (length old) c.args.row r refl c.requires.within c.index-old-row.is in
-    let h = subst (λ (o : Option ℕ). AreRowTaken old new c.args.row r c.args.piles.now c.loop-at.piles o) c.in-Some.is (c.loop-at.invariant r at) in
-    let small = place-within old new c.args.row r c.args.piles.now c.loop-at.piles c.in-Some.place h in
-    omega (arith, small)
+    let h = row-so-far c.args.old.now c.args.new.now c.args.row c.index-old-row.result c.args.piles.now c.loop-at.piles c.loop-at.at c.in-Some.place c.in-Some.is
+    c.requires.within c.index-old-row.is c.loop-at.invariant in
+    omega (arith, place-within h)
 
 pub lay-requires : goal.lay-requires
 lay-requires c =
@@ -43,28 +35,20 @@ lay-requires c =
 
 pub next-at-requires : goal.next-at-requires
 next-at-requires c =
-    let old = c.args.old.now in
-    let new = c.args.new.now in
-    let r = c.index-old-row.result in
-    let at = slice_get_read old (length old) c.args.row r refl c.requires.within c.index-old-row.is in
-    let h = subst (λ (o : Option ℕ). AreRowTaken old new c.args.row r c.args.piles.now c.loop-at.piles o) c.in-Some.is (c.loop-at.invariant r at) in
-    let small = place-within old new c.args.row r c.args.piles.now c.loop-at.piles c.in-Some.place h in
-    let count = c.requires.places.count in
-    omega (arith, small, count)
+    let h = row-so-far c.args.old.now c.args.new.now c.args.row c.index-old-row.result c.args.piles.now c.loop-at.piles c.loop-at.at c.in-Some.place c.in-Some.is
+    c.requires.within c.index-old-row.is c.loop-at.invariant in
+    omega (arith, place-within h, c.requires.places.count)
 
 pub loop-at-smaller : goal.loop-at-smaller
 loop-at-smaller c =
-    let old = c.args.old.now in
     let new = c.args.new.now in
-    let r = c.index-old-row.result in
     let place = c.in-Some.place in
-    let at = slice_get_read old (length old) c.args.row r refl c.requires.within c.index-old-row.is in
-    let h = subst (λ (o : Option ℕ). AreRowTaken old new c.args.row r c.args.piles.now c.loop-at.piles o) c.in-Some.is (c.loop-at.invariant r at) in
-    let small = place-within old new c.args.row r c.args.piles.now c.loop-at.piles place h in
+    let h = row-so-far c.args.old.now c.args.new.now c.args.row c.index-old-row.result c.args.piles.now c.loop-at.piles c.loop-at.at c.in-Some.place c.in-Some.is
+    c.requires.within c.index-old-row.is c.loop-at.invariant in
     let e = h.found.entry in
     let next = subst (λ (o : Option ℕ). IsNext new (suc place) e.word.mask e.word.value o) (sym c.next-at.ensures) (c.requires.places.links place e (omega arith) h.found.at) in
     subst (λ (o : Option ℕ). places_left (length new) c.next-at.result < places_left (length new) o) (sym c.in-Some.is)
-    (left-less new place e.word.mask e.word.value c.next-at.result small next)
+    (left-less new place e.word.mask e.word.value c.next-at.result (place-within h) next)
 
 pub loop-at-preserved : goal.loop-at-preserved
 loop-at-preserved c = λ a at.
@@ -83,17 +67,13 @@ loop-at-preserved c = λ a at.
     (λ limit laid less. subst (λ (n : ℕ). AreLaid old new row n now) same (c.in_ok-lay.ensures.laid old new limit laid (omega (arith, less, same)) word same))
     c.next-at.ensures
 
-pub returns-clause-stacked : goal.returns-clause-stacked
-returns-clause-stacked c =
-    let at = slice_get_read c.args.old.now (length c.args.old.now) c.args.row c.index-old-row.result refl c.requires.within c.index-old-row.is in
-    (c.loop-at.invariant c.index-old-row.result at).laid.stacked
-
-pub returns-clause-lowered : goal.returns-clause-lowered
-returns-clause-lowered c =
-    let at = slice_get_read c.args.old.now (length c.args.old.now) c.args.row c.index-old-row.result refl c.requires.within c.index-old-row.is in
-    (c.loop-at.invariant c.index-old-row.result at).lowered
-
-pub returns-clause-taken : goal.returns-clause-taken
-returns-clause-taken c = λ a at.
-    row-taken c.args.old.now c.args.new.now c.args.row a c.args.piles.now c.loop-at.piles
-    (subst (λ (o : Option ℕ). AreRowTaken c.args.old.now c.args.new.now c.args.row a c.args.piles.now c.loop-at.piles o) c.in_default.is (c.loop-at.invariant a at))
+pub returns : goal.returns
+returns c =
+    let old = c.args.old.now in
+    let h = c.loop-at.invariant c.index-old-row.result (slice_get_read old (length old) c.args.row c.index-old-row.result refl c.requires.within c.index-old-row.is) in
+    record {
+      stacked = h.laid.stacked;
+      lowered = h.lowered;
+      taken = λ a at. row-taken old c.args.new.now c.args.row a c.args.piles.now c.loop-at.piles
+          (subst (λ (o : Option ℕ). AreRowTaken old c.args.new.now c.args.row a c.args.piles.now c.loop-at.piles o) c.in_default.is (c.loop-at.invariant a at));
+    }

@@ -3,7 +3,7 @@ use Rattle.std.proofs.lemmas.List.{length-map}
 use Rattle.std.proofs.lemmas.Option.{slice_get_read}
 use Rattle.bank_update.specs.Standing.{entries_in}
 use Rattle.slot_patch.specs.Merging.{entries_at, entry_at}
-use Rattle.slot_patch.proofs.Merges.{AreSpread, seen-at, spread-layout, spread-next, spread-none, word-at}
+use Rattle.slot_patch.proofs.Merges.{AreSpread, seen-at, spread-layout, spread-next, word-at}
 use Rattle.slot_patch.proofs.spreading.spread_out.Goals as goal
 
 pub loop-place-init : goal.loop-place-init
@@ -11,7 +11,7 @@ loop-place-init c =
     let none = c.in_ok-spread.ensures.length in
     record {
       room = omega (arith, none, c.requires.room);
-      spread = spread-none (entries_at c.args.old.now c.args.compact.now.start.items) (entries_at c.args.new.now c.args.compact.now.next.items) c.in_ok-spread.spread c.in_ok-spread.ensures.none;
+      spread = c.in_ok-spread.ensures.none;
     }
 
 pub put-requires : goal.put-requires
