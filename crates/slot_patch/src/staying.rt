@@ -1,15 +1,14 @@
 //! Which slots the entries of a layout wish for: as many old entries as can stay where they are, and the others come evenly
 //! between them.
 use crate::layout::Layout;
-use crate::loosening::{Room, loosened};
 use razor_base::Memory;
 use std::alloc::Global;
 
 /// An old entry that may stay in its slot.
 #[derive(Clone, Copy)]
-pub(crate) struct Stay {
-    pub(crate) place: u32,
-    pub(crate) slot: u32,
+struct Stay {
+    place: u32,
+    slot: u32,
 }
 
 impl Stay {
@@ -30,11 +29,6 @@ pub(crate) fn slot_wishes(
     if !rise(&stays) {
         stays = longest_rising(alloc, &stays)?;
     }
-    let room = Room {
-        places: compact.start.len(),
-        slots: count,
-    };
-    let stays = loosened(alloc, &stays, &room)?;
     let mut wishes = Vec::with_capacity(alloc, compact.start.len())?;
     let mut low = 0;
     for stay in &stays {
