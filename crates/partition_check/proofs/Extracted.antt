@@ -1,5 +1,5 @@
 -- The rows of a valid text are a good certificate.
-use Rattle.std.proofs.Common.{◌≡◌, ◌∷◌, ℕ, ◌+◌, List, [], Bool, true, false, Some, None, length, map, ap, sym, subst, ◌∙◌, arith, Option, MatchBool}
+use Rattle.std.proofs.Common.{◌≡◌, ◌∷◌, ℕ, ◌+◌, List, [], Some, None, length, map, ap, sym, subst, ◌∙◌, arith, Option}
 use Rattle.std.specs.List.{AllByRecursion}
 use Rattle.std.proofs.lemmas.List.Elements.{All-from_recursion}
 use Rattle.std.proofs.lemmas.Option.{none-some, same_Some}
@@ -7,17 +7,14 @@ use Rattle.field_boxes.specs.Headline.Classifier.{Interval}
 use Rattle.filter_reader.specs.declared.list.RuleList.{RuleList}
 use Rattle.ternary_words.specs.declared.table.Table.{Table}
 use Rattle.partition_check.specs.Boxes.{ends}
-use Rattle.partition_check.specs.NextBox.{MayCome, EachFollows, ReachesEnds, IsSweep, last_box}
-use Rattle.partition_check.specs.Checking.{Statement, Checking, IsLastOfAll, Passes, begun, with_row}
+use Rattle.partition_check.specs.NextBox.{EachFollows, ReachesEnds, IsSweep, last_box}
+use Rattle.partition_check.specs.Checking.{Statement, Checking, Passes, begun, with_row}
 use Rattle.partition_check.specs.Good.{IsRight, IsGood, box_of}
 use Rattle.partition_check.specs.CertificateText.{lines_of, is_last_line, stated_rows}
 use Rattle.partition_check.specs.Verdict.{Reading, started, TakesLast, TakesRow, TakesAll, IsValid}
+use Rattle.partition_check.proofs.Certificates.{ComeInTurn}
+use Rattle.partition_check.proofs.Outcomes.{either_way}
 use Rattle.partition_check.proofs.Sweeps.{sweep-partition}
-
--- Rows that come in turn behind a last box, if there is one, up to every end.
-abbrev ComeInTurn : Option (List Interval) → List Statement → Type 0
-ComeInTurn o [] = IsLastOfAll o
-ComeInTurn o (s ∷ rows) = MayCome ends o s.box × ComeInTurn (Some s.box) rows
 
 turn_follows : (b : List Interval) (rows : List Statement) → ComeInTurn (Some b) rows → EachFollows ends b (map box_of rows) × ReachesEnds ends (last_box b (map box_of rows))
 turn_follows b [] h = (tt, h)
@@ -69,10 +66,9 @@ last_rows c (Some m) n next lines after t h e =
       count = omega (arith, behind_last c m n lines after (subst (λ (r : Reading). TakesAll r lines after) t.1 h) e, count);
     }
 
-by_kind : (lines : List (List ℕ)) (c : Checking) (line : List ℕ) (t : Bool) (n : ℕ) (next after : Reading) → ((d : Checking) → TakesAll (started d) lines after → HasRows d n) →
-    MatchBool t (TakesLast c (stated_rows line) next) (TakesRow c line next) → TakesAll next lines after → after.ended ≡ Some n → HasRows c n
-by_kind lines c line true n next after behind t h e = last_rows c (stated_rows line) n next lines after t h e
-by_kind lines c line false n next after behind t h e =
+row_rows : (lines : List (List ℕ)) (c : Checking) (line : List ℕ) (n : ℕ) (next after : Reading) → ((d : Checking) → TakesAll (started d) lines after → HasRows d n) →
+    TakesRow c line next → TakesAll next lines after → HasRows c n
+row_rows lines c line n next after behind t h =
     let s = t.1.states in
     let same : next ≡ started (with_row c s) = t.2 ∙ ap started t.1.one_more in
     one_more c s n t.1.passes (behind (with_row c s) (subst (λ (r : Reading). TakesAll r lines after) same h))
@@ -80,7 +76,9 @@ by_kind lines c line false n next after behind t h e =
 -- what was taken up to a last line has its rows
 taken_rows : (lines : List (List ℕ)) (c : Checking) (n : ℕ) (after : Reading) → TakesAll (started c) lines after → after.ended ≡ Some n → HasRows c n
 taken_rows [] c n after h e = absurd (none-some n (sym (ap (λ (r : Reading). r.ended) h) ∙ e))
-taken_rows (line ∷ lines) c n after h e = by_kind lines c line (is_last_line line) n h.0 after (λ d k. taken_rows lines d n after k e) h.1 h.2 e
+taken_rows (line ∷ lines) c n after h e = either_way (is_last_line line)
+    (λ (t : TakesLast c (stated_rows line) h.0). last_rows c (stated_rows line) n h.0 lines after t h.2 e)
+    (λ (t : TakesRow c line h.0). row_rows lines c line n h.0 after (λ d k. taken_rows lines d n after k e) t h.2) h.1
 
 -- the rows of a valid text are a good certificate, as many as it states
 pub valid-good : (list : RuleList) (table : Table) (text : List ℕ) (n : ℕ) → IsValid (begun list table) text n → (rows : List Statement) × IsGood list table rows × (length rows ≡ n)

@@ -62,10 +62,6 @@ module _ {X : Type 0} (p : List ℕ → X → Bool) where
         let c = subst (λ n. IsOf p items places child (first_of n) n) e (all (at - 1) child here) in
         of-both own child new first at end ro rc o (subst (λ n. IsOf p items places child n at) (sym is) c)
 
-    -- a block that begins no later stands for what it has to
-    pub begun-by : (b : Block) (at first end n : ℕ) → first ≡ first_of n → at ≤ first → IsOf p items places b at end → IsOf p items places b (first_of n) end
-    begun-by b at first end n is less h j k x from before place item = h j k x (omega (arith, less, from, is)) before place item
-
     pub alone : (b : Block) (n place : ℕ) → slice_get places n ≡ Some place → ((x : X) → slice_get items place ≡ Some x → Bounds p x b place) → IsOf p items places b n (n + 1)
     alone b n place at h j k x from before here item =
         let same = same-at places j n k place (omega (arith, from, before)) here at in
@@ -129,9 +125,6 @@ module _ {X : Type 0} (p : List ℕ → X → Bool) where
       -- of the places from the first one on, each is kept, or no header of the box matches its item
       abbrev pub AreKeptFrom : List ℕ → ℕ → Type 0
       AreKeptFrom kept first = (j k : ℕ) (x : X) → first ≤ j → slice_get places j ≡ Some k → slice_get items k ≡ Some x → Contains kept k ⊎ EachIn (intervals_of spans) (λ header. IsFalse (p header x))
-
-      pub none-kept : (kept : List ℕ) → AreKeptFrom kept (length places)
-      none-kept kept j k x from place item = absurd (omega (arith, from, slice_get_within places j k place))
 
       pub one-kept : (kept : List ℕ) (left last place : ℕ) → AreKeptFrom kept left → ArePassed p spans items places (length items) (last + 1) left → slice_get places last ≡ Some place →
           AreKeptFrom (kept ++ place ∷ []) last

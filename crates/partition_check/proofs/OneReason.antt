@@ -1,15 +1,16 @@
 -- A certificate's text that is wrong is wrong in one place, for one reason.
-use Rattle.std.proofs.Common.{◌≡◌, ◌∷◌, ◌≤◌, ℕ, List, [], Bool, true, false, Some, None, ap, refl, sym, subst, ◌∙◌, inl, inr, Option, MatchBool, length, take}
+use Rattle.std.proofs.Common.{◌≡◌, ◌∷◌, ◌≤◌, ℕ, List, [], Some, None, ap, refl, sym, subst, ◌∙◌, inl, inr, Option, length, take}
 use Rattle.std.proofs.lemmas.List.{take_all}
 use Rattle.partition_check.specs.declared.row.Why.{Why}
 use Rattle.partition_check.specs.declared.row.Why.TheVariants.{Form, NotNext, RuleClaim, EntryClaim, Decisions, EndsEarly, Count}
 use Rattle.partition_check.specs.declared.row.Wrong.{Wrong}
 use Rattle.partition_check.specs.CertificateText.{lines_of, is_last_line, stated_rows}
 use Rattle.partition_check.specs.Checking.{Statement, Checking, FailsFirst, EndsWrong}
-use Rattle.partition_check.specs.RowLines.{LineFails, StatementFails}
+use Rattle.partition_check.specs.RowLines.{StatementFails}
 use Rattle.partition_check.specs.RowText.{statement_of_text}
 use Rattle.partition_check.specs.Streams.{ReadsWrong}
 use Rattle.partition_check.specs.Verdict.{EndsBadly, Fails, FailsLast, FailsLine, FindsWrong, IsUnended, IsWrong, LacksEnd, Reading, started}
+use Rattle.partition_check.proofs.Outcomes.{both_ways}
 use Rattle.partition_check.proofs.OneVerdict.{all-apart, all-one, line-apart, line-one}
 
 -- the decisions of two numbers
@@ -52,13 +53,8 @@ last_one : (c : Checking) (o : Option ℕ) (v w : Why) → FailsLast c o v → F
 last_one c None v w f g = f ∙ sym g
 last_one c (Some n) v w f g = end_one c n v w f g
 
-kind_one : (c : Checking) (line : List ℕ) (t : Bool) (v w : Why) → MatchBool t (FailsLast c (stated_rows line) v) (LineFails c line v) →
-    MatchBool t (FailsLast c (stated_rows line) w) (LineFails c line w) → v ≡ w
-kind_one c line true v w f g = last_one c (stated_rows line) v w f g
-kind_one c line false v w f g = stated_one c (statement_of_text line) v w f g
-
 why_one : (c : Checking) (o : Option ℕ) (line : List ℕ) (v w : Why) → Fails c o line v → Fails c o line w → v ≡ w
-why_one c None line v w f g = kind_one c line (is_last_line line) v w f g
+why_one c None line v w f g = both_ways (is_last_line line) (last_one c (stated_rows line) v w) (stated_one c (statement_of_text line) v w) f g
 why_one c (Some n) line v w f g = f ∙ sym g
 
 lacks_one : (o : Option ℕ) (rest : List ℕ) (v w : Why) → LacksEnd o rest v → LacksEnd o rest w → v ≡ w

@@ -1,5 +1,5 @@
 -- The hull of a rule: the least and the greatest port of its sets, and its other spans.
-use Rattle.std.proofs.Common.{◌≡◌, ◌∷◌, ℕ, ◌+◌, ◌-◌, ◌≤◌, List, [], Bool, true, false, length, get_or, arith, inl, inr, sym, subst, ◌∙◌, ◌&&◌, ◌||◌, slice_index_or, IsTrue}
+use Rattle.std.proofs.Common.{◌≡◌, ◌∷◌, ℕ, ◌+◌, ◌-◌, ◌≤◌, List, [], Bool, true, false, length, get_or, arith, inl, inr, sym, subst, ◌∙◌, ◌||◌, slice_index_or, IsTrue}
 use Rattle.std.proofs.Math.Bool.{or-false}
 use Rattle.std.proofs.Math.Nat.{le_refl}
 use Rattle.std.proofs.lemmas.Bool.{and_parts, cases_lt, false≢true, or_cases}
@@ -55,17 +55,11 @@ rule-lies-five : (r : code.Rule) (s d : Span) → IsRoundPorts r 0 s → IsRound
     LiesIn (intervals_of (r.source ∷ r.destination ∷ s ∷ d ∷ r.protocol ∷ [])) header
 rule-lies-five r s d hs hd (v0 ∷ v1 ∷ v2 ∷ v3 ∷ v4 ∷ []) five t =
     let a : ℕ → Span → Bool = λ v i. interval_holds v (interval_of i) || false in
-    let b2 = union_holds v2 (slice_index_or r.ports 0 []) in
-    let b3 = union_holds v3 (slice_index_or r.ports 1 []) in
-    let e4 : Bool = a v4 r.protocol && true in
-    let e3 : Bool = b3 && e4 in
-    let e2 : Bool = b2 && e3 in
-    let e1 : Bool = a v1 r.destination && e2 in
-    let p0 = and_parts (a v0 r.source) e1 t in
-    let p1 = and_parts (a v1 r.destination) e2 p0.1 in
-    let p2 = and_parts b2 e3 p1.1 in
-    let p3 = and_parts b3 e4 p2.1 in
-    let p4 = and_parts (a v4 r.protocol) true p3.1 in
+    let p0 = and_parts (a v0 r.source) _ t in
+    let p1 = and_parts (a v1 r.destination) _ p0.1 in
+    let p2 = and_parts (union_holds v2 (slice_index_or r.ports 0 [])) _ p1.1 in
+    let p3 = and_parts (union_holds v3 (slice_index_or r.ports 1 [])) _ p2.1 in
+    let p4 = and_parts (a v4 r.protocol) _ p3.1 in
     let within : (v : ℕ) (i : Span) → a v i ≡ true → (i.lo ≤ v) × (v ≤ i.hi) = λ v i h. between v (interval_of i) (sym (or-false (interval_holds v (interval_of i))) ∙ h) in
     let w0 = within v0 r.source p0.0 in
     let w1 = within v1 r.destination p1.0 in
