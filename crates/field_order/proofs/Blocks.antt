@@ -21,18 +21,7 @@ pub top_first : (level : List ℕ) (d : ℕ) → HasField level → greatest_of 
 top_first [] d has = absurd has
 top_first (f ∷ level) d has = refl
 
--- one edge more leads where it should from its values on
-pub leads_more : (want : ℕ → ℕ) (filled hi n : ℕ) (es more : List Edge) (to : NodeId) → FillBelow filled es → ((u : ℕ) → u < filled → child_of es u ≡ want u) →
-    ((u : ℕ) → filled ≤ u → u ≤ hi → want u ≡ to.0) → n ≡ suc hi → more ≡ es ++ record { hi = hi; to = to } ∷ [] → (u : ℕ) → u < n → child_of more u ≡ want u
-leads_more want filled hi n es more to fill before here count pushed u less =
-    let e : Edge = record { hi = hi; to = to } in
-    let at = leads_after_push filled u es more e fill (omega (arith, less, count)) pushed in
-    elim (cases_lt u filled) [
-      | inl early ↦ at ∙ ap (λ b. cond b (child_of es u) to.0) (lt-ltb u filled early) ∙ before u early
-      | inr late ↦ at ∙ ap (λ b. cond b (child_of es u) to.0) (le-ltb u filled late) ∙ sym (here u late (omega (arith, less, count)))
-    ]
-
--- the same of the values from one on, where the edge ends no earlier than its values do
+-- one edge more leads where it should from its values on, where it ends no earlier than they do
 pub leads_from : (want : ℕ → ℕ) (lo old now filled end n : ℕ) (es more : List Edge) (to : NodeId) → FillBelow filled es → ((u : ℕ) → lo ≤ u → u ≤ old → u < filled → child_of es u ≡ want u) →
     filled ≤ suc old → ((u : ℕ) → lo ≤ u → filled ≤ u → u ≤ now → want u ≡ to.0) → n ≡ suc end → more ≡ es ++ record { hi = end; to = to } ∷ [] →
     (u : ℕ) → lo ≤ u → u ≤ now → u < n → child_of more u ≡ want u
@@ -43,6 +32,11 @@ leads_from want lo old now filled end n es more to fill before passed here count
       | inl early ↦ at ∙ ap (λ b. cond b (child_of es u) to.0) (lt-ltb u filled early) ∙ before u low (omega (arith, early, passed)) early
       | inr late ↦ at ∙ ap (λ b. cond b (child_of es u) to.0) (le-ltb u filled late) ∙ sym (here u low late high)
     ]
+
+pub leads_more : (want : ℕ → ℕ) (filled hi n : ℕ) (es more : List Edge) (to : NodeId) → FillBelow filled es → ((u : ℕ) → u < filled → child_of es u ≡ want u) →
+    ((u : ℕ) → filled ≤ u → u ≤ hi → want u ≡ to.0) → n ≡ suc hi → more ≡ es ++ record { hi = hi; to = to } ∷ [] → (u : ℕ) → u < n → child_of more u ≡ want u
+leads_more want filled hi n es more to fill before here count pushed u less =
+    leads_from want 0 filled hi filled hi n es more to fill (λ k low high early. before k early) (omega arith) (λ k low late high. here k late high) count pushed u (omega arith) (omega (arith, less, count)) less
 
 -- where a value leads, one edge more leads to the level
 pub led : (nodes : List Node) (level : List ℕ) (top at end : ℕ) (edges es more : List Edge) (to : NodeId) → AreFull top edges → at ≤ top → child_of edges at ≡ to.0 →

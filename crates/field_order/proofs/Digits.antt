@@ -1,10 +1,9 @@
 -- The digits of an order, and those without one of its fields.
-use Rattle.std.proofs.Common.{◌≡◌, ◌≢◌, ◌∷◌, ℕ, zero, suc, List, [], ◌+◌, ◌-◌, ◌*◌, ◌/◌, ◌%◌, ◌<◌, ◌≤◌, ◌^◌, Bool, true, false, length, ap, arith, refl, sym, ◌∙◌, subst, inl, inr}
-use Rattle.std.specs.Prelude.{cond, nat_eq}
+use Rattle.std.proofs.Common.{◌≡◌, ◌≢◌, ◌∷◌, ℕ, zero, suc, List, [], ◌+◌, ◌-◌, ◌*◌, ◌/◌, ◌%◌, ◌<◌, ◌≤◌, ◌^◌, length, ap, arith, refl, sym, ◌∙◌, subst, inl, inr}
 use Rattle.std.specs.List.{All}
 use Rattle.std.proofs.lemmas.List.Elements.{All-nil, All-cons, All-head, All-tail}
 use Rattle.node_store.specs.Levels.{IsLevel}
-use Rattle.field_boxes.specs.Orders.{IsMissing, AreDistinct, Has}
+use Rattle.field_boxes.specs.Orders.{AreDistinct, Has}
 use Rattle.field_order.specs.Order.{place_of}
 use Rattle.field_order.specs.Fronts.{without}
 use Rattle.field_order.specs.Worth.{IsRearranged, digits}
@@ -42,7 +41,7 @@ digits_place (suc k) n less =
     ∙ ap (λ m. n / 5 ^ k * 5 ^ k + m) (digits_place k (n % 5 ^ k) low)
     ∙ both
 
-digits_parts : (count order unit : ℕ) → unit ≡ 5 ^ (count - 1) → 0 < count → digits count order ≡ order / unit ∷ digits (count - 1) (order % unit)
+pub digits_parts : (count order unit : ℕ) → unit ≡ 5 ^ (count - 1) → 0 < count → digits count order ≡ order / unit ∷ digits (count - 1) (order % unit)
 digits_parts zero order unit is some = absurd (omega (arith, some))
 digits_parts (suc k) order unit is some =
     let n : k ≡ suc k - 1 = omega arith in
@@ -54,13 +53,11 @@ some_digit f zero order has = absurd has
 some_digit f (suc k) order has = omega arith
 
 -- what holds of all holds without one
-step_without : (P : ℕ → Type 0) (f : ℕ) (b : Bool) (level : List ℕ) → P f → All P level → All P (cond b level (f ∷ level))
-step_without P f true level p all = all
-step_without P f false level p all = All-cons P f level p all
-
 all_without : (P : ℕ → Type 0) (f : ℕ) (level : List ℕ) → All P level → All P (without f level)
 all_without P f [] all = all
-all_without P f (g ∷ level) all = step_without P g (nat_eq g f) (without f level) (All-head P g level all) (all_without P f level (All-tail P g level all))
+all_without P f (g ∷ level) all =
+    let rest = all_without P f level (All-tail P g level all) in
+    left.by_first (All P) f g level (λ gone. rest) (λ kept. All-cons P g (without f level) (All-head P g level all) rest)
 
 -- one digit, and the others
 module _ (count order unit f : ℕ) (unit_is : unit ≡ 5 ^ (count - 1)) (fields : All (λ g. g < 5) (digits count order)) (apart : AreDistinct (digits count order)) (has : Has f (digits count order)) where
@@ -90,8 +87,7 @@ module _ (count order unit f : ℕ) (unit_is : unit ≡ 5 ^ (count - 1)) (fields
   first_out e =
       let some = five_pos (count - 1) in
       let low : order % unit < 5 ^ (count - 1) = subst (λ u. order % u < 5 ^ (count - 1)) (sym unit_is) (let r : order % 5 ^ (count - 1) < 5 ^ (count - 1) = grind (arith, some) in r) in
-      let gone : IsMissing f others = subst (λ k. IsMissing k others) e apart_parts.0 in
-      let left_is : without f (digits count order) ≡ others = ap (without f) parts ∙ ap (λ k. without f (k ∷ others)) e ∙ left.here f others ∙ left.none f others gone in
+      let left_is : without f (digits count order) ≡ others = ap (without f) parts ∙ left.behind f (order / unit) others e apart_parts.0 in
       sym (digits_place (count - 1) (order % unit) low) ∙ ap place_of (sym left_is)
 
   pub later_out : order / unit ≢ f → (r : ℕ) → r ≡ place_of (without f others) → order / unit * (unit / 5) + r ≡ place_of (without f (digits count order))
@@ -144,5 +140,5 @@ module _ (g : ℕ) (rest : List ℕ) (order : ℕ) (is : IsLevel (g ∷ rest)) (
 
   pub below_order : (below : ℕ) → below ≡ place_of (without g all_digits) → IsRearranged (digits (length rest) below) rest
   below_order below e =
-      let same : without g (g ∷ rest) ≡ rest = left.here g rest ∙ left.none g rest d.0 in
+      let same : without g (g ∷ rest) ≡ rest = left.behind g g rest refl d.0 in
       subst (λ o. IsRearranged o rest) (sym (below_is below e)) (subst (IsRearranged (without g all_digits)) same (left.order_without g all_digits (g ∷ rest) r))

@@ -1,5 +1,5 @@
 -- A node with another field in front, from the fronts of its children and the rows of nodes between them.
-use Rattle.std.proofs.Common.{◌≡◌, ◌≢◌, ◌∷◌, ℕ, List, [], ◌+◌, ◌≤◌, ◌<◌, ◌^◌, ◌∙◌, length, get_or, map, ap, arith, sym, subst, inl, inr}
+use Rattle.std.proofs.Common.{◌≡◌, ◌≢◌, ◌∷◌, ℕ, List, [], ◌+◌, ◌≤◌, ◌<◌, ◌^◌, ◌∙◌, length, get_or, map, ap, arith, refl, sym, subst, inl, inr}
 use Rattle.std.specs.List.{All, AllZip}
 use Rattle.field_boxes.specs.Headline.Fields.{width}
 use Rattle.field_boxes.specs.Fields.{greatest_of}
@@ -10,7 +10,7 @@ use Rattle.node_store.specs.Diagram.{Node, level_of, edges_of, answer}
 use Rattle.node_store.specs.Store.{IsStore, IsInner, LeadsOn, Grows, LeadTo}
 use Rattle.node_store.proofs.Canonical.{in_use, leads_on}
 use Rattle.node_store.proofs.Growth as growth
-use Rattle.field_boxes.specs.Orders.{IsMissing, AreDistinct, Has}
+use Rattle.field_boxes.specs.Orders.{AreDistinct, Has}
 use Rattle.table_compose.proofs.Later.{inner_of}
 use Rattle.field_order.specs.Fronts.{Fits, without, IsFront, IsFrontEdge, IsSample}
 use Rattle.field_order.proofs.Values.{put, put_fits, put_map, put_other, put_same}
@@ -21,8 +21,7 @@ use Rattle.field_order.proofs.Zipped as zipped
 pub own : (nodes : List Node) (level : List ℕ) (id f : ℕ) → IsLevel level → AreDistinct level → Has f level → level_of nodes id ≡ level → (rest : List ℕ) → level ≡ f ∷ rest → IsFront nodes id f id
 own nodes level id f is d has at rest same =
     let mine : level_of nodes id ≡ f ∷ rest = at ∙ same in
-    let missing : IsMissing f rest = (subst AreDistinct same d).0 in
-    let gone : without f (level_of nodes id) ≡ rest = ap (without f) mine ∙ left.here f rest ∙ left.none f rest missing in
+    let gone : without f (level_of nodes id) ≡ rest = ap (without f) mine ∙ left.behind f f rest refl (subst AreDistinct same d).0 in
     let front : f ∷ without f (level_of nodes id) ≡ level_of nodes id = ap (λ l. f ∷ l) gone ∙ sym mine in record {
       within = subst IsLevel (sym at) is;
       field = subst HasField (ap (λ l. f ∷ without f l) (sym at)) (left.fronted f level has d is);
@@ -39,7 +38,7 @@ pub record AreCrossed (f g : ℕ) (rest : List ℕ) : Type 0 where
 
 pub crossing : (f g : ℕ) (rest : List ℕ) → Has f rest → AreDistinct (g ∷ rest) → IsLevel (g ∷ rest) → AreCrossed f g rest
 crossing f g rest has d is =
-    let other : g ≢ f = λ e. left.not_missing f rest has (subst (λ k. IsMissing k rest) e d.0) in
+    let other = left.other f g rest has d.0 in
     let lower = left.there f g rest other in record {
       other = other;
       lower = lower;
@@ -61,11 +60,8 @@ module _ (n0 n1 : List Node) (id f g : ℕ) (rest : List ℕ) (s : IsStore n0) (
   cross : AreCrossed f g rest
   cross = crossing f g rest has d is
 
-  field : HasField (g ∷ rest)
-  field = is
-
   inner : IsInner n0 id (g ∷ rest) (edges_of n0 id)
-  inner = subst (λ l. IsInner n0 id l (edges_of n0 id)) at (inner_of n0 id s (subst HasField (sym at) field))
+  inner = subst (λ l. IsInner n0 id l (edges_of n0 id)) at (inner_of n0 id s (subst HasField (sym at) is))
 
   abbrev Fronts : ℕ → ℕ → Type 0
   Fronts a b = IsFront n1 a f b
@@ -96,7 +92,7 @@ module _ (n0 n1 : List Node) (id f g : ℕ) (rest : List ℕ) (s : IsStore n0) (
       let u = h g in
       let small = below g u (fits g) in
       let child = child_of (edges_of n0 id) u in
-      let on = leads_on n0 id u s (subst HasField (sym at) field) (subst (λ l. u ≤ top_of l) (sym at) small) in
+      let on = leads_on n0 id u s (subst HasField (sym at) is) (subst (λ l. u ≤ top_of l) (sym at) small) in
       let child_at : level_of n0 child ≡ rest = on.1 ∙ ap next_level at in
       let front : IsFront n1 child f (child_of es u) = zipped.comes Fronts (greatest_of g) u (edges_of n0 id) es inner.full zip small in
       let later = child_level child child_at in

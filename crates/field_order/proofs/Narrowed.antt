@@ -1,8 +1,8 @@
 -- Where a field has one value, rules cost no more over the other fields.
-use Rattle.std.proofs.Common.{◌≡◌, ◌≢◌, ◌∷◌, ℕ, List, [], ◌<◌, ◌≤◌, ◌^◌, Bool, true, false, map, ap, arith, refl, sym, ◌∙◌, subst, inl, inr}
+use Rattle.std.proofs.Common.{◌≡◌, ◌∷◌, ℕ, List, [], ◌<◌, ◌≤◌, ◌^◌, Bool, true, false, map, ap, arith, refl, sym, ◌∙◌, subst, inl, inr}
 use Rattle.std.specs.Prelude.{cond, filter, Option, Some, option_map}
 use Rattle.std.specs.List.{All}
-use Rattle.std.proofs.lemmas.List.Elements.{All-nil, All-cons, All-head, All-tail}
+use Rattle.std.proofs.lemmas.List.Elements.{All-head, All-map, All-tail, All-weaker}
 use Rattle.std.proofs.lemmas.List.Sums.{sum_by-cons}
 use Rattle.field_boxes.specs.Headline.Fields.{width, AreValues}
 use Rattle.field_boxes.specs.Headline.Prefix.{FitsWidth, prefix_holds}
@@ -24,7 +24,7 @@ use Rattle.field_order.proofs.Without as left
 same_order : (order : List ℕ) → AreDistinct order → IsRearranged order order
 same_order [] d = refl
 same_order (f ∷ order) d =
-    (inl refl, subst (IsRearranged order) (sym (left.here f order ∙ left.none f order d.0)) (same_order order d.1))
+    (inl refl, subst (IsRearranged order) (sym (left.behind f f order refl d.0)) (same_order order d.1))
 
 -- where the field has the value, the rules decide as its residue over the other fields
 source_at : {A : Type 0} (order : List ℕ) (g u : ℕ) (h : ℕ → ℕ) (R : List (Rule A)) → Has g order → AreDistinct order → h g ≡ u →
@@ -62,8 +62,7 @@ module _ (cost : ℕ → ℕ) where
   found_priced w v (x ∷ plan) c e = found_step (prefix_holds w x.prefix v) x c (first_choice w plan v) (first_choice w (map priced plan) v) (λ k. found_priced w v plan c k) e
 
   all_priced : (P Q : Choice → Type 0) (plan : List Choice) → ((c : Choice) → P c → Q (priced c)) → All P plan → All Q (map priced plan)
-  all_priced P Q [] by all = All-nil Q
-  all_priced P Q (c ∷ plan) by all = All-cons Q (priced c) (map priced plan) (by c (All-head P c plan all)) (all_priced P Q plan by (All-tail P c plan all))
+  all_priced P Q plan by all = All-map Q priced plan (All-weaker P (λ c. Q (priced c)) by plan all)
 
   cheaper : (P : Choice → Type 0) (plan : List Choice) → ((c : Choice) → P c → cost c.value ≤ c.cost) → All P plan → plan_cost (map priced plan) ≤ plan_cost plan
   cheaper P [] by all = omega arith
@@ -134,15 +133,14 @@ own_less f order u n m R small low h =
 first_less : (f g : ℕ) (order : List ℕ) (u n m : ℕ) (R : List (Rule (List ℕ))) → f ≡ g → IsMissing f order → u < 2 ^ width g → IsLeastCost (without g (f ∷ order)) (residue g u R) m →
     IsLeastCost (f ∷ order) R n → m ≤ n
 first_less f g order u n m R e gone small low h =
-    let same : without f (f ∷ order) ≡ order = left.here f order ∙ left.none f order gone in
+    let same : without f (f ∷ order) ≡ order = left.behind f f order refl gone in
     own_less f order u n m R (subst (λ k. u < 2 ^ width k) (sym e) small) (subst (λ l. IsLeastCost l (residue f u R) m) same (subst (λ k. IsLeastCost (without k (f ∷ order)) (residue k u R) m) (sym e) low)) h
 
 pub no_less : (order : List ℕ) (g u : ℕ) → Has g order → AreDistinct order → u < 2 ^ width g → (R : List (Rule (List ℕ))) (n m : ℕ) → IsLeastCost (without g order) (residue g u R) m → IsLeastCost order R n → m ≤ n
 no_less [] g u has d small R n m low h = absurd has
 no_less (f ∷ order) g u (inl e) d small R n m low h = first_less f g order u n m R e d.0 small low h
 no_less (f ∷ order) g u (inr has) d small R n m low h =
-    let other : f ≢ g = λ e. left.not_missing g order has (subst (λ k. IsMissing k order) e d.0) in
-    front_less f order g u has d.1 small R (λ S a b. no_less order g u has d.1 small S a b) n m (subst (λ l. IsLeastCost l (residue g u R) m) (left.there g f order other) low) h
+    front_less f order g u has d.1 small R (λ S a b. no_less order g u has d.1 small S a b) n m (subst (λ l. IsLeastCost l (residue g u R) m) (left.there g f order (left.other g f order has d.0)) low) h
 
 -- a function costs no less than at one value of a field
 pub least_at : (order : List ℕ) (g u : ℕ) (whole at : (ℕ → ℕ) → ℕ) (n : ℕ) → Has g order → AreDistinct order → u < 2 ^ width g → ((h : ℕ → ℕ) → Fits h → whole (put g u h) ≡ at h) →

@@ -37,6 +37,7 @@ use Rattle.field_order.specs.Worth.{IsRearranged, IsCostBy, IsAtLeast, IsExact, 
 use Rattle.field_order.proofs.Without.{parted, missing, order_missing, order_distinct, distinct as left_distinct}
 use Rattle.field_order.proofs.Values.{put, put_fits, put_same, put_map, assigned, assigned_fits, assigned_map}
 use Rattle.field_order.proofs.Parts.{parts_cost, some_parts}
+use Rattle.field_order.proofs.Zipped.{weaker}
 
 -- what goes with the item at a place
 zip_at : {X : Type 0} (R : X → ℕ → Type 0) (xs : List X) (ys : List ℕ) (k : ℕ) (x : X) → AllZip R xs ys → slice_get xs k ≡ Some x → R x (slice_index ys k)
@@ -44,13 +45,6 @@ zip_at R [] ys k x z h = absurd (none-some x h)
 zip_at R (y ∷ xs) [] k x z h = absurd z
 zip_at R (y ∷ xs) (n ∷ ys) zero x z h = subst (λ w. R w n) (same_Some y x h) z.0
 zip_at R (y ∷ xs) (n ∷ ys) (suc k) x z h = zip_at R xs ys k x z.1 h
-
--- what follows of each item and what goes with it
-pub zip_more : {X : Type 0} (R S : X → ℕ → Type 0) (xs : List X) (ys : List ℕ) → ((k : ℕ) (x : X) (y : ℕ) → slice_get xs k ≡ Some x → R x y → S x y) → AllZip R xs ys → AllZip S xs ys
-zip_more R S [] [] by z = tt
-zip_more R S [] (y ∷ ys) by z = absurd z
-zip_more R S (x ∷ xs) [] by z = absurd z
-zip_more R S (x ∷ xs) (y ∷ ys) by z = (by 0 x y refl z.0, zip_more R S xs ys (λ k a b at r. by (suc k) a b at r) z.1)
 
 -- a row for each value is right
 right_singles : (w : ℕ) (lab : ℕ → ℕ) (Costs : ℕ → ℕ → Type 0) (most : ℕ) (plan : List Choice) → AreSingles w Costs most (2 ^ w) plan → IsRight w lab (rows_of lab plan)
@@ -145,7 +139,7 @@ module _ (nodes : List Node) (s : IsStore nodes) (id f F : ℕ) (front : IsFront
       IsAtLeast (f ∷ p) (answer_by nodes (level_of nodes id) id) (sum lows)
   bound lows z =
       some_parts f p (order_missing f p rest order (missing f (level_of nodes id))) (order_distinct p rest order) (answer_by nodes (level_of nodes id) id) parts at IsPart (λ c v is. is.0) one_part
-      (children_of (edges_of nodes F)) lows (zip_more (λ (c : NodeId) n. IsAtLeast p (answer_by nodes (level_of nodes c.0) c.0) n) (λ c n. (v : ℕ) × IsPart c v × IsAtLeast p (parts v) n)
+      (children_of (edges_of nodes F)) lows (weaker (λ (c : NodeId) n. IsAtLeast p (answer_by nodes (level_of nodes c.0) c.0) n) (λ c n. (v : ℕ) × IsPart c v × IsAtLeast p (parts v) n)
       (children_of (edges_of nodes F)) lows bounded z)
       (λ i j c a b. once (edges_of nodes F) i j c c a b refl)
 

@@ -165,8 +165,6 @@ module _ (f : ℕ) (p : List ℕ) (gone : IsMissing f p) (distinct : AreDistinct
 
       claims : (xs : List X) (lows : List ℕ) → AllZip IsBounded xs lows → AreOnce xs → (ks : List ℕ) × AllZip Stands xs ks × (sum lows ≤ paid (among ks) plan)
       claims [] [] z once = ([], tt, omega arith)
-      claims [] (n ∷ lows) z once = absurd z
-      claims (x ∷ xs) [] z once = absurd z
       claims (x ∷ xs) (n ∷ lows) z once =
           let first = claimed x n z.0 in
           let rest = claims xs lows z.1 (λ i j y a b. let e = once (suc i) (suc j) y a b in omega (arith, e)) in
@@ -176,6 +174,7 @@ module _ (f : ℕ) (p : List ℕ) (gone : IsMissing f p) (distinct : AreDistinct
           let more = paid_more first.0 rest.0 plan fresh in
           let total = sum_by-cons (λ m. m) n lows in
           (first.0 ∷ rest.0, (first.1, rest.1), omega (arith, first.2, rest.2, more, total))
+      claims xs lows z once = absurd assumption
 
     -- the function costs no less than these parts together
     pub some_parts : (xs : List X) (lows : List ℕ) → AllZip (λ x n. (v : ℕ) × Is x v × IsAtLeast p (gs v) n) xs lows → AreOnce xs → IsAtLeast (f ∷ p) g (sum lows)

@@ -1,14 +1,15 @@
 -- Every order has the fields of every other one, and its digits tell it.
-use Rattle.std.proofs.Common.{◌≡◌, ◌∷◌, ℕ, zero, suc, List, [], ◌+◌, ◌*◌, ◌/◌, ◌%◌, ◌<◌, ◌^◌, length, get_or, ap, arith, refl, ◌∙◌}
+use Rattle.std.proofs.Common.{◌≡◌, ◌∷◌, ℕ, zero, suc, List, [], ◌+◌, ◌*◌, ◌/◌, ◌%◌, ◌<◌, ◌^◌, length, get_or, ap, arith, refl, sym, subst, ◌∙◌, true, false}
+use Rattle.std.specs.Prelude.{Option, Some, None, IfSome, IsSome, ◌↔◌}
 use Rattle.std.specs.List.{All}
-use Rattle.std.proofs.lemmas.List.Elements.{All-tail}
+use Rattle.std.proofs.lemmas.List.Elements.{All-from_recursion, All-tail}
 use Rattle.field_boxes.specs.Orders.{IsMissing, AreDistinct, IsOrder, Has}
 use Rattle.field_order.specs.Order.{place_of}
 use Rattle.field_order.specs.Fronts.{without}
 use Rattle.field_boxes.proofs.Orders.{passed, has_each}
 use Rattle.field_order.specs.Worth.{IsRearranged, digits}
 use Rattle.field_order.specs.Search.{usual}
-use Rattle.field_order.proofs.Places.{small}
+use Rattle.field_order.proofs.Places.{five_digits, last_place, place_at, small}
 use Rattle.field_order.proofs.Without.{has_other, counted, distinct}
 
 all_other : (f : ℕ) (order level : List ℕ) → IsMissing f order → ((k : ℕ) (d : ℕ) → k < length order → Has (get_or order k d) level) → (k : ℕ) (d : ℕ) → k < length order → Has (get_or order k d) (without f level)
@@ -45,3 +46,15 @@ place_digits (f ∷ order) all =
     ap (λ g. g ∷ digits (length order) ((f * 5 ^ length order + place_of order) % 5 ^ length order)) p.0
     ∙ ap (λ n. f ∷ digits (length order) n) p.1
     ∙ ap (λ l. f ∷ l) (place_digits order (All-tail (λ g. g < 5) f order all))
+
+-- the five digits at the place of an order are the order
+digits_at : (p : List ℕ) (n : ℕ) → IsOrder p → place_of p ≡ n → five_digits n ≡ p
+digits_at p n is at =
+    let low = All-from_recursion (λ f. f < 5) (five_digits n) (omega arith, (omega arith, (omega arith, (omega arith, (omega arith, tt))))) in
+    let same : place_of (five_digits n) ≡ place_of p = place_at n (subst (λ k. k < 3125) at (last_place p is)) ∙ sym at in
+    sym (place_digits (five_digits n) low) ∙ ap (digits 5) same ∙ ap (λ k. digits k (place_of p)) (sym is.five) ∙ place_digits p is.fields
+
+pub stands : (n : ℕ) (found : Option (List ℕ)) → (IsSome found ↔ IsOrder (five_digits n)) → IfSome found (λ order. order ≡ five_digits n) →
+    (fields : List ℕ) → IsOrder fields → place_of fields ≡ n → found ≡ Some fields
+stands n None some same fields is at = let e : false ≡ true = some.1 (subst IsOrder (sym (digits_at fields n is at)) is) in cc
+stands n (Some order) some same fields is at = ap Some (same ∙ digits_at fields n is at)

@@ -6,19 +6,18 @@ use Rattle.field_boxes.specs.Headline.Classifier.{Rule}
 use Rattle.field_boxes.specs.NamedRules.{IsNumberedBy, named_rules}
 use Rattle.field_boxes.specs.Names.{name_at}
 use Rattle.node_store.specs.Levels.{IsLevel}
-use Rattle.node_store.specs.Diagram.{Node, level_of, answer}
+use Rattle.node_store.specs.Diagram.{Node, level_of}
 use Rattle.node_store.specs.Store.{Grows}
 use Rattle.node_store.proofs.Canonical.{in_use}
 use Rattle.node_store.proofs.Growth as growth
 use Rattle.fdd_build.proofs.Decided.{named, within}
-use Rattle.table_compose.specs.Headline.LeastCost.{IsLeastCost}
 use Rattle.field_order.specs.declared.worth.Worth.{Worth}
 use Rattle.field_order.specs.declared.worth.Worth.TheVariants.{Is, Above}
 use Rattle.field_order.specs.Best.{AreNamesOf}
 use Rattle.field_order.specs.Order.{place_of}
-use Rattle.field_boxes.specs.Orders.{IsOrder}
+use Rattle.field_boxes.specs.Orders.{AreDistinct, IsOrder}
 use Rattle.field_order.specs.Fronts.{Fits}
-use Rattle.field_order.specs.Worth.{AreApart, DecideBy, IsRearranged, IsWorth, AreFields, answer_by, digits}
+use Rattle.field_order.specs.Worth.{DecideBy, IsAtLeast, IsCostBy, IsRearranged, IsWorth, AreFields, answer_by, digits}
 use Rattle.field_order.specs.Search.{DecidesAs, usual}
 use Rattle.node_store.proofs.Orders.{order_level}
 use Rattle.field_order.proofs.RuleCosts.{AnswersRules}
@@ -51,32 +50,26 @@ later old new root rules g at d =
 pub level_later : (old new : List Node) (root : ℕ) → Grows old new → level_of old root ≡ usual → level_of new root ≡ usual
 level_later old new root g at = growth.level_kept old new root g (in_use old root usual usual_level at) ∙ at
 
--- the digits at an order's place are to be read from the root
-pub fields : (nodes : List Node) (root place : ℕ) (order level : List ℕ) → level ≡ usual → level_of nodes root ≡ usual → IsOrder order → place_of order ≡ place →
-    AreFields nodes level (digits (length level) place) root
-fields nodes root place order level same at is here =
-    let digits_are : digits 5 place ≡ order =
-    ap (digits 5) (sym here) ∙ subst (λ k. digits k (place_of order) ≡ order) is.five (place_digits order is.fields) in
-    subst (λ l. AreFields nodes l (digits (length l) place) root) (sym same) (record {
-      at = at;
-      apart = usual_order.distinct;
-      rearranged = subst (λ o. IsRearranged o usual) (sym digits_are) (rearranged order is);
-    })
-
-module _ (nodes : List Node) (root place : ℕ) (order level : List ℕ) (rules : List (Rule (List ℕ))) (same : level ≡ usual) (at : level_of nodes root ≡ usual) (is : IsOrder order) (here : place_of order ≡ place) (d : DecidesAs nodes usual root rules) where
+module _ (nodes : List Node) (root place : ℕ) (order level : List ℕ) (same : level ≡ usual) (at : level_of nodes root ≡ usual) (is : IsOrder order) (here : place_of order ≡ place) where
   digits_are : digits (length level) place ≡ order
   digits_are =
       ap (λ l. digits (length l) place) same ∙ ap (digits 5) (sym here) ∙ subst (λ k. digits k (place_of order) ≡ order) is.five (place_digits order is.fields)
 
-  decide : DecideBy order (answer_by nodes usual root) d.name rules
-  decide h fits = rearranged_source order usual h rules (rearranged order is) usual_order.distinct ∙ d.decide h fits
+  -- the digits at an order's place are to be read from the root
+  pub fields : AreFields nodes level (digits (length level) place) root
+  fields = record {
+    at = at ∙ sym same;
+    apart = subst AreDistinct (sym same) usual_order.distinct;
+    rearranged = subst (λ o. IsRearranged o level) (sym digits_are) (subst (IsRearranged order) (sym same) (rearranged order is));
+  }
 
-  pub holds : (worth : Worth) → IsWorth nodes (digits (length level) place) root worth → Holds rules order worth
-  holds (Is n) w =
-      subst (λ l. AreApart (λ h. answer nodes root (map h l)) d.name → DecideBy order (λ h. answer nodes root (map h l)) d.name rules → IsLeastCost order rules n) at
-      (subst (λ o. AreApart (answer_by nodes (level_of nodes root) root) d.name → DecideBy o (answer_by nodes (level_of nodes root) root) d.name rules → IsLeastCost o rules n) digits_are (w.least d.name rules))
-      d.apart decide
-  holds (Above n) w =
-      subst (λ l. AreApart (λ h. answer nodes root (map h l)) d.name → DecideBy order (λ h. answer nodes root (map h l)) d.name rules → (m : ℕ) → IsLeastCost order rules m → n + 1 ≤ m) at
-      (subst (λ o. AreApart (answer_by nodes (level_of nodes root) root) d.name → DecideBy o (answer_by nodes (level_of nodes root) root) d.name rules → (m : ℕ) → IsLeastCost o rules m → n + 1 ≤ m) digits_are (w d.name rules))
-      d.apart decide
+  module _ (rules : List (Rule (List ℕ))) (d : DecidesAs nodes usual root rules) where
+    decide : DecideBy order (answer_by nodes usual root) d.name rules
+    decide h fits = rearranged_source order usual h rules (rearranged order is) usual_order.distinct ∙ d.decide h fits
+
+    read : (P : List ℕ → ((ℕ → ℕ) → ℕ) → Type 0) → P (digits (length level) place) (answer_by nodes (level_of nodes root) root) → P order (answer_by nodes usual root)
+    read P h = subst (λ l. P order (answer_by nodes l root)) at (subst (λ o. P o (answer_by nodes (level_of nodes root) root)) digits_are h)
+
+    pub holds : (worth : Worth) → IsWorth nodes (digits (length level) place) root worth → Holds rules order worth
+    holds (Is n) w = read (λ o g. IsCostBy o g n) w.least d.name rules d.apart decide
+    holds (Above n) w = read (λ o g. IsAtLeast o g (n + 1)) w d.name rules d.apart decide

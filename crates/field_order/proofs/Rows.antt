@@ -20,10 +20,7 @@ use Rattle.field_order.proofs.Zipped as zipped
 
 -- as many values, or fewer
 pub narrowed : (nodes : List Node) (lo hi less : ℕ) (es ds : List Edge) → less ≤ hi → AllZip (IsCell nodes lo hi) es ds → AllZip (IsCell nodes lo less) es ds
-narrowed nodes lo hi less [] [] h z = z
-narrowed nodes lo hi less [] (d ∷ ds) h z = absurd z
-narrowed nodes lo hi less (e ∷ es) [] h z = absurd z
-narrowed nodes lo hi less (e ∷ es) (d ∷ ds) h z = ((z.0.0, λ v low high. z.0.1 v low (omega (arith, high, h))), narrowed nodes lo hi less es ds h z.1)
+narrowed nodes lo hi less es ds h z = zipped.weaker (IsCell nodes lo hi) (IsCell nodes lo less) es ds (λ k e d at is. (is.0, λ v low high. is.1 v low (omega (arith, high, h)))) z
 
 module _ (nodes : List Node) (lo hi : ℕ) where
   abbrev Leads : ℕ → ℕ → Type 0

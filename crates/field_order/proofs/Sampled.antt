@@ -12,7 +12,7 @@ use Rattle.node_store.specs.Levels.{HasField, IsLevel, next as next_level}
 use Rattle.node_store.specs.Edges.{child_of}
 use Rattle.node_store.specs.Diagram.{Node, level_of, edges_of, answer}
 use Rattle.node_store.specs.Store.{IsStore, IsInner, Grows}
-use Rattle.std.proofs.lemmas.Option.{get_or_from_slice_get, slice_get-get_or, slice_get_within}
+use Rattle.std.proofs.lemmas.Option.{slice_get-get_or}
 use Rattle.node_store.proofs.Canonical.{in_use, one}
 use Rattle.node_store.proofs.Edges.{rise_of, same_id}
 use Rattle.node_store.proofs.Growth as growth
@@ -31,12 +31,8 @@ use Rattle.field_order.proofs.Rows.{edges_kept}
 use Rattle.field_order.proofs.Stays as stays
 use Rattle.field_order.proofs.Digits.{below_is, below_order}
 use Rattle.field_order.proofs.Narrowed.{least_at}
-use Rattle.field_order.proofs.NodeParts.{zip_more}
+use Rattle.field_order.proofs.Zipped.{all_at, weaker}
 use Rattle.field_order.proofs.Fronted.{crossing, sampled}
-
--- what holds of each item holds of the one at a place
-all_at : {X : Type 0} (P : X → Type 0) (xs : List X) (k : ℕ) (x : X) → All P xs → slice_get xs k ≡ Some x → P x
-all_at P xs k x all h = subst P (get_or_from_slice_get xs k x x h) (all k x (slice_get_within xs k x h))
 
 -- a node costs no less than one of its children in the order without the node's own field
 pub child_bound : (nodes : List Node) (id g : ℕ) (rest order : List ℕ) (k : ℕ) (e : Edge) (n : ℕ) → IsStore nodes → level_of nodes id ≡ g ∷ rest → IsLevel (g ∷ rest) → AreDistinct (g ∷ rest) →
@@ -104,7 +100,7 @@ module _ (n0 n1 n2 n3 : List Node) (id f g : ℕ) (rest : List ℕ) (s : IsStore
   bound lows z =
       some_parts f p (left.order_missing f p lower order missing) (left.order_distinct p lower order) whole (λ v h. whole (put f v h)) (λ v h small fits. refl) IsPart (λ c v a. a.0) single
       (children_of samples) lows
-      (zip_more (λ (c : NodeId) n. IsAtLeast p (answer_by n3 (level_of n3 c.0) c.0) n) (λ (c : NodeId) n. (v : ℕ) × IsPart c v × IsAtLeast p (λ h. whole (put f v h)) n) (children_of samples) lows
+      (weaker (λ (c : NodeId) n. IsAtLeast p (answer_by n3 (level_of n3 c.0) c.0) n) (λ (c : NodeId) n. (v : ℕ) × IsPart c v × IsAtLeast p (λ h. whole (put f v h)) n) (children_of samples) lows
       (λ k c n here low.
       let found = part k c here in
       (found.0, found.1, least_alike p (answer_by n3 (level_of n3 c.0) c.0) (λ h. whole (put f found.0 h)) (λ h fits. sym (found.1.2 h fits) ∙ ap (λ l. answer n3 c.0 (map h l)) (sym found.1.1)) n low)) z)
@@ -124,23 +120,27 @@ children_fields nodes (g ∷ rest) slice order below d id seen s is some fields 
     subst (λ l. All (λ (e : Edge). AreFields nodes l (digits (length l) below) e.to.0) seen) (sym same_slice)
     (subst (All (λ (e : Edge). AreFields nodes rest (digits (length rest) below) e.to.0)) (sym same_edges) each)
 
-child_is_above : (n0 n1 : List Node) (level slice : List ℕ) (order below cap d k : ℕ) (id : NodeId) (seen : List Edge) (e : Edge) → IsStore n1 → IsLevel level → HasField level →
+pub child_told : (b : Bool) (n0 n1 : List Node) (level slice : List ℕ) (order below cap d : ℕ) (id : NodeId) (seen : List Edge) → IsStore n1 → IsLevel level → HasField level →
     AreFields n0 level (digits (length level) order) id.0 → Grows n0 n1 → slice ≡ next_level level → seen ≡ edges_of n0 id.0 → below ≡ place_of (without (get_or level 0 d) (digits (length level) order)) →
-    slice_get seen k ≡ Some e → IsAbove n1 (digits (length slice) below) cap e.to → IsAbove n1 (digits (length level) order) cap id
-child_is_above n0 n1 [] slice order below cap d k id seen e s is some fields grown same_slice same_edges below_place here above = absurd some
-child_is_above n0 n1 (g ∷ rest) slice order below cap d k id seen e s is some fields grown same_slice same_edges below_place here above =
+    OnTrue b ((k : ℕ) × (e : Edge) × (slice_get seen k ≡ Some e) × IsAbove n1 (digits (length slice) below) cap e.to) → OnTrue b (IsAbove n1 (digits (length level) order) cap id)
+child_told false n0 n1 level slice order below cap d id seen s is some fields grown same_slice same_edges below_place told = tt
+child_told true n0 n1 [] slice order below cap d id seen s is some fields grown same_slice same_edges below_place told = absurd some
+child_told true n0 n1 (g ∷ rest) slice order below cap d id seen s is some fields grown same_slice same_edges below_place told =
+    let k = told.0 in
+    let e = told.1 in
     let stands = in_use n0 id.0 (g ∷ rest) is fields.at in
     let at = growth.level_kept n0 n1 id.0 grown stands ∙ fields.at in
-    let edge = ap (λ xs. slice_get xs k) (edges_kept n0 n1 id.0 grown stands ∙ sym same_edges) ∙ here in
+    let edge = ap (λ xs. slice_get xs k) (edges_kept n0 n1 id.0 grown stands ∙ sym same_edges) ∙ told.2 in
     let o : digits (length slice) below ≡ without g (digits (length (g ∷ rest)) order) = ap (λ l. digits (length l) below) same_slice ∙ below_is g rest order is fields.apart fields.rearranged below below_place in
     child_bound n1 id.0 g rest (digits (length (g ∷ rest)) order) k e (cap + 1) s at is fields.apart fields.rearranged edge
-    (subst (λ x. IsAtLeast x (answer_by n1 (level_of n1 e.to.0) e.to.0) (cap + 1)) o above)
+    (subst (λ x. IsAtLeast x (answer_by n1 (level_of n1 e.to.0) e.to.0) (cap + 1)) o told.3)
 
-several_are_above : (n0 n1 n2 : List Node) (level others : List ℕ) (id : NodeId) (f order cap : ℕ) (es seen : List Edge) → IsStore n0 → IsStore n2 → IsLevel level → HasField level → AreDistinct level →
+pub several_told : (b : Bool) (n0 n1 n2 : List Node) (level others : List ℕ) (id : NodeId) (f order cap : ℕ) (es seen : List Edge) → IsStore n0 → IsStore n2 → IsLevel level → HasField level → AreDistinct level →
     level_of n0 id.0 ≡ level → Has f (next_level level) → IsRearranged (digits (length (without f level)) order) (without f level) → Grows n0 n1 → AllZip (IsFrontEdge n1 f) (edges_of n0 id.0) es → Grows n1 n2 →
-    others ≡ without f level → seen ≡ es → AreAbove n1 n2 others f seen (digits (length others) order) cap → IsAbove n2 (f ∷ digits (length (without f level)) order) cap id
-several_are_above n0 n1 n2 [] others id f order cap es seen s s2 is some d at has r g01 zip g12 same_level same_edges a = absurd some
-several_are_above n0 n1 n2 (g ∷ rest) others id f order cap es seen s s2 is some d at has r g01 zip g12 same_level same_edges a =
+    others ≡ without f level → seen ≡ es → OnTrue b (AreAbove n1 n2 others f seen (digits (length others) order) cap) → OnTrue b (IsAbove n2 (f ∷ digits (length (without f level)) order) cap id)
+several_told false n0 n1 n2 level others id f order cap es seen s s2 is some d at has r g01 zip g12 same_level same_edges a = tt
+several_told true n0 n1 n2 [] others id f order cap es seen s s2 is some d at has r g01 zip g12 same_level same_edges a = absurd some
+several_told true n0 n1 n2 (g ∷ rest) others id f order cap es seen s s2 is some d at has r g01 zip g12 same_level same_edges a =
     let whole = answer_by n2 (level_of n2 id.0) id.0 in
     let same : without f (g ∷ rest) ≡ g ∷ without f rest = (crossing f g rest has d is).lower in
     let now = growth.level_kept n0 n2 id.0 (growth.twice n0 n1 n2 g01 g12) (in_use n0 id.0 (g ∷ rest) is at) ∙ at in
@@ -150,20 +150,6 @@ several_are_above n0 n1 n2 (g ∷ rest) others id f order cap es seen s s2 is so
     let least = bound n0 a.first a.made n2 id.0 f g rest s s2 at is d has (growth.twice n0 n1 a.first g01 a.begun) (growth.twice n0 n1 n2 g01 g12) a.grows es (stays.front_edges n1 a.first a.begun f (edges_of n0 id.0) es zip) a.samples are
     p (subst (IsRearranged p) same r) above.0 above.1 in
     lowered (f ∷ p) whole (sum above.0) (cap + 1) (omega (arith, above.2)) (subst (λ l. IsAtLeast (f ∷ p) (answer_by n2 l id.0) (sum above.0)) (sym now) least)
-
-pub child_told : (b : Bool) (n0 n1 : List Node) (level slice : List ℕ) (order below cap d : ℕ) (id : NodeId) (seen : List Edge) → IsStore n1 → IsLevel level → HasField level →
-    AreFields n0 level (digits (length level) order) id.0 → Grows n0 n1 → slice ≡ next_level level → seen ≡ edges_of n0 id.0 → below ≡ place_of (without (get_or level 0 d) (digits (length level) order)) →
-    OnTrue b ((k : ℕ) × (e : Edge) × (slice_get seen k ≡ Some e) × IsAbove n1 (digits (length slice) below) cap e.to) → OnTrue b (IsAbove n1 (digits (length level) order) cap id)
-child_told false n0 n1 level slice order below cap d id seen s is some fields grown same_slice same_edges below_place told = tt
-child_told true n0 n1 level slice order below cap d id seen s is some fields grown same_slice same_edges below_place told =
-    child_is_above n0 n1 level slice order below cap d told.0 id seen told.1 s is some fields grown same_slice same_edges below_place told.2 told.3
-
-pub several_told : (b : Bool) (n0 n1 n2 : List Node) (level others : List ℕ) (id : NodeId) (f order cap : ℕ) (es seen : List Edge) → IsStore n0 → IsStore n2 → IsLevel level → HasField level → AreDistinct level →
-    level_of n0 id.0 ≡ level → Has f (next_level level) → IsRearranged (digits (length (without f level)) order) (without f level) → Grows n0 n1 → AllZip (IsFrontEdge n1 f) (edges_of n0 id.0) es → Grows n1 n2 →
-    others ≡ without f level → seen ≡ es → OnTrue b (AreAbove n1 n2 others f seen (digits (length others) order) cap) → OnTrue b (IsAbove n2 (f ∷ digits (length (without f level)) order) cap id)
-several_told false n0 n1 n2 level others id f order cap es seen s s2 is some d at has r g01 zip g12 same_level same_edges told = tt
-several_told true n0 n1 n2 level others id f order cap es seen s s2 is some d at has r g01 zip g12 same_level same_edges told =
-    several_are_above n0 n1 n2 level others id f order cap es seen s s2 is some d at has r g01 zip g12 same_level same_edges told
 
 -- the parts at some values are to be read in the rest of the order
 pub sample_fields : (old new : List Node) (level order : List ℕ) (f : ℕ) (es samples : List Edge) → AreDistinct level → IsRearranged order level → All (IsSample old new level f es) samples →

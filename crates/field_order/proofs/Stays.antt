@@ -1,6 +1,6 @@
 -- What was found of old numbers stays when a store grows.
-use Rattle.std.proofs.Common.{◌≡◌, ◌∷◌, ℕ, List, [], ◌+◌, ◌<◌, ◌≤◌, ◌^◌, suc, length, get_or, map, ap, arith, sym, ◌∙◌, subst}
-use Rattle.std.specs.List.{AllZip}
+use Rattle.std.proofs.Common.{◌≡◌, ◌∷◌, ℕ, List, ◌+◌, ◌<◌, ◌≤◌, ◌^◌, length, map, ap, arith, sym, ◌∙◌, subst}
+use Rattle.std.specs.List.{All, AllZip}
 use Rattle.std.proofs.lemmas.List.{length-append}
 use Rattle.node_store.specs.declared.edge.NodeId.{NodeId}
 use Rattle.node_store.specs.declared.edge.Edge.{Edge}
@@ -17,6 +17,7 @@ use Rattle.field_order.specs.declared.worth.Worths.{Worths}
 use Rattle.field_order.specs.Fronts.{without, IsFront, IsFrontEdge, AreFronts}
 use Rattle.field_order.specs.Worth.{IsExact, IsWorth, IsKept, AreWorths, AreFields, answer_by, digits}
 use Rattle.field_order.proofs.Parts.{cost_alike, least_alike}
+use Rattle.field_order.proofs.Zipped as zipped
 
 module _ (old new : List Node) (g : Grows old new) where
   pub level : (id : ℕ) → id < length old → level_of new id ≡ level_of old id
@@ -42,10 +43,7 @@ module _ (old new : List Node) (g : Grows old new) where
   fronts found are asked made h = front asked.id.0 asked.field made.0 (are asked made h)
 
   pub front_edges : (f : ℕ) (es ds : List Edge) → AllZip (IsFrontEdge old f) es ds → AllZip (IsFrontEdge new f) es ds
-  front_edges f [] [] z = z
-  front_edges f [] (d ∷ ds) z = absurd z
-  front_edges f (e ∷ es) [] z = absurd z
-  front_edges f (e ∷ es) (d ∷ ds) z = ((z.0.0, front e.to.0 f d.to.0 z.0.1), front_edges f es ds z.1)
+  front_edges f es ds z = zipped.weaker (IsFrontEdge old f) (IsFrontEdge new f) es ds (λ k e d at is. (is.0, front e.to.0 f d.to.0 is.1)) z
 
   same_answers : (id : ℕ) → id < length old → (h : ℕ → ℕ) → answer_by new (level_of new id) id h ≡ answer_by old (level_of old id) id h
   same_answers id used h = g.answers id (map h (level_of new id)) used ∙ ap (λ l. answer old id (map h l)) (level id used)
@@ -70,12 +68,11 @@ module _ (old new : List Node) (g : Grows old new) where
   pub worths : (found : Worths) → AreWorths old found → AreWorths new found
   worths found are key w h = kept key w (are key w h)
 
-  pub exacts : (order : List ℕ) (ids : List NodeId) (ns : List ℕ) → ((k : ℕ) (d : NodeId) → k < length ids → (get_or ids k d).0 < length old) → AllZip (λ (c : NodeId) n. IsExact old order c.0 n) ids ns →
+  pub exacts : (order : List ℕ) (ids : List NodeId) (ns : List ℕ) → All (λ (c : NodeId). c.0 < length old) ids → AllZip (λ (c : NodeId) n. IsExact old order c.0 n) ids ns →
       AllZip (λ (c : NodeId) n. IsExact new order c.0 n) ids ns
-  exacts order [] [] used z = z
-  exacts order [] (n ∷ ns) used z = absurd z
-  exacts order (c ∷ ids) [] used z = absurd z
-  exacts order (c ∷ ids) (n ∷ ns) used z = (exact order c.0 n (used 0 c (omega arith)) z.0, exacts order ids ns (λ k d less. used (suc k) d (omega (arith, less))) z.1)
+  exacts order ids ns used z =
+      zipped.weaker (λ (c : NodeId) n. IsExact old order c.0 n) (λ (c : NodeId) n. IsExact new order c.0 n) ids ns
+      (λ k c n at is. exact order c.0 n (zipped.all_at (λ (x : NodeId). x.0 < length old) ids k c used at) is) z
 
   pub fields : (l order : List ℕ) (id : ℕ) → IsLevel l → AreFields old l order id → AreFields new l order id
   fields l order id is are = record {

@@ -1,10 +1,10 @@
 -- What a node costs in an order, from what its parts by the order's first field cost in the rest of the order.
-use Rattle.std.proofs.Common.{◌≡◌, ◌∷◌, ℕ, List, [], ◌+◌, ◌-◌, ◌/◌, ◌%◌, ◌<◌, ◌≤◌, ◌^◌, length, get_or, ap, arith, refl, sym, ◌∙◌, subst}
-use Rattle.std.specs.Prelude.{suc, slice_get, Some, sum, None}
+use Rattle.std.proofs.Common.{◌≡◌, ◌∷◌, ℕ, List, [], ◌+◌, ◌-◌, ◌/◌, ◌%◌, ◌<◌, ◌≤◌, ◌^◌, length, get_or, ap, arith, sym, ◌∙◌, subst}
+use Rattle.std.specs.Prelude.{slice_get, Some, sum, None}
 use Rattle.std.specs.List.{All, AllZip}
 use Rattle.std.proofs.lemmas.Nat.{pow_pos}
 use Rattle.std.proofs.lemmas.List.{length-append}
-use Rattle.std.proofs.lemmas.Option.{slice_get-get_or, get_or_from_slice_get, slice_get_within}
+use Rattle.std.proofs.lemmas.Option.{slice_get-get_or}
 use Rattle.field_boxes.specs.Headline.Fields.{width}
 use Rattle.node_store.specs.declared.edge.NodeId.{NodeId}
 use Rattle.node_store.specs.declared.edge.Edge.{Edge}
@@ -24,15 +24,14 @@ use Rattle.table_compose.proofs.NodeCost.{AreMinimal, leaf-cost}
 use Rattle.field_order.specs.Fronts.{without, IsFront}
 use Rattle.field_order.specs.declared.worth.Worth.{Worth}
 use Rattle.field_order.specs.Worth.{IsRearranged, IsCostBy, IsAtLeast, IsExact, IsWorth, IsKept, AreFields, AreWeights, answer_by, digits}
+use Rattle.field_order.proofs.Digits.{digits_parts}
+use Rattle.field_order.proofs.Fronted.{some_field}
 use Rattle.field_order.proofs.Without as left
 use Rattle.field_order.proofs.Stays as stays
 use Rattle.field_order.proofs.Parts.{lower}
 use Rattle.field_order.proofs.Rows.{edges_kept}
 use Rattle.field_order.proofs.NodeParts as parts
-
--- what holds of each item holds of the one at a place
-all_at : {X : Type 0} (P : X → Type 0) (xs : List X) (k : ℕ) (x : X) → All P xs → slice_get xs k ≡ Some x → P x
-all_at P xs k x all h = subst P (get_or_from_slice_get xs k x x h) (all k x (slice_get_within xs k x h))
+use Rattle.field_order.proofs.Zipped.{all_at}
 
 -- the first field of the order, and the order of the others
 pub record IsStep (level : List ℕ) (order f next : ℕ) : Type 0 where
@@ -40,18 +39,13 @@ pub record IsStep (level : List ℕ) (order f next : ℕ) : Type 0 where
   pub order_is : digits (length level) order ≡ f ∷ digits (length (without f level)) next
   pub rest : IsRearranged (digits (length (without f level)) next) (without f level)
 
-digits_of : (level : List ℕ) (n : ℕ) → HasField level → digits (length level) n ≡ n / 5 ^ (length level - 1) ∷ digits (length level - 1) (n % 5 ^ (length level - 1))
-digits_of [] n h = absurd h
-digits_of (f ∷ level) n h =
-    subst (λ k. digits (suc (length level)) n ≡ n / 5 ^ k ∷ digits k (n % 5 ^ k)) (let e : length level ≡ length (f ∷ level) - 1 = omega arith in e) refl
-
 pub step : (nodes : List Node) (level : List ℕ) (order id unit : ℕ) → IsLevel level → HasField level → AreFields nodes level (digits (length level) order) id → unit ≡ 5 ^ (length level - 1) →
     IsStep level order (order / unit) (order % unit)
 step nodes level order id unit is has fields unit_is =
     let k = length level - 1 in
     let f = order / unit in
     let next = order % unit in
-    let all : digits (length level) order ≡ f ∷ digits k next = digits_of level order has ∙ ap (λ u. order / u ∷ digits k (order % u)) (sym unit_is) in
+    let all : digits (length level) order ≡ f ∷ digits k next = digits_parts (length level) order unit unit_is (omega (arith, some_field level has)) in
     let both : IsRearranged (f ∷ digits k next) level = subst (λ o. IsRearranged o level) all fields.rearranged in
     let count = (left.parted f level both.0 fields.apart is).count in
     let long : k ≡ length (without f level) = omega (arith, count) in record {

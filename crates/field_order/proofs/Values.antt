@@ -58,11 +58,10 @@ assigned_fits (f ∷ level) (v ∷ vs) ok = put_fits f v (assigned level vs) ok.
 
 pub assigned_map : (level vs : List ℕ) → AreDistinct level → AreValues level vs → map (assigned level vs) level ≡ vs
 assigned_map [] [] d ok = refl
-assigned_map [] (v ∷ vs) d ok = absurd ok
-assigned_map (f ∷ level) [] d ok = absurd ok
 assigned_map (f ∷ level) (v ∷ vs) d ok =
     ap (λ x. x ∷ map (put f v (assigned level vs)) level) (put_same f v (assigned level vs))
     ∙ ap (λ xs. v ∷ xs) (put_map f v (assigned level vs) level d.0 ∙ assigned_map level vs d.1 ok.1)
+assigned_map level vs d ok = absurd assumption
 
 -- a rule matches in any order of the fields alike
 swap : (a b c : Bool) → (a && (b && c)) ≡ (b && (a && c))
@@ -75,13 +74,11 @@ taken_out : {A : Type 0} (f : ℕ) (level : List ℕ) (h : ℕ → ℕ) (r : Rul
     matches level (map h level) r ≡ (set_holds f (h f) r && matches (without f level) (map h (without f level)) r)
 taken_out f [] h r has d = absurd has
 taken_out {A} f (g ∷ level) h r (inl e) d =
-    let same : without f (g ∷ level) ≡ level = ap (λ k. without f (k ∷ level)) e ∙ left.here f level ∙ left.none f level (subst (λ k. IsMissing k level) e d.0) in
-    ap (λ k. set_holds k (h k) r && matches level (map h level) r) e ∙ ap (λ l. set_holds f (h f) r && matches l (map h l) r) (sym same)
+    ap (λ k. set_holds k (h k) r && matches level (map h level) r) e ∙ ap (λ l. set_holds f (h f) r && matches l (map h l) r) (sym (left.behind f g level e d.0))
 taken_out {A} f (g ∷ level) h r (inr has) d =
-    let other : g ≢ f = λ e. left.not_missing f level has (subst (λ k. IsMissing k level) e d.0) in
     ap (λ b. set_holds g (h g) r && b) (taken_out f level h r has d.1)
     ∙ swap (set_holds g (h g) r) (set_holds f (h f) r) (matches (without f level) (map h (without f level)) r)
-    ∙ ap (λ l. set_holds f (h f) r && matches l (map h l) r) (sym (left.there f g level other))
+    ∙ ap (λ l. set_holds f (h f) r && matches l (map h l) r) (sym (left.there f g level (left.other f g level has d.0)))
 
 pub rearranged_matches : {A : Type 0} (order level : List ℕ) (h : ℕ → ℕ) (r : Rule A) → IsRearranged order level → AreDistinct level →
     matches order (map h order) r ≡ matches level (map h level) r

@@ -2,6 +2,7 @@
 use Rattle.std.proofs.Common.{◌≡◌, ◌∷◌, ◌++◌, ℕ, List, [], ◌+◌, ◌-◌, ◌<◌, ◌≤◌, length, get_or, take, ap, arith, refl, ◌∙◌}
 use Rattle.std.specs.Prelude.{suc, zero, sum}
 use Rattle.std.specs.List.{All, AllZip}
+use Rattle.std.proofs.lemmas.List.Elements.{All-take}
 use Rattle.std.proofs.lemmas.List.Sums.{sum_by-cons, sum_by-append}
 use Rattle.node_store.specs.declared.edge.NodeId.{NodeId}
 use Rattle.node_store.specs.Diagram.{Node, level_of}
@@ -32,18 +33,15 @@ module _ (nodes : List Node) (order : List ℕ) where
   -- the costs so far, and one entry of each that is left
   known : (ids : List NodeId) (i : ℕ) (weights : List ℕ) → AllZip IsCost (take i ids) weights → (lows : List ℕ) × AllZip IsLow ids lows × (sum lows ≡ sum weights + (length ids - i))
   known [] zero [] z = ([], tt, omega arith)
-  known [] zero (n ∷ weights) z = absurd z
   known [] (suc i) [] z = ([], tt, omega arith)
-  known [] (suc i) (n ∷ weights) z = absurd z
   known (c ∷ ids) zero [] z = let all = ones (c ∷ ids) in (all.0, all.1, omega (arith, all.2))
-  known (c ∷ ids) zero (n ∷ weights) z = absurd z
-  known (c ∷ ids) (suc i) [] z = absurd z
   known (c ∷ ids) (suc i) (n ∷ weights) z =
       let rest = known ids i weights z.1 in (
         n ∷ rest.0,
         (bound_of order (answer_by nodes (level_of nodes c.0) c.0) n z.0.least, rest.1),
         (let e = sum_by-cons (λ x. x) n rest.0 in let d = sum_by-cons (λ x. x) n weights in omega (arith, e, d, rest.2)),
       )
+  known ids i weights z = absurd assumption
 
   -- one that costs more than is left
   beyond : (ids : List NodeId) (i m : ℕ) (d : NodeId) (weights : List ℕ) → AllZip IsCost (take i ids) weights → i < length ids → IsLow (get_or ids i d) m →
@@ -51,14 +49,13 @@ module _ (nodes : List Node) (order : List ℕ) where
   beyond [] i m d weights z less low = absurd (omega (arith, less))
   beyond (c ∷ ids) zero m d [] z less low = let rest = ones ids in
       (m ∷ rest.0, (low, rest.1), (let e = sum_by-cons (λ x. x) m rest.0 in omega (arith, e, rest.2)))
-  beyond (c ∷ ids) zero m d (n ∷ weights) z less low = absurd z
-  beyond (c ∷ ids) (suc i) m d [] z less low = absurd z
   beyond (c ∷ ids) (suc i) m d (n ∷ weights) z less low =
       let rest = beyond ids i m d weights z.1 (omega (arith, less)) low in (
         n ∷ rest.0,
         (bound_of order (answer_by nodes (level_of nodes c.0) c.0) n z.0.least, rest.1),
         (let e = sum_by-cons (λ x. x) n rest.0 in let k = sum_by-cons (λ x. x) n weights in omega (arith, e, k, rest.2)),
       )
+  beyond ids i m d weights z less low = absurd assumption
 
   -- the cap is reached by those so far
   pub reached : (ids : List NodeId) (i others cap : ℕ) (weights : List ℕ) → AllZip IsCost (take i ids) weights → i < length ids → others ≤ sum weights + (length ids - i) - 1 → cap ≤ others → AreAbove ids cap
@@ -86,10 +83,4 @@ in_store first old level order ids is g all k d less =
 
 pub stay : (old new : List Node) → Grows old new → (order : List ℕ) (ids : List NodeId) (i : ℕ) (weights : List ℕ) → ((k : ℕ) (d : NodeId) → k < length ids → (get_or ids k d).0 < length old) →
     AllZip (λ (c : NodeId) n. IsExact old order c.0 n) (take i ids) weights → AllZip (λ (c : NodeId) n. IsExact new order c.0 n) (take i ids) weights
-stay old new g order [] zero weights used z = stays.exacts old new g order [] weights (λ k d less. absurd (omega (arith, less))) z
-stay old new g order [] (suc i) weights used z = stays.exacts old new g order [] weights (λ k d less. absurd (omega (arith, less))) z
-stay old new g order (c ∷ ids) zero [] used z = z
-stay old new g order (c ∷ ids) zero (n ∷ weights) used z = absurd z
-stay old new g order (c ∷ ids) (suc i) [] used z = absurd z
-stay old new g order (c ∷ ids) (suc i) (n ∷ weights) used z =
-    (stays.exact old new g order c.0 n (used 0 c (omega arith)) z.0, stay old new g order ids i weights (λ k d less. used (suc k) d (omega (arith, less))) z.1)
+stay old new g order ids i weights used z = stays.exacts old new g order (take i ids) weights (All-take (λ (c : NodeId). c.0 < length old) i ids used) z

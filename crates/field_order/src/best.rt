@@ -97,16 +97,9 @@ fn better(
         return Ok(best);
     };
     let level = usual();
+    let fields = as_level(&level);
     let found = worth(
-        alloc,
-        store,
-        fronts,
-        worths,
-        costing,
-        as_level(&level),
-        root,
-        place,
-        best.cost,
+        alloc, store, fronts, worths, costing, fields, root, place, best.cost,
     )?;
     Ok(chosen(best, order, place, found))
 }

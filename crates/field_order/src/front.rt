@@ -113,10 +113,7 @@ pub(crate) fn front_edges(
 pub(crate) fn copied(alloc: Global, edges: &[Edge]) -> Result<Edges, Memory>
     ensures { IfOk result (λ copy. copy.items ≡ edges.now) }
 {
-    let mut copy = SmallVec::new(alloc);
-    for edge in edges {
-        copy.push(*edge)?;
-    }
+    let copy = SmallVec::from_slice(alloc, edges)?;
     Ok(copy)
 }
 
@@ -139,8 +136,6 @@ pub(crate) fn before(alloc: Global, field: u8, level: &[u8]) -> Result<Fields, M
 {
     let mut fields = SmallVec::new(alloc);
     fields.push(field)?;
-    for other in level {
-        fields.push(*other)?;
-    }
+    fields.extend_from_slice(level)?;
     Ok(fields)
 }

@@ -11,16 +11,10 @@ order_without-requires t c =
     let unit = c.unit-unit.ensures.value in
     let r = c.requires in
     let other : c.args.order / c.unit-unit.result ≢ c.args.field = λ e. c.if-first-from.false (e ∙ sym c.from.ensures) in
-    let has = has_later c.args.count c.args.order c.unit-unit.result c.args.field unit r.fields r.apart r.has other in (
-      omega (arith, c.decreases, some_digit c.args.field c.args.count c.args.order r.has),
-      (
-        omega (arith, r.count),
-        (
-          fields_later c.args.count c.args.order c.unit-unit.result c.args.field unit r.fields r.apart r.has,
-          (apart_later c.args.count c.args.order c.unit-unit.result c.args.field unit r.fields r.apart r.has, has),
-        ),
-      ),
-    )
+    let has = has_later c.args.count c.args.order c.unit-unit.result c.args.field unit r.fields r.apart r.has other in
+    let fields = fields_later c.args.count c.args.order c.unit-unit.result c.args.field unit r.fields r.apart r.has in
+    let apart = apart_later c.args.count c.args.order c.unit-unit.result c.args.field unit r.fields r.apart r.has in
+    (omega (arith, c.decreases, some_digit c.args.field c.args.count c.args.order r.has), (omega (arith, r.count), (fields, (apart, has))))
 
 pub returns : goal.returns
 returns t c =

@@ -1,4 +1,5 @@
-use Rattle.field_order.proofs.Places.{placed, stands}
+use Rattle.field_order.proofs.Places.{placed}
+use Rattle.field_order.proofs.Rearranged.{stands}
 use Rattle.field_order.proofs.order.order_at.Goals as goal
 
 pub returns-clause-place : goal.returns-clause-place

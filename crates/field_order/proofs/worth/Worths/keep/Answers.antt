@@ -1,7 +1,7 @@
 use Rattle.std.proofs.Common.{ap, ◌∙◌, sym}
 use Rattle.std.specs.Map.{lookup}
 use Rattle.field_order.specs.Worth.{same_valued, IsKept}
-use Rattle.field_order.proofs.Kept.{kept_worth}
+use Rattle.field_order.proofs.Kept.{kept, valued_is}
 use Rattle.field_order.proofs.worth.Worths.keep.Goals as goal
 
 pub returns-in_err-insert : goal.returns-in_err-insert
@@ -10,5 +10,5 @@ returns-in_err-insert c = λ nodes worths here key worth h.
 
 pub returns : goal.returns
 returns c = λ nodes worths here.
-    kept_worth (IsKept nodes) (λ k. lookup (same_valued k) c.args.self.now.known.entries) (λ k. lookup (same_valued k) c.insert.new.self.entries) c.args.key c.args.worth
+    kept same_valued valued_is (IsKept nodes) (λ k. lookup (same_valued k) c.args.self.now.known.entries) (λ k. lookup (same_valued k) c.insert.new.self.entries) c.args.key c.args.worth
     c.in_ok-insert.ensures.updates.0 worths here
