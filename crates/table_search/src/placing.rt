@@ -39,7 +39,7 @@ pub(crate) fn spread(rows: &mut Vec<Placed>, stands: &[u32]) -> Result<(), Memor
                 Some(to) => to,
                 None => roomiest(&placed.row, above, below, stands, free),
             };
-            raise(rows, place, to, home.is_some())?;
+            move_row(rows, place, to, home.is_some())?;
         }
     }
     Ok(())
@@ -54,8 +54,7 @@ pub(crate) fn sink(rows: &mut Vec<Placed>) -> Result<(), Memory> {
         };
         if !placed.at_home {
             let further = free_below(&placed.row, rows, place);
-            rows.remove(place);
-            rows.insert(place.saturating_add(further), placed)?;
+            move_row(rows, place, place.saturating_add(further), false)?;
         }
     }
     Ok(())
@@ -193,9 +192,9 @@ fn roomiest(row: &Row, above: &[Placed], below: &[Placed], stands: &[u32], free:
     best
 }
 
-/// Moves the row at a place up to another, where it is at home or not.
-fn raise(rows: &mut Vec<Placed>, place: usize, to: usize, at_home: bool) -> Result<(), Memory> {
-    if place >= rows.len() || to > place {
+/// Moves the row at a place to another, where it is at home or not.
+fn move_row(rows: &mut Vec<Placed>, place: usize, to: usize, at_home: bool) -> Result<(), Memory> {
+    if place >= rows.len() || to >= rows.len() {
         return Ok(());
     }
     let placed = rows.remove(place);

@@ -31,7 +31,7 @@ fn push_even(all: &mut Vec<u32>, end: usize, low: u32, high: u32) -> Result<(), 
     let room = u64::from(high.saturating_sub(low));
     for part in 1..parts {
         let share = room.saturating_mul(part).checked_div(parts).unwrap_or(0);
-        all.push(low.saturating_add(share as u32))?;
+        all.push(low.saturating_add((share % (1 << 32)) as u32))?;
     }
     Ok(())
 }
