@@ -18,8 +18,7 @@ next_slot slots many i le some =
     let k = 2 * many in
     let ahead : (2 * i + 1) * slots + k ≤ (2 * suc i + 1) * slots = omega (arith, le) in
     let more = quotient_le ((2 * i + 1) * slots + k) ((2 * suc i + 1) * slots) k (omega (arith, some)) ahead in
-    let one = add-div_right ((2 * i + 1) * slots) (let e : 0 < k = omega (arith, some) in e) in
-    omega (arith, more, one)
+    omega (arith, more, add-div_right ((2 * i + 1) * slots) (let e : 0 < k = omega (arith, some) in e))
 
 -- no entry stands in free slots
 none_free : (n : ℕ) → entries_in (replicate n None) ≡ []

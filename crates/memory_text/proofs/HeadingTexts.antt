@@ -21,25 +21,25 @@ first_text kind slots width lines = kind_word kind ++ 32 ∷ (codes "1" ++ 32 �
 abbrev words : TextKind → List ℕ → List ℕ → List ℕ → Words
 words kind slots width lines = record { table = kind_word kind; version = codes "1"; slot = codes "slots"; slot_number = slots; composed = codes "width"; composed_number = width; entries = lines_word kind; entries_number = lines }
 
-kind_no_space : (kind : TextKind) → list_all (is_other 32) (kind_word kind) ≡ true
-kind_no_space kinds.Memory = refl
-kind_no_space kinds.Plan = refl
+-- neither a space nor the end of a line
+abbrev IsPlain : List ℕ → Type 0
+IsPlain text = (list_all (is_other 32) text ≡ true) × (list_all (is_other 10) text ≡ true)
 
-lines_no_space : (kind : TextKind) → list_all (is_other 32) (lines_word kind) ≡ true
-lines_no_space kinds.Memory = refl
-lines_no_space kinds.Plan = refl
+plain : (kind : TextKind) → IsPlain (kind_word kind) × IsPlain (lines_word kind)
+plain kinds.Memory = ((refl, refl), (refl, refl))
+plain kinds.Plan = ((refl, refl), (refl, refl))
 
 words-cut : (kind : TextKind) (slots width lines : List ℕ) → list_all (is_other 32) slots ≡ true → list_all (is_other 32) width ≡ true → words_of (first_text kind slots width lines) ≡ Some (words kind slots width lines)
 unfolding words_of
 words-cut kind slots width lines hs hw =
     rw (
-      split_once-joined 32 (kind_word kind) (codes "1" ++ 32 ∷ (codes "slots" ++ 32 ∷ (slots ++ 32 ∷ (codes "width" ++ 32 ∷ (width ++ 32 ∷ (lines_word kind ++ 32 ∷ lines)))))) (kind_no_space kind),
+      split_once-joined 32 (kind_word kind) (codes "1" ++ 32 ∷ (codes "slots" ++ 32 ∷ (slots ++ 32 ∷ (codes "width" ++ 32 ∷ (width ++ 32 ∷ (lines_word kind ++ 32 ∷ lines)))))) (plain kind).0.0,
       split_once-joined 32 (codes "1") (codes "slots" ++ 32 ∷ (slots ++ 32 ∷ (codes "width" ++ 32 ∷ (width ++ 32 ∷ (lines_word kind ++ 32 ∷ lines))))) refl,
       split_once-joined 32 (codes "slots") (slots ++ 32 ∷ (codes "width" ++ 32 ∷ (width ++ 32 ∷ (lines_word kind ++ 32 ∷ lines)))) refl,
       split_once-joined 32 slots (codes "width" ++ 32 ∷ (width ++ 32 ∷ (lines_word kind ++ 32 ∷ lines))) hs,
       split_once-joined 32 (codes "width") (width ++ 32 ∷ (lines_word kind ++ 32 ∷ lines)) refl,
       split_once-joined 32 width (lines_word kind ++ 32 ∷ lines) hw,
-      split_once-joined 32 (lines_word kind) lines (lines_no_space kind),
+      split_once-joined 32 (lines_word kind) lines (plain kind).1.0,
     )
     refl
 
@@ -71,22 +71,14 @@ in_words kind slots width lines rest = simp append_assoc
 pub heading-written : (kind : TextKind) (slots width lines : ℕ) (rest : List ℕ) → first_line kind slots width lines ++ rest ≡ first_text kind (decimal slots) (decimal width) (decimal lines) ++ 10 ∷ rest
 heading-written kind slots width lines rest = in_words kind (decimal slots) (decimal width) (decimal lines) rest
 
-kind_no_line : (kind : TextKind) → list_all (is_other 10) (kind_word kind) ≡ true
-kind_no_line kinds.Memory = refl
-kind_no_line kinds.Plan = refl
-
-lines_no_line : (kind : TextKind) → list_all (is_other 10) (lines_word kind) ≡ true
-lines_no_line kinds.Memory = refl
-lines_no_line kinds.Plan = refl
-
 -- no byte of the first line ends it
 pub heading-line : (kind : TextKind) (slots width lines : ℕ) → slots ≤ 262144 → ∥ IsSlotWidth width ∥₁ → lines < 2 ^ 64 → list_all (is_other 10) (first_text kind (decimal slots) (decimal width) (decimal lines)) ≡ true
 heading-line kind slots width lines few h small =
     let p = is_other 10 in
-    let end = front_all p (lines_word kind) (decimal lines) (lines_no_line kind) refl (decimal-other 10 lines (omega arith) small) in
+    let end = front_all p (lines_word kind) (decimal lines) (plain kind).1.1 refl (decimal-other 10 lines (omega arith) small) in
     let middle = front_all p (decimal width) (lines_word kind ++ 32 ∷ decimal lines) (decimal-other 10 width (omega arith) (small_width width (width_of width h))) refl end in
     let wide = front_all p (codes "width") (decimal width ++ 32 ∷ (lines_word kind ++ 32 ∷ decimal lines)) refl refl middle in
     let many = front_all p (decimal slots) (codes "width" ++ 32 ∷ (decimal width ++ 32 ∷ (lines_word kind ++ 32 ∷ decimal lines))) (decimal-other 10 slots (omega arith) (omega (arith, few))) refl wide in
     let named = front_all p (codes "slots") (decimal slots ++ 32 ∷ (codes "width" ++ 32 ∷ (decimal width ++ 32 ∷ (lines_word kind ++ 32 ∷ decimal lines)))) refl refl many in
     let version = front_all p (codes "1") (codes "slots" ++ 32 ∷ (decimal slots ++ 32 ∷ (codes "width" ++ 32 ∷ (decimal width ++ 32 ∷ (lines_word kind ++ 32 ∷ decimal lines))))) refl refl named in
-    front_all p (kind_word kind) (codes "1" ++ 32 ∷ (codes "slots" ++ 32 ∷ (decimal slots ++ 32 ∷ (codes "width" ++ 32 ∷ (decimal width ++ 32 ∷ (lines_word kind ++ 32 ∷ decimal lines)))))) (kind_no_line kind) refl version
+    front_all p (kind_word kind) (codes "1" ++ 32 ∷ (codes "slots" ++ 32 ∷ (decimal slots ++ 32 ∷ (codes "width" ++ 32 ∷ (decimal width ++ 32 ∷ (lines_word kind ++ 32 ∷ decimal lines)))))) (plain kind).0.1 refl version

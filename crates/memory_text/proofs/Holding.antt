@@ -44,8 +44,7 @@ slots_set old new slots items k held seen grown all is same =
 
 pub numbered_more : (old new : List (List ℕ)) (slots : List (Option code_entry.Entry)) → Extends old new → AreNumbered (length old) slots → AreNumbered (length new) slots
 numbered_more old new slots grown all =
-    let more = longer old new grown.grow in
-    All-weaker (λ (x : Option code_entry.Entry). number_in x ≤ length old) (λ (x : Option code_entry.Entry). number_in x ≤ length new) (λ x le. omega (arith, le, more)) slots all
+    All-weaker (λ (x : Option code_entry.Entry). number_in x ≤ length old) (λ (x : Option code_entry.Entry). number_in x ≤ length new) (λ x le. omega (arith, le, longer old new grown.grow)) slots all
 
 -- a write stands behind others
 pub writes_push : (old new : List (List ℕ)) (puts items : List Put) (p : Put) (w : Write) → Extends old new → AreNumberedPuts (length old) puts → items ≡ puts ++ p ∷ [] → write_of new p ≡ w → writes_of new items ≡ writes_of old puts ++ w ∷ []
@@ -54,8 +53,7 @@ writes_push old new puts items p w grown all is same =
 
 pub puts_more : (old new : List (List ℕ)) (puts : List Put) → Extends old new → AreNumberedPuts (length old) puts → AreNumberedPuts (length new) puts
 puts_more old new puts grown all =
-    let more = longer old new grown.grow in
-    All-weaker (λ (x : Put). number_in x.entry ≤ length old) (λ (x : Put). number_in x.entry ≤ length new) (λ x le. omega (arith, le, more)) puts all
+    All-weaker (λ (x : Put). number_in x.entry ≤ length old) (λ (x : Put). number_in x.entry ≤ length new) (λ x le. omega (arith, le, longer old new grown.grow)) puts all
 
 pub puts_push : (old new : List (List ℕ)) (puts items : List Put) (p : Put) → Extends old new → AreNumberedPuts (length old) puts → items ≡ puts ++ p ∷ [] → number_in p.entry ≤ length new → AreNumberedPuts (length new) items
 puts_push old new puts items p grown all is le =

@@ -78,34 +78,28 @@ module _ (old names : List (List ℕ)) (slots : List (Option Entry)) (entries : 
     pub leads : (n width : ℕ) → n ≡ length slots → LeadsTo (record { width = width; slots = slots_of old slots }) table (record { slots = n; width = width; writes = writes_of names puts })
     leads n width all =
         let long = length-map puts (λ (p : Put). let w : Write = record { slot = p.slot; entry = option_map (entry_of names) p.entry } in w) in
-        let few = planned.0.few in
         record {
           slots = all ∙ sym many_slots;
           width = refl;
           good = good;
-          few = omega (arith, few, long, many_puts, many_held, many_new);
+          few = omega (arith, planned.0.few, long, many_puts, many_held, many_new);
           whole = λ room. let most = planned.1 (omega (arith, room, many_held, many_new, many_slots)) in omega (arith, most, long, many_puts, many_held, many_new);
         }
 
     pub enough : slots_for (entries_in (slots_of old slots)) table.entries ≤ length (slots_of old slots)
-    enough = let room = planned.2 in omega (arith, room, least_seen, many_slots)
+    enough = omega (arith, planned.2, least_seen, many_slots)
 
     pub within : (n : ℕ) → n ≡ length slots → AreWithin n puts
     within n all =
         let old_bank = bank_of slots in
         let ws = plan.writes.items in
-        let size = length-map slots (option_map stored) in
         All-same (λ (p : Put). p.slot < n) puts (map put_of ws) copies
         (puts_within n ws (λ d w at.
         let there = slice_get_within (after old_bank ws d) w.slot (option_map stored w.before) (planned.0.patch.leads.stood d w at) in
-        let same = length-after old_bank ws d in
-        omega (arith, there, same, size, all)))
+        omega (arith, there, length-after old_bank ws d, length-map slots (option_map stored), all)))
 
     pub counted : length slots ≤ 262144 → length table.entries ≤ 262144 → length puts ≤ 1048576
-    counted le most =
-        let few = planned.0.few in
-        let held = count_held slots in
-        omega (arith, few, held, le, most, many_puts, many_new)
+    counted le most = omega (arith, planned.0.few, count_held slots, le, most, many_puts, many_new)
 
   pub lacks : (needed : ℕ) → IsPlanned slots entries (planning.NoRoom needed) → (needed ≡ slots_for (entries_in (slots_of old slots)) table.entries) × (length (slots_of old slots) < needed)
   lacks needed planned = (planned.0 ∙ least_seen, let less = planned.1 in omega (arith, less, many_slots))

@@ -1,6 +1,6 @@
 -- How many slots two tables need depends on their words alone.
 use Rattle.std.proofs.Common.{◌≡◌, ◌∷◌, ℕ, suc, min, Bool, true, false, ◌&&◌, if◌then◌else◌, List, [], Some, None, map, refl, ap, sym, ◌∙◌}
-use Rattle.std.proofs.lemmas.Bool.{and_parts}
+use Rattle.std.proofs.lemmas.Bool.{and_from, and_parts}
 use Rattle.std.proofs.lemmas.List.{length-map}
 use Rattle.ternary_words.specs.Headline.Word.{Trit}
 use Rattle.ternary_words.specs.Headline.Table as words
@@ -14,10 +14,7 @@ module _ {A B : Type 0} (f : A → B) (same : A → A → Bool) (other : B → B
   with_one : (a : A) (rest : List A → ℕ) (others : List B → ℕ) → ((ys : List A) → others (map f ys) ≡ rest ys) → (ys : List A) → slots_with other (f a) others (map f ys) ≡ slots_with same a rest ys
   with_one a rest others h [] = ap suc (h [])
   with_one a rest others h (b ∷ ys) =
-      ap (λ n. suc (min (min n (slots_with other (f a) others (map f ys))) (if other (f a) (f b) then others (map f ys) else n))) (h (b ∷ ys))
-      ∙ ap (λ n. suc (min (min (rest (b ∷ ys)) n) (if other (f a) (f b) then others (map f ys) else rest (b ∷ ys)))) (with_one a rest others h ys)
-      ∙ ap (λ n. suc (min (min (rest (b ∷ ys)) (slots_with same a rest ys)) (if other (f a) (f b) then n else rest (b ∷ ys)))) (h ys)
-      ∙ ap (λ t. suc (min (min (rest (b ∷ ys)) (slots_with same a rest ys)) (if t then rest ys else rest (b ∷ ys)))) (sym (alike a b))
+      cc (h (b ∷ ys), with_one a rest others h ys, h ys, alike a b)
 
   pub least_map : (xs ys : List A) → least_slots other (map f xs) (map f ys) ≡ least_slots same xs ys
   least_map [] ys = length-map ys f
@@ -25,12 +22,9 @@ module _ {A B : Type 0} (f : A → B) (same : A → A → Bool) (other : B → B
 
 trits_same : (a b : Trit) → is_same_trit a b ≡ true → a ≡ b
 trits_same None None h = refl
-trits_same None (Some b) h = absurd cc
-trits_same (Some a) None h = absurd cc
 trits_same (Some true) (Some true) h = refl
-trits_same (Some true) (Some false) h = absurd cc
-trits_same (Some false) (Some true) h = absurd cc
 trits_same (Some false) (Some false) h = refl
+trits_same a b h = absurd cc
 
 trit_itself : (a : Trit) → is_same_trit a a ≡ true
 trit_itself None = refl
@@ -39,22 +33,17 @@ trit_itself (Some false) = refl
 
 words_same : (a b : List Trit) → is_same_word a b ≡ true → a ≡ b
 words_same [] [] h = refl
-words_same [] (y ∷ b) h = absurd cc
-words_same (x ∷ a) [] h = absurd cc
 words_same (x ∷ a) (y ∷ b) h =
     let parts = and_parts (is_same_trit x y) (is_same_word a b) h in
     ap (λ t. t ∷ a) (trits_same x y parts.0) ∙ ap (λ ts. y ∷ ts) (words_same a b parts.1)
-
-both_true : (a b : Bool) → a ≡ true → b ≡ true → (a && b) ≡ true
-both_true a b ha hb = rw (ha, hb) refl
+words_same a b h = absurd cc
 
 word_itself : (a : List Trit) → is_same_word a a ≡ true
 word_itself [] = refl
-word_itself (x ∷ a) = both_true (is_same_trit x x) (is_same_word a a) (trit_itself x) (word_itself a)
+word_itself (x ∷ a) = and_from (is_same_trit x x) (is_same_word a a) (trit_itself x) (word_itself a)
 
 same_tests : (a b : Bool) → (a ≡ true → b ≡ true) → (b ≡ true → a ≡ true) → a ≡ b
-same_tests true true f g = refl
-same_tests true false f g = sym (f refl)
+same_tests true b f g = sym (f refl)
 same_tests false true f g = g refl
 same_tests false false f g = refl
 

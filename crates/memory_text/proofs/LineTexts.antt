@@ -2,6 +2,7 @@
 use Rattle.std.proofs.Common.{◌≡◌, ◌∷◌, ◌++◌, ℕ, zero, suc, ◌-◌, ◌^◌, ◌<◌, ◌≤◌, List, true, [], ap, refl, sym, ◌∙◌, arith, append_assoc, length, Some, None, Option, Ok, codes, decimal, option_map, slice_get, subst, inl, inr}
 use Rattle.std.specs.List.{list_all}
 use Rattle.std.proofs.lemmas.Bool.{cases_lt, le-leb}
+use Rattle.std.proofs.lemmas.Option.{slice_get_past}
 use Rattle.field_boxes.specs.Headline.Names.{text_of}
 use Rattle.field_boxes.specs.Names.{name_at}
 use Rattle.ternary_words.specs.declared.entry.Entry as code_entry
@@ -22,15 +23,10 @@ use Rattle.memory_text.specs.Views.{write_of}
 use Rattle.memory_text.proofs.HeadingTexts.{from_one}
 
 -- the name with any number, or none
-name_beyond : (names : List (List ℕ)) (k : ℕ) → length names ≤ k → slice_get names k ≡ None
-name_beyond [] k h = refl
-name_beyond (name ∷ names) zero h = absurd (omega (arith, h))
-name_beyond (name ∷ names) (suc k) h = name_beyond names k (omega (arith, h))
-
 pub any_spelled : (names : List (List ℕ)) → AreSpelled names → (n : ℕ) → IsSpelled (name_at names n)
 any_spelled names all zero = numbered_spelled names all 0 (omega arith)
 any_spelled names all (suc k) = elim (cases_lt (length names) (suc k)) [
-  | inl beyond ↦ subst IsSpelled (sym (name_beyond names k (omega (arith, beyond)))) (numbered_spelled names all 0 (omega arith))
+  | inl beyond ↦ subst IsSpelled (sym (slice_get_past names k (omega (arith, beyond)))) (numbered_spelled names all 0 (omega arith))
   | inr within ↦ numbered_spelled names all (suc k) within
 ]
 

@@ -11,6 +11,7 @@ use Rattle.slot_patch.specs.Banks.{decided}
 use Rattle.bank_update.specs.Plans as banks
 use Rattle.slot_patch.specs.Plans.{IsPatch}
 use Rattle.bank_update.specs.declared.write.Write as code_write
+use Rattle.slot_patch.proofs.Joints.{after-first}
 use Rattle.slot_patch.proofs.Naming.{named}
 use Rattle.slot_patch.proofs.Patches.{turns}
 use Rattle.memory_text.specs.Memory.{Write, after, entries_in}
@@ -43,10 +44,6 @@ named_done names held (w ∷ writes) (suc d) =
     ∙ named_done names (set held w.slot w.entry) writes d
 
 -- and those of the bank after the writes
-bank_first : (bank : Bank) (w : code_write.Write) (writes : List code_write.Write) (d : ℕ) → banks.after bank (w ∷ writes) (suc d) ≡ banks.after (set bank w.slot (option_map stored w.entry)) writes d
-bank_first bank w writes zero = refl
-bank_first bank w writes (suc d) = ap (λ (b : Bank). banks.written b (slice_get writes d)) (bank_first bank w writes d)
-
 none_after : (bank : Bank) (d : ℕ) → banks.after bank [] d ≡ bank
 none_after bank zero = refl
 none_after bank (suc d) = none_after bank d
@@ -57,7 +54,7 @@ bank_done held (w ∷ writes) zero = refl
 bank_done held (w ∷ writes) (suc d) =
     bank_done (set held w.slot w.entry) writes d
     ∙ ap (λ (b : Bank). banks.after b writes d) (map-set (option_map stored) held w.slot w.entry)
-    ∙ sym (bank_first (bank_of held) w writes d)
+    ∙ sym (after-first (bank_of held) w writes d)
 
 -- the entries by name, however they are found
 pub entries_named : (names : Names) (held : Held) → entries_in (slots_of names held) ≡ table_in names held
@@ -106,10 +103,6 @@ module _ (names : Names) (held table : Held) (writes : List code_write.Write) (p
     | inr same ↦ inr (at_stage e values ∙ ap (name_at names) same ∙ named names table values)
   ]
 
-  turned : (A B : Type 0) → A ⊎ B → (A → ⊥) → B
-  turned A B (inl a) other = absurd (other a)
-  turned A B (inr b) other = b
-
   size : length plan ≡ length writes
   size = length-map writes (seen names)
 
@@ -123,6 +116,6 @@ module _ (names : Names) (held table : Held) (writes : List code_write.Write) (p
   pub is_good : IsGood (slots_of names held) (table_in names table) plan
   is_good = record {
     old_or_new = λ d le values. either d d values (omega arith) (omega (arith, le, size));
-    stays = λ d e le all values other. turned _ _ (either d e values le (omega (arith, all, size))) other;
+    stays = λ d e le all values other. elim (either d e values le (omega (arith, all, size))) [ inl old ↦ absurd (other old) | inr new ↦ new ];
     ends = ends_at;
   }

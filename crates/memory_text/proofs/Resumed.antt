@@ -1,6 +1,5 @@
 -- The writes that were read so far, in front of what the lines that are left come to.
 use Rattle.std.proofs.Common.{◌≡◌, ◌∷◌, ◌++◌, ℕ, suc, ◌+◌, ◌-◌, ◌<◌, List, [], Ok, Err, take, refl, ap, sym, ◌∙◌, arith, append_assoc, append-nil, eq-eqb, Result}
-use Rattle.std.proofs.lemmas.Grind.{common_steps}
 use Rattle.text_lines.specs.Headline.Reading.{BadLine}
 use Rattle.ternary_words.specs.Lines.{Line}
 use Rattle.memory_text.specs.declared.error.SlotReason.{SlotReason}

@@ -9,9 +9,11 @@ use Rattle.ternary_words.specs.Headline.Table.{Entry}
 use Rattle.ternary_words.specs.Views.{entry_of}
 use Rattle.bank_update.specs.declared.write.Put.{Put}
 use Rattle.memory_text.specs.Memory.{entries_in}
+use Rattle.memory_text.specs.declared.memory.SlotMemory.{SlotMemory}
+use Rattle.memory_text.specs.declared.plan.SlotPlan.{SlotPlan}
 use Rattle.memory_text.specs.declared.kind.TextKind.TheVariants as kinds
 use Rattle.memory_text.specs.MemoryText.{first_line, memory_text, plan_text, slot_line, slot_lines, write_line}
-use Rattle.memory_text.specs.Views.{slots_of, write_of, writes_of}
+use Rattle.memory_text.specs.Views.{memory_of, plan_of, slots_of, write_of, writes_of}
 
 lines-append : (slot : ℕ) (xs ys : List (Option Entry)) → slot_lines slot (xs ++ ys) ≡ slot_lines slot xs ++ slot_lines (slot + length xs) ys
 lines-append slot [] ys = ap (λ n. slot_lines n ys) (let e : slot ≡ slot + 0 = omega arith in e)
@@ -58,17 +60,17 @@ as_many names (Some e ∷ slots) =
     sum_by-cons (λ (o : Option code_entry.Entry). cond (is_some o) 1 0) (Some e) slots ∙ more
 
 -- the text of a memory, whose entries were counted
-pub whole_memory : (names : List (List ℕ)) (width all count : ℕ) (slots items : List (Option code_entry.Entry)) → all ≡ length slots → count ≡ count_by is_some slots → slots ≡ items →
-    first_line kinds.Memory all width count ++ slot_lines 0 (slots_of names slots) ≡ memory_text (record { width = width; slots = slots_of names items })
-whole_memory names width all count slots items long many is =
-    let held = slots_of names slots in
-    ap (λ n. first_line kinds.Memory n width count ++ slot_lines 0 held) (long ∙ sym (length-map slots (option_map (entry_of names))))
-    ∙ ap (λ n. first_line kinds.Memory (length held) width n ++ slot_lines 0 held) (many ∙ as_many names slots)
-    ∙ ap (λ (xs : List (Option code_entry.Entry)). memory_text (record { width = width; slots = slots_of names xs })) is
+pub whole_memory : (m : SlotMemory) (slots : List (Option code_entry.Entry)) (count : ℕ) → count ≡ count_by is_some slots → slots ≡ m.slots.items →
+    first_line kinds.Memory (length slots) m.width.bits count ++ slot_lines 0 (slots_of m.names slots) ≡ memory_text (memory_of m)
+whole_memory m slots count many is =
+    let held = slots_of m.names slots in
+    ap (λ n. first_line kinds.Memory n m.width.bits count ++ slot_lines 0 held) (sym (length-map slots (option_map (entry_of m.names))))
+    ∙ ap (λ n. first_line kinds.Memory (length held) m.width.bits n ++ slot_lines 0 held) (many ∙ as_many m.names slots)
+    ∙ ap (λ (xs : List (Option code_entry.Entry)). memory_text (record { width = m.width.bits; slots = slots_of m.names xs })) is
 
 -- the text of a plan
-pub whole_plan : (names : List (List ℕ)) (slots width all : ℕ) (puts items : List Put) → all ≡ length puts → puts ≡ items →
-    first_line kinds.Plan slots width all ++ flat_map write_line (writes_of names puts) ≡ plan_text (record { slots = slots; width = width; writes = writes_of names items })
-whole_plan names slots width all puts items long is =
-    ap (λ n. first_line kinds.Plan slots width n ++ flat_map write_line (writes_of names puts)) (long ∙ sym (length-map puts (write_of names)))
-    ∙ ap (λ (xs : List Put). plan_text (record { slots = slots; width = width; writes = writes_of names xs })) is
+pub whole_plan : (p : SlotPlan) (puts : List Put) → puts ≡ p.writes.items →
+    first_line kinds.Plan p.slots p.width.bits (length puts) ++ flat_map write_line (writes_of p.names puts) ≡ plan_text (plan_of p)
+whole_plan p puts is =
+    ap (λ n. first_line kinds.Plan p.slots p.width.bits n ++ flat_map write_line (writes_of p.names puts)) (sym (length-map puts (write_of p.names)))
+    ∙ ap (λ (xs : List Put). plan_text (record { slots = p.slots; width = p.width.bits; writes = writes_of p.names xs })) is

@@ -71,16 +71,14 @@ plan-read p =
     let puts = p.writes.items in
     let many = length (writes_of p.names puts) in
     let same : many ≡ length puts = length-map puts (write_of p.names) in
-    let counted = p.counted in
-    let few = p.few in
     let below : Below p.slots puts = recursion_from_All (λ (q : Put). q.slot < p.slots) puts p.within in
     let lines = put_lines p.names puts in
-    let small : many < 2 ^ 64 = omega (arith, same, counted) in
-    ap (plan_in kinds.Plan) (heading-cut kinds.Plan p.slots p.width.bits many (flat_map write_line (writes_of p.names puts)) (heading-line kinds.Plan p.slots p.width.bits many few p.width.known small)
-    ∙ ap (λ ls. whole_line (first_of kinds.Plan p.slots p.width.bits many) true ∷ ls) (puts_cut p.names p.slots puts few below p.named))
+    let small : many < 2 ^ 64 = omega (arith, same, p.counted) in
+    ap (plan_in kinds.Plan) (heading-cut kinds.Plan p.slots p.width.bits many (flat_map write_line (writes_of p.names puts)) (heading-line kinds.Plan p.slots p.width.bits many p.few p.width.known small)
+    ∙ ap (λ ls. whole_line (first_of kinds.Plan p.slots p.width.bits many) true ∷ ls) (puts_cut p.names p.slots puts p.few below p.named))
     ∙ in_plan kinds.Plan (record { slots = p.slots; width = p.width.bits; lines = many }) (first_of kinds.Plan p.slots p.width.bits many) lines (writes_of p.names puts)
-    (heading-read kinds.Plan p.slots p.width.bits many p.some few p.width.known small (omega (arith, same, counted)))
-    (length-map puts (λ q. whole_line (put_line_text p.names q) true) ∙ sym same) (puts_read p.names p.slots 2 0 puts few below p.named)
+    (heading-read kinds.Plan p.slots p.width.bits many p.some p.few p.width.known small (omega (arith, same, p.counted)))
+    (length-map puts (λ q. whole_line (put_line_text p.names q) true) ∙ sym same) (puts_read p.names p.slots 2 0 puts p.few below p.named)
 
 -- memories
 
@@ -120,8 +118,8 @@ as_many names slot (Some e ∷ slots) = ap suc (as_many names (suc slot) slots)
 
 few_entries : (slots : List (Option Entry)) → length (entries_in slots) ≤ length slots
 few_entries [] = omega arith
-few_entries (None ∷ slots) = let h = few_entries slots in omega (arith, h)
-few_entries (Some e ∷ slots) = let h = few_entries slots in omega (arith, h)
+few_entries (None ∷ slots) = omega (arith, few_entries slots)
+few_entries (Some e ∷ slots) = omega (arith, few_entries slots)
 
 -- one slot more stands behind a front
 next_front : (front : List (Option Entry)) (held : Option Entry) (rest : List (Option Entry)) (slots : List Write) → after ((front ++ held ∷ []) ++ rest) slots ≡ after (front ++ held ∷ rest) slots
@@ -149,16 +147,14 @@ memory-read m =
     let same : all ≡ length slots = length-map slots (option_map (entry_of m.names)) in
     let many = length (entries_in held) in
     let less = few_entries held in
-    let some = m.some in
-    let few = m.few in
-    let top : all ≤ 262144 = omega (arith, same, few) in
+    let top : all ≤ 262144 = omega (arith, same, m.few) in
     let first = first_of kinds.Memory all m.width.bits many in
     let lines = memory_lines m.names 0 slots in
     let small : many < 2 ^ 64 = omega (arith, less, top) in
     let writes = standing 0 held in
     ap (λ ls. as_memory (plan_in kinds.Memory ls)) (heading-cut kinds.Memory all m.width.bits many (slot_lines 0 held) (heading-line kinds.Memory all m.width.bits many top m.width.known small)
-    ∙ ap (λ ls. whole_line first true ∷ ls) (slots_cut m.names 0 slots (omega (arith, few)) m.named))
+    ∙ ap (λ ls. whole_line first true ∷ ls) (slots_cut m.names 0 slots (omega (arith, m.few)) m.named))
     ∙ ap as_memory (in_plan kinds.Memory (record { slots = all; width = m.width.bits; lines = many }) first lines writes
-    (heading-read kinds.Memory all m.width.bits many (omega (arith, same, some)) top m.width.known small less)
+    (heading-read kinds.Memory all m.width.bits many (omega (arith, same, m.some)) top m.width.known small less)
     (as_many m.names 0 slots) (slots_read m.names all 2 0 0 slots (omega (arith, same)) top (omega arith) m.named))
     ∙ ap (λ xs. spelled m.width.bits xs) (stands 0 [] held refl)

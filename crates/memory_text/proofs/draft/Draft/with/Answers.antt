@@ -9,21 +9,17 @@ use Rattle.memory_text.proofs.draft.Draft.with.Goals as goal
 
 pub invariant_of-result : goal.invariant_of-result
 invariant_of-result c =
-    let old = c.args.self.names in
-    let new = c.numbered.new.names in
     let grown = c.in_ok-entry.ensures.extends in
     let p : Put = record { slot = c.args.write.slot; entry = c.in_ok-entry.entry } in
     record {
       named = grown.spelled c.args.self.named;
-      numbered = puts_push old new c.args.self.writes.items _ p grown c.args.self.numbered c.in_ok-push.ensures.items c.in_ok-entry.ensures.within;
+      numbered = puts_push c.args.self.names c.numbered.new.names c.args.self.writes.items _ p grown c.args.self.numbered c.in_ok-push.ensures.items c.in_ok-entry.ensures.within;
     }
 
 pub returns-clause-writes : goal.returns-clause-writes
 returns-clause-writes c =
-    let old = c.args.self.names in
-    let new = c.numbered.new.names in
     let p : Put = record { slot = c.args.write.slot; entry = c.in_ok-entry.entry } in
-    writes_push old new c.args.self.writes.items _ p (spelled_of c.args.write) c.in_ok-entry.ensures.extends c.args.self.numbered c.in_ok-push.ensures.items
+    writes_push c.args.self.names c.numbered.new.names c.args.self.writes.items _ p (spelled_of c.args.write) c.in_ok-entry.ensures.extends c.args.self.numbered c.in_ok-push.ensures.items
     (ap (λ (o : Option Entry). let w : Write = record { slot = c.args.write.slot; entry = o } in w) c.in_ok-entry.ensures.entry)
 
 pub returns-clause-within : goal.returns-clause-within
