@@ -81,7 +81,8 @@ weights-returns-in-Above-clause-weights t c =
     let n = c.worth.new.store in
     let made = c.in_ok-found.ensures in
     let stay = weighed.stay c.args.store.now l.store n c.args.level.now order items l.node-index l.weights.items c.requires.level l.invariant.grows made.grows c.requires.fields l.invariant.weights in
-    weighed.passed n order items l.node-index l.others c.args.cap c.in-Above._least d l.weights.items stay c.loop-node-test.true l.invariant.others c.if-cap-others.false (subst (Settles (c.args.cap - l.others)) c.in-Above.is made.settles) (subst (IsWorth n order node.0) c.in-Above.is made.worth)
+    weighed.passed n order items l.node-index l.others c.args.cap c.in-Above._least d l.weights.items stay c.loop-node-test.true l.invariant.others c.if-cap-others.false
+    (subst (Settles (c.args.cap - l.others)) c.in-Above.is made.settles) (subst (IsWorth n order node.0) c.in-Above.is made.worth)
 
 pub weights-returns-clause-weights : goal.weights-returns-clause-weights
 weights-returns-clause-weights t c =
@@ -156,7 +157,8 @@ worked_out-returns-clause-worth t c =
     let a = asked o told c.args.cap c.in_ok-weights.weights c.in-Some.weights c.as_slice-pieces.result.now c.as_slice.result.now c.in-Some.is c.as_slice-pieces.ensures.value c.as_slice.ensures.value c.in_ok-weights.ensures.weights in
     let e = c.in_ok-least-in-Some.ensures in
     let least = c.in_ok-least-in-Some.least in
-    a.exact e.rows least (minimal c.width-bits.result (width (c.args.order / c.unit-unit.result)) (c.width-bits.ensures ∙ ap width c.from.ensures) c.as_slice-pieces.result.now c.as_slice.result.now e.rows least e.right e.labels e.weighs e.least)
+    let bits = c.width-bits.ensures ∙ ap width c.from.ensures in
+    a.exact e.rows least (minimal c.width-bits.result (width (c.args.order / c.unit-unit.result)) bits c.as_slice-pieces.result.now c.as_slice.result.now e.rows least e.right e.labels e.weighs e.least)
 
 pub worth-returns-then-is_empty-clause-worth : goal.worth-returns-then-is_empty-clause-worth
 worth-returns-then-is_empty-clause-worth t c = leaf c.args.store.now c.args.level.now c.args.order c.args.id.0 c.requires.fields.at (no_fields c.args.level.now (sym c.if-is_empty.ensures))
@@ -264,8 +266,8 @@ child_above-one_above-requires t c =
     let level = c.args.level.now in
     let same = c.as_slice-seen.ensures ∙ c.in_ok-edges.ensures ∙ c.edges.ensures.edges in
     let is = subst IsLevel (sym (rest_is level)) (is_next level c.requires.some) in
-    let fields = children_fields c.args.store.now level _ c.args.order c.order_without-below.result _ c.args.id.0 c.as_slice-seen.result.now c.same_answers.ensures.store c.requires.level c.requires.some c.requires.fields (rest_is level) same
-    c.order_without-below.ensures in
+    let fields = children_fields c.args.store.now level _ c.args.order c.order_without-below.result _ c.args.id.0 c.as_slice-seen.result.now c.same_answers.ensures.store c.requires.level c.requires.some c.requires.fields (rest_is level)
+    same c.order_without-below.ensures in
     (omega (arith, c.decreases, some_field level c.requires.some), (is, (fields, (c.requires.fronts, c.requires.worths))))
 
 pub child_above-returns-clause-above : goal.child_above-returns-clause-above
@@ -297,8 +299,8 @@ several_above-parts_above-requires t c =
     let n = c.front_edges.new.store in
     let made = c.in_ok-edges.ensures in
     let lower = c.as_slice-lower.ensures ∙ c.in_ok-rest.ensures in
-    let r = ready c.args.store.now n level c.as_slice-lower.result.now c.args.id.0 f c.in_ok-edges.edges.items c.as_slice-seen.result.now c.same_answers.ensures.store c.requires.at c.requires.level c.requires.apart c.requires.some c.requires.has
-    made.grows made.edges lower c.as_slice-seen.ensures in
+    let r = ready c.args.store.now n level c.as_slice-lower.result.now c.args.id.0 f c.in_ok-edges.edges.items c.as_slice-seen.result.now c.same_answers.ensures.store c.requires.at c.requires.level c.requires.apart c.requires.some
+    c.requires.has made.grows made.edges lower c.as_slice-seen.ensures in
     let p = parted f level (next_has f level c.requires.has) c.requires.apart c.requires.level in
     let apart = subst AreDistinct (sym lower) (distinct f level c.requires.apart) in
     let rearranged = subst (λ l. IsRearranged (digits (length l) c.args.order) l) (sym lower) c.requires.rearranged in
@@ -308,9 +310,9 @@ several_above-parts_above-requires t c =
 pub several_above-returns-clause-above : goal.several_above-returns-clause-above
 several_above-returns-clause-above t c =
     let made = c.in_ok-edges.ensures in
-    several_told c.in_ok-above.above c.args.store.now c.front_edges.new.store c.parts_above.new.store c.args.level.now c.as_slice-lower.result.now c.args.id c.args.field c.args.order c.args.cap c.in_ok-edges.edges.items c.as_slice-seen.result.now
-    c.same_answers.ensures.store c.same_answers-2.ensures.store c.requires.level c.requires.some c.requires.apart c.requires.at c.requires.has c.requires.rearranged made.grows made.edges c.in_ok-above.ensures.grows
-    (c.as_slice-lower.ensures ∙ c.in_ok-rest.ensures) c.as_slice-seen.ensures c.in_ok-above.ensures.above
+    several_told c.in_ok-above.above c.args.store.now c.front_edges.new.store c.parts_above.new.store c.args.level.now c.as_slice-lower.result.now c.args.id c.args.field c.args.order c.args.cap c.in_ok-edges.edges.items
+    c.as_slice-seen.result.now c.same_answers.ensures.store c.same_answers-2.ensures.store c.requires.level c.requires.some c.requires.apart c.requires.at c.requires.has c.requires.rearranged made.grows made.edges
+    c.in_ok-above.ensures.grows (c.as_slice-lower.ensures ∙ c.in_ok-rest.ensures) c.as_slice-seen.ensures c.in_ok-above.ensures.above
 
 pub several_above-returns-in_err-edges-clause-worths : goal.several_above-returns-in_err-edges-clause-worths
 several_above-returns-in_err-edges-clause-worths t c = stays.worths c.args.store.now c.front_edges.new.store c.in_err-edges.ensures.grows c.args.worths.now c.requires.worths
