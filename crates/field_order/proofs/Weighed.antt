@@ -2,7 +2,7 @@
 use Rattle.std.proofs.Common.{◌≡◌, ◌∷◌, ◌++◌, ℕ, List, [], ◌+◌, ◌-◌, ◌<◌, ◌≤◌, length, get_or, take, ap, arith, refl, ◌∙◌}
 use Rattle.std.specs.Prelude.{suc, zero, sum}
 use Rattle.std.specs.List.{All, AllZip}
-use Rattle.std.proofs.lemmas.List.Elements.{All-take}
+use Rattle.std.proofs.lemmas.List.Elements.{All-take, All-weaker}
 use Rattle.std.proofs.lemmas.List.Sums.{sum_by-cons, sum_by-append}
 use Rattle.node_store.specs.declared.edge.NodeId.{NodeId}
 use Rattle.node_store.specs.Diagram.{Node, level_of}
@@ -75,12 +75,11 @@ module _ (nodes : List Node) (order : List ℕ) where
       omega (arith, total, low, is, less)
 
 -- what nodes cost stays when the store grows
-pub in_store : (first old : List Node) (level order : List ℕ) (ids : List NodeId) → IsLevel level → Grows first old → All (λ (c : NodeId). AreFields first level order c.0) ids →
-    (k : ℕ) (d : NodeId) → k < length ids → (get_or ids k d).0 < length old
-in_store first old level order ids is g all k d less =
-    let at = (all k d less).at in
-    in_use old (get_or ids k d).0 level is (growth.level_kept first old (get_or ids k d).0 g (in_use first (get_or ids k d).0 level is at) ∙ at)
-
-pub stay : (old new : List Node) → Grows old new → (order : List ℕ) (ids : List NodeId) (i : ℕ) (weights : List ℕ) → ((k : ℕ) (d : NodeId) → k < length ids → (get_or ids k d).0 < length old) →
-    AllZip (λ (c : NodeId) n. IsExact old order c.0 n) (take i ids) weights → AllZip (λ (c : NodeId) n. IsExact new order c.0 n) (take i ids) weights
-stay old new g order ids i weights used z = stays.exacts old new g order (take i ids) weights (All-take (λ (c : NodeId). c.0 < length old) i ids used) z
+pub stay : (first old new : List Node) (level order : List ℕ) (ids : List NodeId) (i : ℕ) (weights : List ℕ) → IsLevel level → Grows first old → Grows old new →
+    All (λ (c : NodeId). AreFields first level order c.0) ids → AllZip (λ (c : NodeId) n. IsExact old order c.0 n) (take i ids) weights →
+    AllZip (λ (c : NodeId) n. IsExact new order c.0 n) (take i ids) weights
+stay first old new level order ids i weights is g k all z =
+    stays.exacts old new k order (take i ids) weights
+    (All-take (λ (c : NodeId). c.0 < length old) i ids
+    (All-weaker (λ (c : NodeId). AreFields first level order c.0) (λ (c : NodeId). c.0 < length old)
+    (λ c fields. in_use old c.0 level is (growth.level_kept first old c.0 g (in_use first c.0 level is fields.at) ∙ fields.at)) ids all)) z

@@ -94,8 +94,7 @@ fn tried(
     if above {
         return Ok(Worth::Above(cap));
     }
-    let found = worked_out(alloc, store, fronts, worths, costing, level, id, order, cap)?;
-    Ok(found)
+    worked_out(alloc, store, fronts, worths, costing, level, id, order, cap)
 }
 
 /// Whether the node is found to cost more than the cap, before the order's first field is put in front of it.
@@ -134,22 +133,12 @@ fn is_above(
         return Ok(false);
     }
     if store.edges(id).len() < FEW {
-        let child = child_above(alloc, store, fronts, worths, costing, level, id, order, cap)?;
-        return Ok(child);
+        return child_above(alloc, store, fronts, worths, costing, level, id, order, cap);
     }
-    let several = several_above(
-        alloc,
-        store,
-        fronts,
-        worths,
-        costing,
-        level,
-        id,
-        field,
-        order % unit,
-        cap,
-    )?;
-    Ok(several)
+    let next = order % unit;
+    several_above(
+        alloc, store, fronts, worths, costing, level, id, field, next, cap,
+    )
 }
 
 /// Whether a child of the node costs more than the cap, where its fields are read in the same order: then the node does too.
@@ -178,16 +167,10 @@ fn child_above(
     let below = order_without(order, level.len(), level[0]);
     store.same_answers();
     let edges = copied(alloc, store.edges(id))?;
+    let rest = &level[1..];
+    let seen = edges.as_slice();
     let above = one_above(
-        alloc,
-        store,
-        fronts,
-        worths,
-        costing,
-        &level[1..],
-        edges.as_slice(),
-        below,
-        cap,
+        alloc, store, fronts, worths, costing, rest, seen, below, cap,
     )?;
     store.same_answers();
     Ok(above)
@@ -256,17 +239,10 @@ fn several_above(
     store.same_answers();
     let edges = front_edges(alloc, store, fronts, &level[1..], id, field)?;
     let rest = without(alloc, level, field)?;
+    let lower = rest.as_slice();
+    let seen = edges.as_slice();
     let above = parts_above(
-        alloc,
-        store,
-        fronts,
-        worths,
-        costing,
-        rest.as_slice(),
-        field,
-        edges.as_slice(),
-        order,
-        cap,
+        alloc, store, fronts, worths, costing, lower, field, seen, order, cap,
     )?;
     store.same_answers();
     Ok(above)
@@ -353,16 +329,9 @@ fn sampled(
 {
     let samples = samples(alloc, store, level, field, edges, apart)?;
     let labels = Labels::of(alloc, samples.as_slice())?;
+    let nodes = labels.children.as_slice();
     let weights = weights(
-        alloc,
-        store,
-        fronts,
-        worths,
-        costing,
-        level,
-        labels.children.as_slice(),
-        order,
-        cap,
+        alloc, store, fronts, worths, costing, level, nodes, order, cap,
     )?;
     Ok(weights)
 }
@@ -410,16 +379,11 @@ fn worked_out(
     let front = front(alloc, store, fronts, level, id, field)?;
     store.same_answers();
     let labels = Labels::of(alloc, store.edges(front))?;
+    let lower = rest.as_slice();
+    let nodes = labels.children.as_slice();
+    let next = order % unit;
     let weights = weights(
-        alloc,
-        store,
-        fronts,
-        worths,
-        costing,
-        rest.as_slice(),
-        labels.children.as_slice(),
-        order % unit,
-        cap,
+        alloc, store, fronts, worths, costing, lower, nodes, next, cap,
     )?;
     store.same_answers();
     match weights {

@@ -1,5 +1,4 @@
-use Rattle.std.proofs.Common.{◌≡◌, ◌≤◌, ℕ, List, ◌+◌, ◌∷◌, ◌++◌, [], ap, refl, sym, subst, arith, take, get_or, ◌∙◌}
-use Rattle.std.specs.Prelude.{suc}
+use Rattle.std.proofs.Common.{◌≡◌, ◌≤◌, ℕ, List, ◌∷◌, ap, refl, sym, subst, arith, take, get_or, ◌∙◌}
 use Rattle.std.specs.List.{AllZip}
 use Rattle.std.proofs.lemmas.List.{take_all}
 use Rattle.field_boxes.specs.Fields.{greatest_of}
@@ -12,10 +11,10 @@ use Rattle.node_store.proofs.Canonical.{is_next}
 use Rattle.node_store.proofs.Values.{rest_is}
 use Rattle.field_boxes.specs.Orders.{AreDistinct, Has}
 use Rattle.node_store.proofs.Growth as growth
-use Rattle.table_compose.proofs.Children.{next}
 use Rattle.field_order.specs.Fronts.{IsFrontEdge, without}
 use Rattle.field_order.proofs.Fronted.{edge_level, ready, front_made, next_distinct, some_field, upper_is, own, first_is, in_rest, has_field}
 use Rattle.field_order.proofs.Stays as stays
+use Rattle.field_order.proofs.Zipped.{pushed}
 use Rattle.field_order.proofs.front.+fronting.Goals as goal
 
 pub front_edges-front-requires : goal.front_edges-front-requires
@@ -30,18 +29,15 @@ pub front_edges-loop-edge-preserved : goal.front_edges-loop-edge-preserved
 front_edges-loop-edge-preserved t c =
     let l = c.loop-edge in
     let d : Edge = record { hi = 0; to = record { 0 = 0 } } in
-    let one : suc l.edge-index ≡ l.edge-index + 1 = omega arith in
     let items = c.as_slice-edge-items.result.now in
     let edge = get_or items l.edge-index d in
     let new : Edge = record { hi = edge.hi; to = c.in_ok-to.to } in
     let made = c.in_ok-to.ensures in
-    let n = c.front.new.store in
-    let more = next (IsFrontEdge n c.args.field) items l.fronted.items l.edge-index d new c.loop-edge-test.true
-    (stays.front_edges l.store n made.grows c.args.field (take l.edge-index items) l.fronted.items l.invariant.edges) (refl, made.front) in record {
+    let n = c.front.new.store in record {
       grows = growth.twice c.args.store.now l.store n l.invariant.grows made.grows;
       fronts = made.fronts;
-      edges = subst (λ es. AllZip (IsFrontEdge n c.args.field) (take (l.edge-index + 1) items) es) (sym c.in_ok-push.ensures.ok)
-          (subst (λ k. AllZip (IsFrontEdge n c.args.field) (take k items) (l.fronted.items ++ new ∷ [])) one more);
+      edges = pushed (IsFrontEdge n c.args.field) items l.fronted.items c.push.new.self.items l.edge-index d new c.loop-edge-test.true c.in_ok-push.ensures.ok
+          (stays.front_edges l.store n made.grows c.args.field (take l.edge-index items) l.fronted.items l.invariant.edges) (refl, made.front);
     }
 
 pub front_edges-returns-clause-edges : goal.front_edges-returns-clause-edges

@@ -1,5 +1,4 @@
-use Rattle.std.proofs.Common.{◌≡◌, ◌+◌, ◌∷◌, ◌++◌, ◌≤◌, [], ap, refl, sym, subst, arith, take, get_or, ◌∙◌, List}
-use Rattle.std.specs.Prelude.{suc}
+use Rattle.std.proofs.Common.{◌≤◌, ap, refl, sym, subst, arith, take, get_or, ◌∙◌, List}
 use Rattle.std.specs.List.{AllZip}
 use Rattle.std.proofs.lemmas.List.{take_all, get_or_default}
 use Rattle.field_boxes.specs.Fields.{greatest_of}
@@ -7,10 +6,10 @@ use Rattle.node_store.specs.declared.edge.Edge.{Edge}
 use Rattle.node_store.specs.Levels.{HasField, top_of}
 use Rattle.node_store.specs.Edges.{AreFull, child_of}
 use Rattle.node_store.specs.Diagram.{edges_of}
-use Rattle.table_compose.proofs.Children.{next}
 use Rattle.field_order.specs.Fronts.{ArePassed, IsCell}
 use Rattle.field_order.proofs.Passed.{moved}
 use Rattle.field_order.proofs.Rows.{narrowed, row_nodes}
+use Rattle.field_order.proofs.Zipped.{pushed}
 use Rattle.field_order.proofs.row.fill_row.Goals as goal
 
 pub loop-index-preserved : goal.loop-index-preserved
@@ -29,16 +28,13 @@ loop-index-preserved c =
     let found = c.place_from-place.ensures.edge (greatest_of c.args.field) (subst (λ k. AreFull (top_of k) under) at inner.full) c.requires.within in
     let hi = c.min-hi.result in
     let new : Edge = record { hi = edge.hi; to = cell.to } in
-    let one : suc l.index ≡ l.index + 1 = omega arith in
     let is = c.min-hi.ensures in
-    let less : hi ≤ l.hi = omega (arith, is) in
-    let more = next (IsCell store c.args.lo hi) items l.cells.items l.index d new inside
-    (narrowed store c.args.lo l.hi hi (take l.index items) l.cells.items less l.invariant.cells)
-    (refl, λ v low high. ap (λ es. child_of es v) (sym c.edges-under.ensures.edges) ∙ found.leads d v low (omega (arith, high, is))) in record {
+    let less : hi ≤ l.hi = omega (arith, is) in record {
       low = let low = found.low d in omega (arith, low, is, l.invariant.low);
       high = omega (arith, less, l.invariant.high);
-      cells = subst (λ es. AllZip (IsCell store c.args.lo hi) (take (l.index + 1) items) es) (sym c.in_ok-push.ensures.ok)
-          (subst (λ k. AllZip (IsCell store c.args.lo hi) (take k items) (l.cells.items ++ new ∷ [])) one more);
+      cells = pushed (IsCell store c.args.lo hi) items l.cells.items c.push.new.self.items l.index d new inside c.in_ok-push.ensures.ok
+          (narrowed store c.args.lo l.hi hi (take l.index items) l.cells.items less l.invariant.cells)
+          (refl, λ v low high. ap (λ es. child_of es v) (sym c.edges-under.ensures.edges) ∙ found.leads d v low (omega (arith, high, is)));
       places = moved store items l.places c.args.lo l.invariant.places l.index place inside (λ e.
           subst (λ (x : Edge). ArePassed (edges_of store x.to.0) place c.args.lo) (get_or_default items l.index d e inside)
           (subst (λ (es : List Edge). ArePassed es place c.args.lo) c.edges-under.ensures.edges c.place_from-place.ensures.passed));

@@ -1,5 +1,5 @@
-use Rattle.std.proofs.Common.{◌≡◌, ◌+◌, ◌-◌, ◌∷◌, ◌++◌, ◌≤◌, ◌^◌, ◌/◌, ◌%◌, [], ap, sym, subst, arith, take, get_or, length, ◌∙◌}
-use Rattle.std.specs.Prelude.{suc, None}
+use Rattle.std.proofs.Common.{◌+◌, ◌-◌, ◌∷◌, ◌≤◌, ◌^◌, ◌/◌, ◌%◌, ap, sym, subst, arith, get_or, length, ◌∙◌}
+use Rattle.std.specs.Prelude.{None, IfOk}
 use Rattle.std.specs.Bool.{OnTrue}
 use Rattle.std.specs.List.{All, AllZip}
 use Rattle.std.proofs.lemmas.List.{take_all}
@@ -9,25 +9,26 @@ use Rattle.field_boxes.specs.Orders.{AreDistinct, Has}
 use Rattle.node_store.specs.declared.edge.Edge.{Edge}
 use Rattle.node_store.specs.Levels.{HasField, IsLevel, next as next_level}
 use Rattle.node_store.proofs.Values.{rest_is}
-use Rattle.node_store.specs.Diagram.{level_of, edges_of}
+use Rattle.node_store.specs.Diagram.{level_of}
 use Rattle.node_store.proofs.Canonical.{in_use, is_level, is_next, not_empty, within}
-use Rattle.table_compose.specs.Labels.{children_of, ArePieces}
+use Rattle.table_compose.specs.Labels.{children_of}
 use Rattle.table_compose.proofs.FewHeaders.{narrow}
 use Rattle.table_compose.proofs.Inputs.{minimal}
 use Rattle.table_compose.proofs.Planned.{few_at, no_fields}
 use Rattle.node_store.specs.declared.edge.NodeId.{NodeId}
 use Rattle.node_store.proofs.Growth as growth
-use Rattle.table_compose.proofs.Children.{next}
 use Rattle.field_order.specs.Worth.{IsAbove, IsExact, IsRearranged, IsWorth, Settles, AreFields, AreWeights, answer_by, digits}
+use Rattle.field_order.specs.Fronts.{without}
 use Rattle.field_order.proofs.Fronted.{in_rest, next_distinct, ready, some_field}
 use Rattle.field_order.proofs.Without.{distinct, five, order_distinct, order_has, parted}
 use Rattle.field_order.proofs.Digits.{order_small}
 use Rattle.field_order.proofs.Parts.{lower}
 use Rattle.field_order.proofs.Rows.{lead_later}
 use Rattle.field_order.proofs.Sampled.{above_later, child_told, children_fields, first_has, next_has, sample_fields, several_told}
-use Rattle.field_order.proofs.Steps.{step, small, front_field, children, beyond, asked, leaf, to_keep, kept_is}
+use Rattle.field_order.proofs.Steps.{step, small, opened, brought, front_field, children, beyond, asked, leaf, to_keep, kept_is}
 use Rattle.field_order.proofs.Stays as stays
 use Rattle.field_order.proofs.Weighed as weighed
+use Rattle.field_order.proofs.Zipped.{pushed}
 use Rattle.field_order.proofs.search.+costing.Goals as goal
 
 pub weights-worth-requires : goal.weights-worth-requires
@@ -50,15 +51,12 @@ weights-loop-node-preserved t c =
     let made = c.in_ok-found.ensures in
     let cost = c.in-Is.cost in
     let exact : IsExact n order node.0 cost = subst (IsWorth n order node.0) c.in-Is.is made.worth in
-    let one : suc l.node-index ≡ l.node-index + 1 = omega arith in
-    let used = weighed.in_store c.args.store.now l.store c.args.level.now order items c.requires.level l.invariant.grows c.requires.fields in
-    let more = next (λ (k : NodeId) m. IsExact n order k.0 m) items l.weights.items l.node-index d cost c.loop-node-test.true
-    (weighed.stay l.store n made.grows order items l.node-index l.weights.items used l.invariant.weights) exact in record {
+    record {
       grows = growth.twice c.args.store.now l.store n l.invariant.grows made.grows;
       fronts = made.fronts;
       worths = made.worths;
-      weights = subst (λ ws. AllZip (λ (k : NodeId) m. IsExact n order k.0 m) (take (l.node-index + 1) items) ws) (sym c.in_ok-push-in-Is.ensures.items)
-          (subst (λ k. AllZip (λ (x : NodeId) m. IsExact n order x.0 m) (take k items) (l.weights.items ++ cost ∷ [])) one more);
+      weights = pushed (λ (k : NodeId) m. IsExact n order k.0 m) items l.weights.items c.push.new.self.items l.node-index d cost c.loop-node-test.true c.in_ok-push-in-Is.ensures.items
+          (weighed.stay c.args.store.now l.store n c.args.level.now order items l.node-index l.weights.items c.requires.level l.invariant.grows made.grows c.requires.fields l.invariant.weights) exact;
       others = weighed.others_more n order l.others cost (length items) l.node-index c.saturating_sub-others-in-Is.result l.weights.items c.push.new.self.items c.loop-node-test.true l.invariant.others
           (omega (arith, c.saturating_sub-others-in-Is.ensures, c.saturating_add.ensures)) c.in_ok-push-in-Is.ensures.items;
     }
@@ -82,9 +80,9 @@ weights-returns-in-Above-clause-weights t c =
     let node = get_or items l.node-index d in
     let n = c.worth.new.store in
     let made = c.in_ok-found.ensures in
-    let used = weighed.in_store c.args.store.now l.store c.args.level.now order items c.requires.level l.invariant.grows c.requires.fields in
-    weighed.passed n order items l.node-index l.others c.args.cap c.in-Above._least d l.weights.items (weighed.stay l.store n made.grows order items l.node-index l.weights.items used l.invariant.weights) c.loop-node-test.true
-    l.invariant.others c.if-cap-others.false (subst (Settles (c.args.cap - l.others)) c.in-Above.is made.settles) (subst (IsWorth n order node.0) c.in-Above.is made.worth)
+    let stay = weighed.stay c.args.store.now l.store n c.args.level.now order items l.node-index l.weights.items c.requires.level l.invariant.grows made.grows c.requires.fields l.invariant.weights in
+    weighed.passed n order items l.node-index l.others c.args.cap c.in-Above._least d l.weights.items stay c.loop-node-test.true l.invariant.others c.if-cap-others.false
+    (subst (Settles (c.args.cap - l.others)) c.in-Above.is made.settles) (subst (IsWorth n order node.0) c.in-Above.is made.worth)
 
 pub weights-returns-clause-weights : goal.weights-returns-clause-weights
 weights-returns-clause-weights t c =
@@ -109,94 +107,58 @@ worked_out-front-requires-clause-has t c =
 
 pub worked_out-edges-requires : goal.worked_out-edges-requires
 worked_out-edges-requires t c =
-    let f = c.args.order / c.unit-unit.result in
-    let next = c.args.order % c.unit-unit.result in
-    let st = step c.args.store.now c.args.level.now c.args.order c.args.id.0 c.unit-unit.result c.requires.level c.requires.some c.requires.fields c.unit-unit.ensures.value in
-    let n1 = c.front.new.store in
-    let F = c.in_ok-front.front.0 in
-    within n1 F (is_level (level_of n1 F) (front_field c.args.store.now n1 c.args.level.now c.args.id.0 f F c.args.order next c.same_answers.ensures.store c.requires.level c.requires.fields st c.in_ok-front.ensures.front c.in_ok-front.ensures.grows))
+    let o = opened c.args.store.now c.front.new.store c.args.level.now c.args.order c.args.id.0 c.unit-unit.result c.in_ok-front.front.0 c.same_answers.ensures.store c.requires.level c.requires.some c.requires.fields
+    c.unit-unit.ensures.value c.in_ok-front.ensures.front c.in_ok-front.ensures.grows in
+    within c.front.new.store c.in_ok-front.front.0 (is_level (level_of c.front.new.store c.in_ok-front.front.0) (front_field o))
 
 pub worked_out-of-requires : goal.worked_out-of-requires
 worked_out-of-requires t c =
-    let f = c.args.order / c.unit-unit.result in
-    let next = c.args.order % c.unit-unit.result in
-    let st = step c.args.store.now c.args.level.now c.args.order c.args.id.0 c.unit-unit.result c.requires.level c.requires.some c.requires.fields c.unit-unit.ensures.value in
-    let n1 = c.front.new.store in
-    let F = c.in_ok-front.front.0 in
-    let has = front_field c.args.store.now n1 c.args.level.now c.args.id.0 f F c.args.order next c.same_answers.ensures.store c.requires.level c.requires.fields st c.in_ok-front.ensures.front c.in_ok-front.ensures.grows in
-    few_at (level_of n1 F) c.edges.result.now has (c.edges.ensures.inner has).full
+    let o = opened c.args.store.now c.front.new.store c.args.level.now c.args.order c.args.id.0 c.unit-unit.result c.in_ok-front.front.0 c.same_answers.ensures.store c.requires.level c.requires.some c.requires.fields
+    c.unit-unit.ensures.value c.in_ok-front.ensures.front c.in_ok-front.ensures.grows in
+    few_at (level_of c.front.new.store c.in_ok-front.front.0) c.edges.result.now (front_field o) (c.edges.ensures.inner (front_field o)).full
 
 pub worked_out-weights-requires : goal.worked_out-weights-requires
 worked_out-weights-requires t c =
-    let f = c.args.order / c.unit-unit.result in
-    let next = c.args.order % c.unit-unit.result in
-    let st = step c.args.store.now c.args.level.now c.args.order c.args.id.0 c.unit-unit.result c.requires.level c.requires.some c.requires.fields c.unit-unit.ensures.value in
-    let n1 = c.front.new.store in
-    let F = c.in_ok-front.front.0 in
-    let level = c.args.level.now in
-    let rest = c.as_slice.result.now in
-    let slice = c.as_slice.ensures ∙ c.in_ok-rest.ensures in
-    let ids = c.as_slice-2.ensures.keys ∙ c.in_ok-labels.ensures.children ∙ ap children_of c.edges.ensures.edges in
-    let p = parted f level st.has c.requires.fields.apart c.requires.level in
-    let all = children c.args.store.now n1 level c.args.id.0 f F c.args.order next c.same_answers.ensures.store c.requires.level c.requires.fields st c.in_ok-front.ensures.front c.in_ok-front.ensures.grows in
-    let fields = subst (All (λ (k : NodeId). AreFields n1 rest (digits (length rest) next) k.0)) (sym ids) (subst (λ l. All (λ (k : NodeId). AreFields n1 l (digits (length l) next) k.0) (children_of (edges_of n1 F))) (sym slice) all) in
-    let worths = stays.worths c.args.store.now n1 c.in_ok-front.ensures.grows c.args.worths.now c.requires.worths in
+    let o = opened c.args.store.now c.front.new.store c.args.level.now c.args.order c.args.id.0 c.unit-unit.result c.in_ok-front.front.0 c.same_answers.ensures.store c.requires.level c.requires.some c.requires.fields
+    c.unit-unit.ensures.value c.in_ok-front.ensures.front c.in_ok-front.ensures.grows in
+    let slice = c.as_slice-lower.ensures ∙ c.in_ok-rest.ensures in
+    let p = parted (c.args.order / c.unit-unit.result) c.args.level.now o.step.has c.requires.fields.apart c.requires.level in
+    let fields = children o c.as_slice-lower.result.now c.as_slice-nodes.result.now slice (c.as_slice-nodes.ensures.keys ∙ c.in_ok-labels.ensures.children ∙ ap children_of c.edges.ensures.edges) in
+    let worths = stays.worths c.args.store.now c.front.new.store o.grows c.args.worths.now c.requires.worths in
     (omega (arith, c.decreases, p.count, ap length slice), (subst IsLevel (sym slice) p.others, (fields, (c.in_ok-front.ensures.fronts, worths))))
 
 pub worked_out-returns-in-None-clause-worth : goal.worked_out-returns-in-None-clause-worth
 worked_out-returns-in-None-clause-worth t c =
-    let f = c.args.order / c.unit-unit.result in
-    let next = c.args.order % c.unit-unit.result in
-    let st = step c.args.store.now c.args.level.now c.args.order c.args.id.0 c.unit-unit.result c.requires.level c.requires.some c.requires.fields c.unit-unit.ensures.value in
-    let n1 = c.front.new.store in
-    let F = c.in_ok-front.front.0 in
-    let level = c.args.level.now in
-    let n2 = c.weights.new.store in
-    let slice = c.as_slice.ensures ∙ c.in_ok-rest.ensures in
-    let ids = c.as_slice-2.ensures.keys ∙ c.in_ok-labels.ensures.children ∙ ap children_of c.edges.ensures.edges in
-    let are = subst (λ es. ArePieces (children_of es) es c.in_ok-labels.labels.pieces.items) c.edges.ensures.edges c.in_ok-labels.ensures.pieces in
-    beyond c.args.store.now n1 level c.args.id.0 f F c.args.order next c.same_answers.ensures.store c.requires.level c.requires.fields st c.in_ok-front.ensures.front c.in_ok-front.ensures.grows n2 c.same_answers-2.ensures.store c.in_ok-weights.ensures.grows c.in_ok-labels.labels.pieces.items are c.as_slice.result.now c.as_slice-2.result.now slice ids c.args.cap
-    (subst (λ o. AreWeights n2 (digits (length c.as_slice.result.now) next) c.as_slice-2.result.now c.args.cap o) c.in-None.is c.in_ok-weights.ensures.weights)
+    let o = opened c.args.store.now c.front.new.store c.args.level.now c.args.order c.args.id.0 c.unit-unit.result c.in_ok-front.front.0 c.same_answers.ensures.store c.requires.level c.requires.some c.requires.fields
+    c.unit-unit.ensures.value c.in_ok-front.ensures.front c.in_ok-front.ensures.grows in
+    let told = brought c.front.new.store c.weights.new.store (without (c.args.order / c.unit-unit.result) c.args.level.now) c.in_ok-front.front.0 c.edges.result.now c.in_ok-labels.labels.pieces.items c.as_slice-lower.result.now
+    c.as_slice-nodes.result.now c.same_answers-2.ensures.store c.in_ok-weights.ensures.grows c.edges.ensures.edges c.in_ok-labels.ensures.pieces (c.as_slice-lower.ensures ∙ c.in_ok-rest.ensures)
+    (c.as_slice-nodes.ensures.keys ∙ c.in_ok-labels.ensures.children) in
+    beyond o told c.args.cap c.in_ok-weights.weights c.in-None.is c.in_ok-weights.ensures.weights
 
 pub worked_out-minimum-requires : goal.worked_out-minimum-requires
 worked_out-minimum-requires t c =
-    let f = c.args.order / c.unit-unit.result in
-    let next = c.args.order % c.unit-unit.result in
-    let st = step c.args.store.now c.args.level.now c.args.order c.args.id.0 c.unit-unit.result c.requires.level c.requires.some c.requires.fields c.unit-unit.ensures.value in
-    let n1 = c.front.new.store in
-    let F = c.in_ok-front.front.0 in
-    let level = c.args.level.now in
-    let n2 = c.weights.new.store in
-    let slice = c.as_slice.ensures ∙ c.in_ok-rest.ensures in
-    let ids = c.as_slice-2.ensures.keys ∙ c.in_ok-labels.ensures.children ∙ ap children_of c.edges.ensures.edges in
-    let are = subst (λ es. ArePieces (children_of es) es c.in_ok-labels.labels.pieces.items) c.edges.ensures.edges c.in_ok-labels.ensures.pieces in
-    let now = subst (λ ps. ArePieces (children_of (edges_of n1 F)) (edges_of n1 F) ps) (sym c.as_slice-pieces.ensures.value) are in
-    let known = subst (λ o. AreWeights n2 (digits (length c.as_slice.result.now) next) c.as_slice-2.result.now c.args.cap o) c.in-Some.is c.in_ok-weights.ensures.weights in
-    let ws = subst (λ xs. AllZip (λ (k : NodeId) m. IsExact n2 (digits (length c.as_slice.result.now) next) k.0 m) c.as_slice-2.result.now xs) (sym c.as_slice-in-Some.ensures.value) known in
-    let a = asked c.args.store.now n1 level c.args.id.0 f F c.args.order next c.same_answers.ensures.store c.requires.level c.requires.fields st c.in_ok-front.ensures.front c.in_ok-front.ensures.grows n2 c.same_answers-2.ensures.store c.in_ok-weights.ensures.grows c.as_slice-pieces.result.now now c.as_slice.result.now c.as_slice-2.result.now slice ids c.as_slice-in-Some.result.now ws in
+    let o = opened c.args.store.now c.front.new.store c.args.level.now c.args.order c.args.id.0 c.unit-unit.result c.in_ok-front.front.0 c.same_answers.ensures.store c.requires.level c.requires.some c.requires.fields
+    c.unit-unit.ensures.value c.in_ok-front.ensures.front c.in_ok-front.ensures.grows in
+    let told = brought c.front.new.store c.weights.new.store (without (c.args.order / c.unit-unit.result) c.args.level.now) c.in_ok-front.front.0 c.edges.result.now c.in_ok-labels.labels.pieces.items c.as_slice-lower.result.now
+    c.as_slice-nodes.result.now c.same_answers-2.ensures.store c.in_ok-weights.ensures.grows c.edges.ensures.edges c.in_ok-labels.ensures.pieces (c.as_slice-lower.ensures ∙ c.in_ok-rest.ensures)
+    (c.as_slice-nodes.ensures.keys ∙ c.in_ok-labels.ensures.children) in
+    let a = asked o told c.args.cap c.in_ok-weights.weights c.in-Some.weights c.as_slice-pieces.result.now c.as_slice.result.now c.in-Some.is c.as_slice-pieces.ensures.value c.as_slice.ensures.value c.in_ok-weights.ensures.weights in
     let bits = c.width-bits.ensures ∙ ap width c.from.ensures in
-    record { wide = subst (λ w. w ≤ 32) (sym bits) (narrow f); follow = a.follow; whole = a.whole ∙ ap (λ w. 2 ^ w) (sym bits); light = a.light }
+    record { wide = subst (λ w. w ≤ 32) (sym bits) (narrow (c.args.order / c.unit-unit.result)); follow = a.follow; whole = a.whole ∙ ap (λ w. 2 ^ w) (sym bits); light = a.light }
 
 pub worked_out-returns-clause-worth : goal.worked_out-returns-clause-worth
 worked_out-returns-clause-worth t c =
-    let f = c.args.order / c.unit-unit.result in
-    let next = c.args.order % c.unit-unit.result in
-    let st = step c.args.store.now c.args.level.now c.args.order c.args.id.0 c.unit-unit.result c.requires.level c.requires.some c.requires.fields c.unit-unit.ensures.value in
-    let n1 = c.front.new.store in
-    let F = c.in_ok-front.front.0 in
-    let level = c.args.level.now in
-    let n2 = c.weights.new.store in
-    let slice = c.as_slice.ensures ∙ c.in_ok-rest.ensures in
-    let ids = c.as_slice-2.ensures.keys ∙ c.in_ok-labels.ensures.children ∙ ap children_of c.edges.ensures.edges in
-    let are = subst (λ es. ArePieces (children_of es) es c.in_ok-labels.labels.pieces.items) c.edges.ensures.edges c.in_ok-labels.ensures.pieces in
-    let now = subst (λ ps. ArePieces (children_of (edges_of n1 F)) (edges_of n1 F) ps) (sym c.as_slice-pieces.ensures.value) are in
-    let known = subst (λ o. AreWeights n2 (digits (length c.as_slice.result.now) next) c.as_slice-2.result.now c.args.cap o) c.in-Some.is c.in_ok-weights.ensures.weights in
-    let ws = subst (λ xs. AllZip (λ (k : NodeId) m. IsExact n2 (digits (length c.as_slice.result.now) next) k.0 m) c.as_slice-2.result.now xs) (sym c.as_slice-in-Some.ensures.value) known in
-    let a = asked c.args.store.now n1 level c.args.id.0 f F c.args.order next c.same_answers.ensures.store c.requires.level c.requires.fields st c.in_ok-front.ensures.front c.in_ok-front.ensures.grows n2 c.same_answers-2.ensures.store c.in_ok-weights.ensures.grows c.as_slice-pieces.result.now now c.as_slice.result.now c.as_slice-2.result.now slice ids c.as_slice-in-Some.result.now ws in
-    let bits = c.width-bits.ensures ∙ ap width c.from.ensures in
+    let o = opened c.args.store.now c.front.new.store c.args.level.now c.args.order c.args.id.0 c.unit-unit.result c.in_ok-front.front.0 c.same_answers.ensures.store c.requires.level c.requires.some c.requires.fields
+    c.unit-unit.ensures.value c.in_ok-front.ensures.front c.in_ok-front.ensures.grows in
+    let told = brought c.front.new.store c.weights.new.store (without (c.args.order / c.unit-unit.result) c.args.level.now) c.in_ok-front.front.0 c.edges.result.now c.in_ok-labels.labels.pieces.items c.as_slice-lower.result.now
+    c.as_slice-nodes.result.now c.same_answers-2.ensures.store c.in_ok-weights.ensures.grows c.edges.ensures.edges c.in_ok-labels.ensures.pieces (c.as_slice-lower.ensures ∙ c.in_ok-rest.ensures)
+    (c.as_slice-nodes.ensures.keys ∙ c.in_ok-labels.ensures.children) in
+    let a = asked o told c.args.cap c.in_ok-weights.weights c.in-Some.weights c.as_slice-pieces.result.now c.as_slice.result.now c.in-Some.is c.as_slice-pieces.ensures.value c.as_slice.ensures.value c.in_ok-weights.ensures.weights in
     let e = c.in_ok-least-in-Some.ensures in
     let least = c.in_ok-least-in-Some.least in
-    a.exact e.rows least (minimal c.width-bits.result (width f) bits c.as_slice-pieces.result.now c.as_slice-in-Some.result.now e.rows least e.right e.labels e.weighs e.least)
+    let bits = c.width-bits.ensures ∙ ap width c.from.ensures in
+    a.exact e.rows least (minimal c.width-bits.result (width (c.args.order / c.unit-unit.result)) bits c.as_slice-pieces.result.now c.as_slice.result.now e.rows least e.right e.labels e.weighs e.least)
 
 pub worth-returns-then-is_empty-clause-worth : goal.worth-returns-then-is_empty-clause-worth
 worth-returns-then-is_empty-clause-worth t c = leaf c.args.store.now c.args.level.now c.args.order c.args.id.0 c.requires.fields.at (no_fields c.args.level.now (sym c.if-is_empty.ensures))
@@ -244,11 +206,8 @@ pub tried-returns-then-above-clause-worth : goal.tried-returns-then-above-clause
 tried-returns-then-above-clause-worth t c =
     subst (λ b. OnTrue b (IsAbove c.is_above.new.store (digits (length c.args.level.now) c.args.order) c.args.cap c.args.id)) c.if-above.true c.in_ok-above.ensures.above
 
-pub tried-returns-in_err-found-clause-grows : goal.tried-returns-in_err-found-clause-grows
-tried-returns-in_err-found-clause-grows t c = growth.twice c.args.store.now c.is_above.new.store c.worked_out.new.store c.in_ok-above.ensures.grows c.in_err-found.ensures.grows
-
 pub tried-returns-clause-grows : goal.tried-returns-clause-grows
-tried-returns-clause-grows t c = growth.twice c.args.store.now c.is_above.new.store c.worked_out.new.store c.in_ok-above.ensures.grows c.in_ok-found.ensures.grows
+tried-returns-clause-grows t c = growth.twice c.args.store.now c.is_above.new.store c.worked_out.new.store c.in_ok-above.ensures.grows c.worked_out.ensures.grows
 
 pub is_above-bounds-level-0 : goal.is_above-bounds-level-0
 is_above-bounds-level-0 t c = omega (arith, some_field c.args.level.now c.requires.some)
@@ -280,64 +239,58 @@ is_above-several_above-requires t c =
 pub is_above-returns-clause-above : goal.is_above-returns-clause-above
 is_above-returns-clause-above t c =
     let st = step c.args.store.now c.args.level.now c.args.order c.args.id.0 c.unit-unit.result c.requires.level c.requires.some c.requires.fields c.unit-unit.ensures.value in
-    subst (λ o. OnTrue c.in_ok-several.several (IsAbove c.several_above.new.store o c.args.cap c.args.id)) (sym st.order_is) c.in_ok-several.ensures.above
+    subst (λ o. IfOk c.several_above.result (λ b. OnTrue b (IsAbove c.several_above.new.store o c.args.cap c.args.id))) (sym st.order_is) c.several_above.ensures.above
 
 pub child_above-bounds-level-0 : goal.child_above-bounds-level-0
 child_above-bounds-level-0 t c = omega (arith, some_field c.args.level.now c.requires.some)
 
-pub child_above-order_without-below-requires-clause-count : goal.child_above-order_without-below-requires-clause-count
-child_above-order_without-below-requires-clause-count t c = omega (arith, five c.args.level.now c.requires.level)
-
-pub child_above-order_without-below-requires-clause-fields : goal.child_above-order_without-below-requires-clause-fields
-child_above-order_without-below-requires-clause-fields t c =
-    order_small (digits (length c.args.level.now) c.args.order) c.args.level.now c.requires.fields.rearranged c.requires.fields.apart c.requires.level
-
-pub child_above-order_without-below-requires-clause-apart : goal.child_above-order_without-below-requires-clause-apart
-child_above-order_without-below-requires-clause-apart t c = order_distinct (digits (length c.args.level.now) c.args.order) c.args.level.now c.requires.fields.rearranged
-
-pub child_above-order_without-below-requires-clause-has : goal.child_above-order_without-below-requires-clause-has
-child_above-order_without-below-requires-clause-has t c =
-    order_has _ (digits (length c.args.level.now) c.args.order) c.args.level.now c.requires.fields.rearranged (first_has c.args.level.now _ c.requires.some)
+pub child_above-order_without-below-requires : goal.child_above-order_without-below-requires
+child_above-order_without-below-requires t c =
+    let level = c.args.level.now in
+    let order = digits (length level) c.args.order in
+    let fields = c.requires.fields in record {
+      count = omega (arith, five level c.requires.level);
+      fields = order_small order level fields.rearranged fields.apart c.requires.level;
+      apart = order_distinct order level fields.rearranged;
+      has = order_has _ order level fields.rearranged (first_has level _ c.requires.some);
+    }
 
 pub child_above-edges-requires : goal.child_above-edges-requires
 child_above-edges-requires t c = in_use c.args.store.now c.args.id.0 c.args.level.now c.requires.level c.requires.fields.at
 
-pub child_above-slice_bounds-one_above-count : goal.child_above-slice_bounds-one_above-count
-child_above-slice_bounds-one_above-count t c = omega (arith, some_field c.args.level.now c.requires.some)
+pub child_above-slice_bounds-rest-count : goal.child_above-slice_bounds-rest-count
+child_above-slice_bounds-rest-count t c = omega (arith, some_field c.args.level.now c.requires.some)
 
 pub child_above-one_above-requires : goal.child_above-one_above-requires
 child_above-one_above-requires t c =
     let level = c.args.level.now in
-    let same = c.as_slice.ensures ∙ c.in_ok-edges.ensures ∙ c.edges.ensures.edges in
+    let same = c.as_slice-seen.ensures ∙ c.in_ok-edges.ensures ∙ c.edges.ensures.edges in
     let is = subst IsLevel (sym (rest_is level)) (is_next level c.requires.some) in
-    let fields = children_fields c.args.store.now level _ c.args.order c.order_without-below.result _ c.args.id.0 c.as_slice.result.now c.same_answers.ensures.store c.requires.level c.requires.some c.requires.fields (rest_is level) same
-    c.order_without-below.ensures in
+    let fields = children_fields c.args.store.now level _ c.args.order c.order_without-below.result _ c.args.id.0 c.as_slice-seen.result.now c.same_answers.ensures.store c.requires.level c.requires.some c.requires.fields (rest_is level)
+    same c.order_without-below.ensures in
     (omega (arith, c.decreases, some_field level c.requires.some), (is, (fields, (c.requires.fronts, c.requires.worths))))
 
 pub child_above-returns-clause-above : goal.child_above-returns-clause-above
 child_above-returns-clause-above t c =
     let level = c.args.level.now in
-    let same = c.as_slice.ensures ∙ c.in_ok-edges.ensures ∙ c.edges.ensures.edges in
-    child_told c.in_ok-above.above c.args.store.now c.one_above.new.store level _ c.args.order c.order_without-below.result c.args.cap _ c.args.id c.as_slice.result.now c.same_answers-2.ensures.store c.requires.level c.requires.some
+    let same = c.as_slice-seen.ensures ∙ c.in_ok-edges.ensures ∙ c.edges.ensures.edges in
+    child_told c.in_ok-above.above c.args.store.now c.one_above.new.store level _ c.args.order c.order_without-below.result c.args.cap _ c.args.id c.as_slice-seen.result.now c.same_answers-2.ensures.store c.requires.level c.requires.some
     c.requires.fields c.in_ok-above.ensures.grows (rest_is level) same c.order_without-below.ensures c.in_ok-above.ensures.above
 
 pub several_above-slice_bounds-front_edges-count : goal.several_above-slice_bounds-front_edges-count
 several_above-slice_bounds-front_edges-count t c = omega (arith, some_field c.args.level.now c.requires.some)
 
-pub several_above-front_edges-requires-clause-level : goal.several_above-front_edges-requires-clause-level
-several_above-front_edges-requires-clause-level t c = subst IsLevel (sym (rest_is c.args.level.now)) (is_next c.args.level.now c.requires.some)
-
-pub several_above-front_edges-requires-clause-apart : goal.several_above-front_edges-requires-clause-apart
-several_above-front_edges-requires-clause-apart t c = subst AreDistinct (sym (rest_is c.args.level.now)) (next_distinct c.args.level.now c.requires.apart)
-
-pub several_above-front_edges-requires-clause-inner : goal.several_above-front_edges-requires-clause-inner
-several_above-front_edges-requires-clause-inner t c = subst HasField (sym c.requires.at) c.requires.some
-
-pub several_above-front_edges-requires-clause-at : goal.several_above-front_edges-requires-clause-at
-several_above-front_edges-requires-clause-at t c = ap next_level c.requires.at ∙ sym (rest_is c.args.level.now)
-
-pub several_above-front_edges-requires-clause-has : goal.several_above-front_edges-requires-clause-has
-several_above-front_edges-requires-clause-has t c = subst (Has c.args.field) (sym (rest_is c.args.level.now)) c.requires.has
+pub several_above-front_edges-requires : goal.several_above-front_edges-requires
+several_above-front_edges-requires t c =
+    let level = c.args.level.now in
+    let tail = sym (rest_is level) in record {
+      level = subst IsLevel tail (is_next level c.requires.some);
+      apart = subst AreDistinct tail (next_distinct level c.requires.apart);
+      inner = subst HasField (sym c.requires.at) c.requires.some;
+      at = ap next_level c.requires.at ∙ tail;
+      has = subst (Has c.args.field) tail c.requires.has;
+      fronts = c.requires.fronts;
+    }
 
 pub several_above-parts_above-requires : goal.several_above-parts_above-requires
 several_above-parts_above-requires t c =
@@ -345,9 +298,9 @@ several_above-parts_above-requires t c =
     let level = c.args.level.now in
     let n = c.front_edges.new.store in
     let made = c.in_ok-edges.ensures in
-    let lower = c.as_slice.ensures ∙ c.in_ok-rest.ensures in
-    let r = ready c.args.store.now n level c.as_slice.result.now c.args.id.0 f c.in_ok-edges.edges.items c.as_slice-2.result.now c.same_answers.ensures.store c.requires.at c.requires.level c.requires.apart c.requires.some c.requires.has
-    made.grows made.edges lower c.as_slice-2.ensures in
+    let lower = c.as_slice-lower.ensures ∙ c.in_ok-rest.ensures in
+    let r = ready c.args.store.now n level c.as_slice-lower.result.now c.args.id.0 f c.in_ok-edges.edges.items c.as_slice-seen.result.now c.same_answers.ensures.store c.requires.at c.requires.level c.requires.apart c.requires.some
+    c.requires.has made.grows made.edges lower c.as_slice-seen.ensures in
     let p = parted f level (next_has f level c.requires.has) c.requires.apart c.requires.level in
     let apart = subst AreDistinct (sym lower) (distinct f level c.requires.apart) in
     let rearranged = subst (λ l. IsRearranged (digits (length l) c.args.order) l) (sym lower) c.requires.rearranged in
@@ -357,9 +310,9 @@ several_above-parts_above-requires t c =
 pub several_above-returns-clause-above : goal.several_above-returns-clause-above
 several_above-returns-clause-above t c =
     let made = c.in_ok-edges.ensures in
-    several_told c.in_ok-above.above c.args.store.now c.front_edges.new.store c.parts_above.new.store c.args.level.now c.as_slice.result.now c.args.id c.args.field c.args.order c.args.cap c.in_ok-edges.edges.items c.as_slice-2.result.now
-    c.same_answers.ensures.store c.same_answers-2.ensures.store c.requires.level c.requires.some c.requires.apart c.requires.at c.requires.has c.requires.rearranged made.grows made.edges c.in_ok-above.ensures.grows
-    (c.as_slice.ensures ∙ c.in_ok-rest.ensures) c.as_slice-2.ensures c.in_ok-above.ensures.above
+    several_told c.in_ok-above.above c.args.store.now c.front_edges.new.store c.parts_above.new.store c.args.level.now c.as_slice-lower.result.now c.args.id c.args.field c.args.order c.args.cap c.in_ok-edges.edges.items
+    c.as_slice-seen.result.now c.same_answers.ensures.store c.same_answers-2.ensures.store c.requires.level c.requires.some c.requires.apart c.requires.at c.requires.has c.requires.rearranged made.grows made.edges
+    c.in_ok-above.ensures.grows (c.as_slice-lower.ensures ∙ c.in_ok-rest.ensures) c.as_slice-seen.ensures c.in_ok-above.ensures.above
 
 pub several_above-returns-in_err-edges-clause-worths : goal.several_above-returns-in_err-edges-clause-worths
 several_above-returns-in_err-edges-clause-worths t c = stays.worths c.args.store.now c.front_edges.new.store c.in_err-edges.ensures.grows c.args.worths.now c.requires.worths
@@ -430,7 +383,7 @@ sampled-weights-requires t c =
     let old = c.args.store.now in
     let new = c.samples.new.store in
     let made = c.in_ok-samples.ensures in
-    let ids = c.as_slice-2.ensures.keys ∙ c.in_ok-labels.ensures.children ∙ ap children_of c.as_slice.ensures in
+    let ids = c.as_slice-nodes.ensures.keys ∙ c.in_ok-labels.ensures.children ∙ ap children_of c.as_slice.ensures in
     let fields = subst (All (λ (k : NodeId). AreFields new level order k.0)) (sym ids) (sample_fields old new level order c.args.field c.args.edges.now c.in_ok-samples.samples.items c.requires.apart c.requires.rearranged made.samples) in
     (omega (arith, c.decreases), (is_level level c.requires.level, (fields, (stays.fronts old new made.grows c.args.fronts.now c.requires.fronts, stays.worths old new made.grows c.args.worths.now c.requires.worths))))
 
@@ -438,14 +391,14 @@ pub sampled-returns-clause-above : goal.sampled-returns-clause-above
 sampled-returns-clause-above t c = λ none.
     let order = digits (length c.args.level.now) c.args.order in
     let new = c.weights.new.store in
-    let ids = c.as_slice-2.ensures.keys ∙ c.in_ok-labels.ensures.children ∙ ap children_of c.as_slice.ensures in record {
+    let ids = c.as_slice-nodes.ensures.keys ∙ c.in_ok-labels.ensures.children ∙ ap children_of c.as_slice.ensures in record {
       first = c.args.store.now;
       made = c.samples.new.store;
       samples = c.in_ok-samples.samples.items;
       begun = growth.stays c.args.store.now;
       grows = c.in_ok-weights.ensures.grows;
       are = c.in_ok-samples.ensures.samples;
-      above = subst (λ xs. AreWeights new order xs c.args.cap None) ids (subst (AreWeights new order c.as_slice-2.result.now c.args.cap) none c.in_ok-weights.ensures.weights);
+      above = subst (λ xs. AreWeights new order xs c.args.cap None) ids (subst (AreWeights new order c.as_slice-nodes.result.now c.args.cap) none c.in_ok-weights.ensures.weights);
     }
 
 pub sampled-returns-in_err-samples-clause-fronts : goal.sampled-returns-in_err-samples-clause-fronts
