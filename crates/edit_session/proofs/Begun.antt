@@ -1,6 +1,6 @@
 -- An update to a table of the list is begun, or is refused.
 use Rattle.std.proofs.Common.{◌≡◌, ◌⊎◌, ℕ, true, false, Option, Some, None, Result, Ok, Err, inl, inr, refl, ap, sym, subst, ◌∙◌, ◌<◌, true≢false}
-use Rattle.std.specs.Prelude.{◌↔◌, ◌≢◌, is_some, option_map, IsErrAnd}
+use Rattle.std.specs.Prelude.{◌≢◌, is_some, option_map, IsErrAnd}
 use Rattle.ternary_words.specs.declared.table.Table as code
 use Rattle.ternary_words.specs.Views.{table_of}
 use Rattle.bank_update.specs.Machine.{State, Update, stage, stage_of}
@@ -14,7 +14,6 @@ use Rattle.edit_session.specs.Ways.{HasBegun, InPlace, IsNotBegun, LacksRoom, Wa
 use Rattle.edit_session.specs.declared.refusal.CommitRefusal.{CommitRefusal}
 use Rattle.edit_session.specs.declared.refusal.CommitRefusal.TheVariants as commits
 use Rattle.edit_session.proofs.Making.{made-answers}
-use Rattle.edit_session.proofs.Ways.{planned}
 
 -- a session by its parts
 abbrev pub session_by : Listed → State → Copies → Method → Way → ℕ → ℕ → SessionState

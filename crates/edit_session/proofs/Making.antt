@@ -1,21 +1,12 @@
 -- The table that is made of a list is one for the list, or the list needs too much.
-use Rattle.std.proofs.Common.{◌≡◌, ℕ, List, Result, Ok, Err, subst, ◌∙◌}
-use Rattle.std.specs.Prelude.{IfErr, IfOk, MatchResult}
+use Rattle.std.proofs.Common.{ℕ, List, Result}
+use Rattle.std.specs.Prelude.{MatchResult}
 use Rattle.field_boxes.specs.Alike.{AreAlike, source_of}
 use Rattle.field_boxes.specs.Headline.Classifier.{Rule}
 use Rattle.ternary_words.specs.Headline.Table.{Table, answer}
 use Rattle.ternary_words.specs.declared.table.Table as code
 use Rattle.ternary_words.specs.Views.{table_of}
-use Rattle.table_compose.specs.declared.composition.ComposeError.{ComposeError}
-use Rattle.table_compose.specs.declared.composition.ComposeError.TheVariants as composes
-use Rattle.rule_compilation.specs.Compiled.{IsRefusedIn}
-use Rattle.rule_shortening.specs.Shortened.{IsRefused}
-use Rattle.rule_shortening.specs.declared.refusal.ShortenError.{ShortenError}
-use Rattle.rule_shortening.specs.declared.refusal.ShortenError.TheVariants as shortens
-use Rattle.edit_session.specs.Lists.{Listed}
-use Rattle.edit_session.specs.Machine.{IsTableFor}
 use Rattle.edit_session.specs.Methods.{Compiled, IsMade, IsUnmade, Method, Shortened}
-use Rattle.edit_session.specs.Refusals.{commit_refusal_of, shorten_refusal_of}
 use Rattle.edit_session.specs.declared.refusal.CommitRefusal.{CommitRefusal}
 
 -- what making a table of rules gives

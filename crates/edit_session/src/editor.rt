@@ -225,10 +225,9 @@ impl<'a, V: Device, T: Replaced> Editor<'a, V, T> {
         if self.swapper.stage().is_some() {
             return Err(CommitRefusal::Busy);
         }
+        let taken = self.swapper.taken(self.alloc)?;
         let rules = self.list.rules(self.alloc)?;
-        let table = self
-            .maker
-            .table(&self.list, rules.as_slice(), self.limit, self.slot)?;
+        let table = self.maker.table(&self.list, rules.as_slice(), &taken, self.limit, self.slot)?;
         let copy = self.list.settle(self.alloc, rules)?;
         self.begin(table, copy)
     }

@@ -7,6 +7,8 @@ use crate::table_lists::TableLists;
 use crate::way::Replaced;
 use bank_update::{Idle, Stage, StepRefusal, Updater};
 use field_boxes::Header;
+use razor_base::Memory;
+use rule_shortening::Taken;
 use std::alloc::Global;
 use std::marker::Model;
 use tcam_sim::Device;
@@ -73,6 +75,13 @@ impl<V: Device, T: Replaced> ListSwapper<V, T> {
     {
         let _lists = &self.lists;
         self.updater.stage()
+    }
+
+    /// The slots that the settled table takes, where it matters which they are.
+    pub(crate) fn taken(&self, alloc: Global) -> Result<Taken, Memory> {
+        let slots = self.updater.settled().slots_taken(alloc)?;
+        let count = self.device().slots();
+        Ok(Taken { slots, count })
     }
 
     /// Begins an update to a table of the list, and answers how many writes it has. After a refusal all is as it was.

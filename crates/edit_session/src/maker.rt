@@ -10,7 +10,7 @@ use crate::listing::Listing;
 use crate::refusal::CommitRefusal;
 use field_boxes::{Decisions, Order, Rule};
 use rule_compilation::Compiler;
-use rule_shortening::Shortener;
+use rule_shortening::{Shortener, Taken};
 use std::alloc::Global;
 use ternary_words::{Limit, SlotWidth, Table};
 
@@ -42,11 +42,13 @@ impl<'a> Maker<'a> {
         }
     }
 
-    /// The table of the list, of which these are the rules in their order, for slots of the width.
+    /// The table of the list, of which these are the rules in their order, for slots of the width. The table that is settled takes
+    /// these slots.
     pub(crate) fn table(
         &mut self,
         list: &Listing,
         rules: &[Rule],
+        taken: &Taken,
         limit: Limit,
         slot: SlotWidth,
     ) -> Result<Table, CommitRefusal>
@@ -57,7 +59,7 @@ impl<'a> Maker<'a> {
         ensures refused { IfErr result (IsUnmade (method_of self.old) list.now.rules limit.count) }
         ensures method { method_of self.new ≡ method_of self.old }
     {
-        self.made(rules, list.names(), limit, slot)
+        self.made(rules, list.names(), taken, limit, slot)
     }
 
     /// Whether another table of the list can be made than the last one.
@@ -91,6 +93,7 @@ impl<'a> Maker<'a> {
         &mut self,
         rules: &[Rule],
         names: &Decisions,
+        taken: &Taken,
         limit: Limit,
         slot: SlotWidth,
     ) -> Result<Table, CommitRefusal>
@@ -104,7 +107,10 @@ impl<'a> Maker<'a> {
     {
         match self {
             Maker::Compiles(compiler) => Ok(compiler.compile(rules, names, limit, slot)?),
-            Maker::Shortens(shortener) => Ok(shortener.shorten(rules, names, limit, slot)?),
+            Maker::Shortens(shortener) => {
+                shortener.stand(taken)?;
+                Ok(shortener.shorten(rules, names, limit, slot)?)
+            }
         }
     }
 }

@@ -4,6 +4,7 @@ ghost use Rattle.edit_session.specs.Ways.{HasBegun, InPlace, IsNotBegun, Way, Wh
 
 use crate::refusal::CommitRefusal;
 use bank_update::{Block, StandingTable, Swapper, Updater};
+use razor_base::Memory;
 use slot_patch::{Patcher, SlotTable, begin_patch};
 use std::alloc::Global;
 use tcam_sim::Device;
@@ -25,6 +26,9 @@ pub trait Replaced: StandingTable {
         ensures refused { IfErr result (IsNotBegun way updater.old.state table) }
         ensures unchanged { OnErr result (updater.new ≡ updater.old) }
         ensures device { updater.new.device ≡ updater.old.device };
+
+    /// The slots that hold entries, from the first to the last, where it matters which they are.
+    fn slots_taken(&self, alloc: Global) -> Result<Vec<u32>, Memory>;
 }
 
 impl Replaced for Block {
@@ -40,6 +44,10 @@ impl Replaced for Block {
             Err((_table, refusal)) => Err(CommitRefusal::from(refusal)),
         }
     }
+
+    fn slots_taken(&self, alloc: Global) -> Result<Vec<u32>, Memory> {
+        Ok(Vec::new(alloc))
+    }
 }
 
 impl Replaced for SlotTable {
@@ -54,5 +62,9 @@ impl Replaced for SlotTable {
             Ok(total) => Ok(total),
             Err(refusal) => Err(CommitRefusal::from(refusal)),
         }
+    }
+
+    fn slots_taken(&self, alloc: Global) -> Result<Vec<u32>, Memory> {
+        self.taken(alloc)
     }
 }

@@ -1,11 +1,12 @@
 //! What is kept of a list that was shortened.
 
 use crate::differences::Differences;
+use crate::taken::Taken;
 use field_boxes::Rule;
 use razor_base::Memory;
 use rule_expansion::expanded_entries;
 use std::alloc::Global;
-use table_search::{in_old_order, repaired, stands_after};
+use table_search::{Room, in_old_order, repaired};
 use ternary_words::{Entry, Word};
 
 /// Rules that are edited at once at most, on either side.
@@ -20,13 +21,13 @@ const MOST_REPAIRS: u32 = 32;
 /// A word of so many bits, or of fewer, is broad.
 const BROAD: u32 = 16;
 
-/// The rules of a list, the entries of their table, and where these stand in the memory. Nothing is promised of it.
+/// The rules of a list, the entries of their table, and the room between these in the memory. Nothing is promised of it.
 #[derive(Drop)]
 pub(crate) struct Known {
     alloc: Global,
     rules: Vec<Rule>,
     entries: Vec<Entry>,
-    stands: Vec<u32>,
+    room: Room,
     /// A table is made anew where a repaired one has more entries than this, or no repair is left.
     most: usize,
     left: u32,
@@ -35,32 +36,35 @@ pub(crate) struct Known {
 }
 
 impl Known {
-    /// Of rules whose table was made anew, and stands evenly.
+    /// Of rules whose table was made anew.
     pub fn new(alloc: Global, rules: &[Rule], entries: &[Entry]) -> Result<Known, Memory> {
         Ok(Known {
             alloc,
             rules: Vec::from_slice(alloc, rules)?,
             entries: Vec::from_slice(alloc, entries)?,
-            stands: stands_after(alloc, &[], &[], entries)?,
+            room: Room::unknown(alloc),
             most: grown(entries.len()),
             left: MOST_REPAIRS,
             has_tried: false,
         })
     }
 
-    /// Of rules whose table was made anew, and stands in the place of this one.
-    pub fn replaced(&self, rules: &[Rule], entries: &[Entry]) -> Result<Known, Memory> {
-        let mut known = Known::new(self.alloc, rules, entries)?;
-        known.stands = stands_after(self.alloc, &self.entries, &self.stands, entries)?;
-        Ok(known)
-    }
-
     /// Of rules whose table is this one, repaired.
     pub fn followed(&self, rules: &[Rule], entries: &[Entry]) -> Result<Known, Memory> {
-        let mut followed = self.replaced(rules, entries)?;
+        let mut followed = Known::new(self.alloc, rules, entries)?;
         followed.most = self.most;
         followed.left = self.left.saturating_sub(1);
         Ok(followed)
+    }
+
+    /// The entries take these slots, if there is one for each.
+    pub fn stand(&mut self, taken: &Taken) -> Result<(), Memory> {
+        self.room = if taken.slots.len() == self.entries.len() {
+            Room::between(self.alloc, &taken.slots, taken.count)?
+        } else {
+            Room::unknown(self.alloc)
+        };
+        Ok(())
     }
 
     /// Where a table of these rules is to be made anew beside a repaired one of so many entries, below how many it is worth it:
@@ -93,13 +97,13 @@ impl Known {
         anew: Option<&[Entry]>,
     ) -> Result<Option<Vec<Entry>>, Memory> {
         if let Some(entries) = anew {
-            let ordered = in_old_order(self.alloc, &self.entries, &self.stands, entries)?;
+            let ordered = in_old_order(self.alloc, &self.entries, &self.room, entries)?;
             return Ok(Some(ordered));
         }
         let Some(words) = self.edited_words(rules)? else {
             return Ok(None);
         };
-        Ok(repaired(self.alloc, &self.entries, &self.stands, list, &words)?)
+        Ok(repaired(self.alloc, &self.entries, &self.room, list, &words)?)
     }
 
     /// The words in which the edit of the kept rules to these can show; none where they are too many.

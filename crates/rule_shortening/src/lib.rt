@@ -31,7 +31,7 @@
 //! |---|---|
 //! | `shortening`, `ordered`, `task`, `refusal` | the calls, and why rules have no short table |
 //! | `draft`, `laying` | entries for the last rules of a list, and rules laid out in few |
-//! | `shortener`, `known`, `differences` | lists one after another, and what is kept between them |
+//! | `shortener`, `known`, `differences`, `taken` | lists one after another, and what is kept between them |
 //! | `searching`, `checked` | the search, and what it found, compared |
 //! | `trimming` | tables without their redundant entries |
 #![tactic(auto)]
@@ -46,6 +46,7 @@ mod refusal;
 mod searching;
 mod shortener;
 mod shortening;
+mod taken;
 mod task;
 mod trimming;
 
@@ -53,4 +54,5 @@ pub use ordered::shorten_in;
 pub use refusal::ShortenError;
 pub use shortener::Shortener;
 pub use shortening::shorten;
+pub use taken::Taken;
 pub use trimming::trim;

@@ -12,6 +12,7 @@ use crate::draft::{has_room, in_full};
 use crate::known::Known;
 use crate::refusal::ShortenError;
 use crate::shortening::{shorten, table_for};
+use crate::taken::Taken;
 use crate::task::Task;
 use crate::trimming::trim_for;
 use field_boxes::{Decisions, Rule};
@@ -46,6 +47,15 @@ impl Shortener {
             pending: None,
             made: None,
             has_other: false,
+        }
+    }
+
+    /// The table that stands in the memory takes these slots there. The next one is then ordered so that few entries have to move.
+    pub fn stand(&mut self, taken: &Taken) -> Result<(), Memory> {
+        self.settle();
+        match &mut self.settled {
+            Some(known) => known.stand(taken),
+            None => Ok(()),
         }
     }
 
@@ -126,7 +136,7 @@ impl Shortener {
             return None;
         }
         let table = self.in_old_order(task, table);
-        let Ok(made) = self.known(task.rules, &table.entries) else {
+        let Ok(made) = Known::new(self.alloc, task.rules, &table.entries) else {
             return None;
         };
         self.made = Some(made);
@@ -176,16 +186,8 @@ impl Shortener {
             (IsRefused (named_rules task.entry.names.now task.entry.rules.now) task.entry.limit.count) }
     {
         let table = shorten(self.alloc, task.rules, task.names, task.limit, task.slot)?;
-        self.made = Some(self.known(task.rules, &table.entries)?);
+        self.made = Some(Known::new(self.alloc, task.rules, &table.entries)?);
         Ok(table)
-    }
-
-    /// What is known of rules whose table was made anew.
-    fn known(&self, rules: &[Rule], entries: &[Entry]) -> Result<Known, Memory> {
-        match &self.settled {
-            Some(known) => known.replaced(rules, entries),
-            None => Known::new(self.alloc, rules, entries),
-        }
     }
 }
 

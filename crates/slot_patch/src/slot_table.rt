@@ -5,7 +5,7 @@ use crate::names::Names;
 use crate::plan::{Plan, Planned};
 use crate::planning::plan_update;
 use crate::refusal::PatchRefusal;
-use crate::standing::empty_slots;
+use crate::standing::{Standing, empty_slots, standing_in};
 use bank_update::{StandingTable, Write};
 use razor_base::Memory;
 use std::alloc::Global;
@@ -41,6 +41,7 @@ impl SlotTable {
     ghost use Rattle.std.specs.Prelude.{◌≡◌, [], None, IfOk, IfErr, length, replicate};
     ghost use Rattle.ternary_words.specs.Limits.{AreNumbered};
     ghost use Rattle.bank_update.specs.Standing.{entries_in};
+    ghost use Rattle.slot_patch.specs.Ordered.{places};
     ghost use Rattle.slot_patch.specs.Patching.{IsPatchTo, IsUnplanned, plan_of};
 
     /// So many slots, all of them empty.
@@ -51,6 +52,14 @@ impl SlotTable {
             slots: empty_slots(alloc, slots as usize)?,
             names: Names::new(alloc),
         })
+    }
+
+    /// The slots that hold entries, from the first to the last.
+    pub fn taken(&self, alloc: Global) -> Result<Vec<u32>, Memory>
+        ensures { IfOk result (λ slots. slots.items ≡ places 0 self.now.slots) }
+    {
+        let Standing { slots, .. } = standing_in(alloc, &self.slots)?;
+        Ok(slots)
     }
 
     /// The patch that leads to the table. It is refused where both need more slots than there are, and where memory is.

@@ -17,8 +17,8 @@
 //!
 //! [`repaired`] makes entries for a list that was edited out of those for the list before, of which most stay: what the
 //! list says where the edit shows comes in front, goes down as far as it can, and is made shorter by the same steps.
-//! [`in_old_order`] gives a table that was made anew an order much like that of the one before, and [`stands_after`]
-//! says where entries then stand in a memory, as far as can be known.
+//! [`in_old_order`] gives a table that was made anew an order much like that of the one before. In both, new entries come
+//! where a memory has [`Room`] between the old ones.
 //!
 //! What is promised: that every call is safe and returns. Nothing is promised of what comes out: whoever uses it checks
 //! that it answers as the entries before did. No clause says how short the tables are, which is measured, or that the
@@ -32,7 +32,7 @@
 //! | `exceptions`, `against`, `lifting` | what must stand in front of a wider cube |
 //! | `windows`, `hashes`, `known` | small windows arranged anew, and what was tried before |
 //! | `repair`, `saying`, `mending` | a table repaired where its list was edited |
-//! | `stands`, `placing`, `ordering` | where old entries stand in a memory, and an order of new ones for which few of them move |
+//! | `room`, `spots`, `placing`, `places`, `ordering` | free slots of a memory, and an order of new entries for which few old ones move |
 //! | `effort`, `draws`, `rows` | how much is tried, the numbers that are drawn, and rows of entries |
 #![tactic(auto)]
 
@@ -50,15 +50,17 @@ mod layout;
 mod lifting;
 mod mending;
 mod ordering;
+mod places;
 mod placing;
 mod repair;
+mod room;
 mod rounds;
 mod rows;
 mod saying;
 mod search;
 mod shapes;
 mod sides;
-mod stands;
+mod spots;
 mod strips;
 mod widening;
 mod windows;
@@ -66,5 +68,5 @@ mod windows;
 pub use layout::{Layout, WIDE};
 pub use ordering::in_old_order;
 pub use repair::repaired;
+pub use room::Room;
 pub use rounds::Shortening;
-pub use stands::stands_after;

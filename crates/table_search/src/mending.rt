@@ -2,6 +2,7 @@
 
 use crate::effort::{REPAIR_REACH, REPAIR_ROUNDS};
 use crate::placing::{Placed, entries_placed, spread};
+use crate::room::Room;
 use crate::rows::push_rows;
 use crate::search::Search;
 use entry_index::{Cube, Row, Table};
@@ -58,8 +59,8 @@ impl Mending {
         self.sink(REPAIR_REACH)
     }
 
-    /// The entries as they are now, the new ones where there is room between the old ones, which stand there.
-    pub fn entries(&self, stands: &[u32]) -> Result<Vec<Entry>, Memory> {
+    /// The entries as they are now, the new ones where there is room between the old ones.
+    pub fn entries(&self, room: &Room) -> Result<Vec<Entry>, Memory> {
         let mut placed = Vec::with_capacity(self.alloc, self.table.len())?;
         for id in &self.table.ids(self.alloc)? {
             placed.push(Placed {
@@ -68,7 +69,7 @@ impl Mending {
                 at_home: !self.is_new(*id),
             })?;
         }
-        spread(&mut placed, stands)?;
+        spread(self.alloc, &mut placed, room)?;
         entries_placed(self.alloc, &placed)
     }
 

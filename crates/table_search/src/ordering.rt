@@ -1,8 +1,9 @@
 //! A table that is made anew, in the order of the one before.
 
+use crate::places::{old_places, rising};
 use crate::placing::{Placed, entries_placed, sink, spread};
+use crate::room::Room;
 use crate::rows::row_of;
-use crate::stands::{old_places, rising};
 use razor_base::Memory;
 use std::alloc::Global;
 use ternary_words::Entry;
@@ -32,7 +33,7 @@ impl Ranked {
 pub fn in_old_order(
     alloc: Global,
     old: &[Entry],
-    stands: &[u32],
+    room: &Room,
     new: &[Entry],
 ) -> Result<Vec<Entry>, Memory> {
     if old.len() > MOST_ORDERED || new.len() > MOST_ORDERED {
@@ -45,9 +46,9 @@ pub fn in_old_order(
     up.sort_by_key(|ranked: &Ranked| ranked.wish)?;
     down.sort_by_key(|ranked: &Ranked| ranked.wish)?;
     if in_order(alloc, &up)?.len() >= in_order(alloc, &down)?.len() {
-        return parted(alloc, &up, stands);
+        return parted(alloc, &up, room);
     }
-    parted(alloc, &down, stands)
+    parted(alloc, &down, room)
 }
 
 /// The new entries: each wants to stand where its word stood, or else where the next one wants to.
@@ -128,7 +129,7 @@ fn in_order(alloc: Global, all: &[Ranked]) -> Result<Vec<(usize, usize)>, Memory
 }
 
 /// The entries, those that don't stay where there is room between the old ones.
-fn parted(alloc: Global, all: &[Ranked], stands: &[u32]) -> Result<Vec<Entry>, Memory> {
+fn parted(alloc: Global, all: &[Ranked], room: &Room) -> Result<Vec<Entry>, Memory> {
     let mut rows = Vec::with_capacity(alloc, all.len())?;
     for ranked in all {
         rows.push(Placed {
@@ -143,6 +144,6 @@ fn parted(alloc: Global, all: &[Ranked], stands: &[u32]) -> Result<Vec<Entry>, M
         }
     }
     sink(&mut rows)?;
-    spread(&mut rows, stands)?;
+    spread(alloc, &mut rows, room)?;
     entries_placed(alloc, &rows)
 }

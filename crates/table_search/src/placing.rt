@@ -1,7 +1,8 @@
 //! Where the new rows of a table stand among the old ones.
 
-use crate::hashes::hash_of;
+use crate::room::Room;
 use crate::rows::entry_of;
+use crate::spots::Spot;
 use entry_index::Row;
 use razor_base::Memory;
 use std::alloc::Global;
@@ -18,31 +19,43 @@ pub(crate) struct Placed {
 }
 
 /// Moves the new rows up, from the first to the last, each to a place below the last row that it may not pass: to where the old
-/// row with its word stood, or else to where the most room is between old rows, of which each stands there in the memory.
+/// row with its word stood, or else to where there is room between old rows.
 ///
 /// In the place of the old row it takes its slot, by one write. The others want a free slot, and rows that went down as far as
 /// they can stand close together.
-pub(crate) fn spread(rows: &mut Vec<Placed>, stands: &[u32]) -> Result<(), Memory> {
+pub(crate) fn spread(alloc: Global, rows: &mut Vec<Placed>, room: &Room) -> Result<(), Memory> {
+    let mut room = room.copy()?;
     for place in 0..rows.len() {
         let Some(placed) = rows.get(place).copied() else {
             return Ok(());
         };
         if !placed.at_home {
-            let above = rows.as_slice().get(..place).unwrap_or(&[]);
-            let below = rows
-                .as_slice()
-                .get(place.saturating_add(1)..)
-                .unwrap_or(&[]);
-            let free = free_above(&placed.row, above);
-            let home = home_within(&placed, above, below, free);
-            let to = match home {
-                Some(to) => to,
-                None => roomiest(&placed.row, above, below, stands, free),
-            };
-            move_row(rows, place, to, home.is_some())?;
+            let (to, at_home) = place_for(alloc, &placed, rows, place, &mut room)?;
+            move_row(rows, place, to, at_home)?;
         }
     }
     Ok(())
+}
+
+/// Where the new row at this place comes, and whether it is at home there. It takes a free slot where it isn't.
+fn place_for(
+    alloc: Global,
+    placed: &Placed,
+    rows: &[Placed],
+    place: usize,
+    room: &mut Room,
+) -> Result<(usize, bool), Memory> {
+    let above = rows.get(..place).unwrap_or(&[]);
+    let below = rows.get(place.saturating_add(1)..).unwrap_or(&[]);
+    let free = free_above(&placed.row, above);
+    if let Some(to) = home_within(placed, above, below, free) {
+        return Ok((to, true));
+    }
+    let Some(spot) = Spot::best(alloc, above, below, free, room)? else {
+        return Ok((place, false));
+    };
+    room.take(spot.gaps);
+    Ok((spot.to, false))
 }
 
 /// Moves the new rows down, from the last to the first, as far as they can go.
@@ -115,81 +128,10 @@ impl Placed {
         self.row.decision == other.decision || !self.row.cube.meets(other.cube)
     }
 
-    /// Where the row stands, if it is at home.
-    fn stand(&self, stands: &[u32]) -> Option<u32> {
-        if !self.at_home {
-            return None;
-        }
-        stands.get(self.home?).copied()
+    /// The place of the row in the old table, if it stands there.
+    pub fn stays(&self) -> Option<usize> {
+        if self.at_home { self.home } else { None }
     }
-}
-
-/// What lies above a row that stays: new rows, and free slots as far as to the next row that stays.
-#[derive(Clone, Copy)]
-struct Gap {
-    to: usize,
-    high: u32,
-    others: u32,
-}
-
-impl Gap {
-    /// The one above the rows below a place.
-    fn before(below: &[Placed], stands: &[u32], to: usize) -> Gap {
-        let mut others = 0_u32;
-        for placed in below {
-            if let Some(high) = placed.stand(stands) {
-                return Gap { to, high, others };
-            }
-            others = others.saturating_add(1);
-        }
-        Gap {
-            to,
-            high: u32::MAX,
-            others,
-        }
-    }
-
-    /// The room that one more row has in it, where it ends behind this stand, and up to half of it less, as the row's number draws.
-    fn room(&self, low: u32, number: u64) -> u32 {
-        let rows = self.others.saturating_add(2);
-        let width = self.high.saturating_sub(low);
-        let room = width.checked_div(rows).unwrap_or(0);
-        let odd = (self.to as u64).wrapping_mul(2).wrapping_add(1);
-        let drawn = number.wrapping_mul(odd) >> 55;
-        room.saturating_sub((room >> 10).saturating_mul(drawn as u32))
-    }
-}
-
-/// The place with the most room for the row among those above it, of which it may pass so many. Where many have as much, rows
-/// part by what they draw: the nearest are left to those that may stand nowhere else.
-fn roomiest(row: &Row, above: &[Placed], below: &[Placed], stands: &[u32], free: usize) -> usize {
-    let number = hash_of(&[*row]);
-    let mut gap = Gap::before(below, stands, above.len());
-    let (mut best, mut most) = (gap.to, 0);
-    for passed in 1..=above.len() {
-        let place = above.len().saturating_sub(passed);
-        let stand = above.get(place).and_then(|placed| placed.stand(stands));
-        let Some(low) = stand else {
-            gap.others = gap.others.saturating_add(1);
-            continue;
-        };
-        let room = gap.room(low, number);
-        if room > most {
-            (best, most) = (gap.to, room);
-        }
-        if passed > free {
-            return best;
-        }
-        gap = Gap {
-            to: place,
-            high: low,
-            others: 0,
-        };
-    }
-    if gap.room(0, number) > most {
-        return gap.to;
-    }
-    best
 }
 
 /// Moves the row at a place to another, where it is at home or not.

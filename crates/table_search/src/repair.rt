@@ -1,6 +1,7 @@
 //! The repair of a short table whose list was edited.
 
 use crate::mending::Mending;
+use crate::room::Room;
 use crate::rows::push_rows;
 use crate::saying::said;
 use entry_index::Cube;
@@ -11,11 +12,11 @@ use ternary_words::{Entry, Word};
 /// Entries for a list that was edited, from those that stood for it before; most of them stay. None where too much was edited.
 ///
 /// `list` are the entries of the list as it is now, and `words` those of the edit: outside of them nothing changed. New entries come
-/// where there is room between the old ones, each of which stands there in a memory: numbers that rise, from 0 to `u32::MAX`.
+/// where there is room between the old ones.
 pub fn repaired(
     alloc: Global,
     old: &[Entry],
-    stands: &[u32],
+    room: &Room,
     list: &[Entry],
     words: &[Word],
 ) -> Result<Option<Vec<Entry>>, Memory> {
@@ -27,7 +28,7 @@ pub fn repaired(
     };
     let mut mending = Mending::new(alloc, front, old)?;
     mending.settle(&cubes)?;
-    Ok(Some(mending.entries(stands)?))
+    Ok(Some(mending.entries(room)?))
 }
 
 /// The words' cubes, the widest first.

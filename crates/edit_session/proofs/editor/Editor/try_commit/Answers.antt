@@ -16,7 +16,7 @@ returns-then-is_some-clause-commit g c =
 pub returns-in_err-rules-clause-commit : goal.returns-in_err-rules-clause-commit
 returns-in_err-rules-clause-commit g c =
     let none : is_some (stage c.self.inside.swapper.state) ≡ false = search rules in
-    copy-refused c.args.self.now.session _ c.from_residual.result c.from_residual.ensures.1 none (ap (λ (v : Editing g.row.V.Denot). v.session) c.self.view_is)
+    copy-refused c.args.self.now.session _ c.from_residual-in_err-rules.result c.from_residual-in_err-rules.ensures.1 none (ap (λ (v : Editing g.row.V.Denot). v.session) c.self.view_is)
 
 pub returns-in_err-table-clause-commit : goal.returns-in_err-table-clause-commit
 returns-in_err-table-clause-commit g c =

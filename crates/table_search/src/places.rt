@@ -1,40 +1,8 @@
-//! Where the entries of a table stand in a memory, as far as can be known without it: numbers that rise, from 0 to `u32::MAX`.
+//! Where the words of a table stood in an old one, and which of them stand in the old order.
 
 use razor_base::Memory;
 use std::alloc::Global;
 use ternary_words::Entry;
-
-/// Where the entries of a table stand that came in the place of another one: as many as can stay where the old entries with their
-/// words stood, and the others evenly between; all evenly where there is no old one.
-pub fn stands_after(
-    alloc: Global,
-    old: &[Entry],
-    stands: &[u32],
-    new: &[Entry],
-) -> Result<Vec<u32>, Memory> {
-    let places = old_places(alloc, old, new)?;
-    let mut all = Vec::with_capacity(alloc, new.len())?;
-    let mut low = 0;
-    for (place, old_place) in rising(alloc, &places)? {
-        let stand = stands.get(old_place).copied().unwrap_or(low);
-        push_even(&mut all, place, low, stand)?;
-        all.push(stand)?;
-        low = stand;
-    }
-    push_even(&mut all, new.len(), low, u32::MAX)?;
-    Ok(all)
-}
-
-/// Pushes stands evenly between these two, as far as to the entry at a place.
-fn push_even(all: &mut Vec<u32>, end: usize, low: u32, high: u32) -> Result<(), Memory> {
-    let parts = (end.saturating_sub(all.len()) as u64).saturating_add(1);
-    let room = u64::from(high.saturating_sub(low));
-    for part in 1..parts {
-        let share = room.saturating_mul(part).checked_div(parts).unwrap_or(0);
-        all.push(low.saturating_add((share % (1 << 32)) as u32))?;
-    }
-    Ok(())
-}
 
 /// The place of each entry's word in the old table, if it has one there.
 pub(crate) fn old_places(
