@@ -121,11 +121,13 @@ def read(path, faults):
             check(row, used)
         except (ValueError, TypeError) as fault:
             faults.append(f"{name}: {row.said.get('name') or f'row {place}'}: {fault}")
+    before = set()
     for key, text in shared.items():
         try:
-            texts.check(text, shared, used)
-        except ValueError as fault:
+            texts.check(text, before, used)
+        except (ValueError, TypeError) as fault:
             faults.append(f"{name}: text {key}: {fault}")
+        before.add(key)
     names = [row.said.get("name") for row in rows]
     faults.extend(f"{name}: {it}: two rows have this name" for it in sorted({it for it in names if it and names.count(it) > 1}))
     faults.extend(f"{name}: text {key}: no row uses it" for key in shared if key not in used)

@@ -9,7 +9,7 @@ import subprocess
 import tempfile
 
 from running import texts
-from running.rows import FAULTS
+from running.rows import FAULTS, OUTPUTS
 
 SECONDS = 120
 SHOWN = 160
@@ -77,6 +77,14 @@ class RowRun:
     def made(self, text):
         return texts.made(text, self.row.shared, lambda words: self.output_of(tuple(words)))
 
+    def wanted(self):
+        """What is wanted of the outputs; where that is what a call writes, it writes something."""
+        wanted = {key: self.made(self.row.said[key]) for key in OUTPUTS if key in self.row.said}
+        for key, text in wanted.items():
+            if not text and isinstance(self.row.said[key], dict):
+                raise ValueError(f"nothing is wanted of {key}: {self.row.said[key]}")
+        return wanted
+
     def result(self):
         calls, faults = 0, []
         try:
@@ -85,7 +93,7 @@ class RowRun:
                 files[name] = self.made(text)
                 (self.folder / name).write_bytes(files[name])
             given = self.made(self.row.said.get("given", ""))
-            wanted = {key: self.made(self.row.said[key]) for key in ("out", "out-begins", "out-ends", "err") if key in self.row.said}
+            wanted = self.wanted()
             for case in self.row.cases():
                 for name, length in case.fronts.items():
                     (self.folder / name).write_bytes(files[name][:length])

@@ -73,7 +73,7 @@ def check(text, names, used):
         bytes.fromhex(text["hex"])
     elif form == "repeat":
         check(text["repeat"], names, used)
-        if type(text["times"]) is not int or text["times"] < 1:
+        if type(text.get("times")) is not int or text["times"] < 1:
             raise ValueError(f"no number of times: {text!r}")
     elif form == "call":
         words_of(text["call"])
