@@ -5,8 +5,8 @@
 //!
 //! | Room | Holds |
 //! |---|---|
-//! | `tests/lists` | lists and certificates as they are read and written, what errors say, prefixes and diagrams, and lists that are compiled one after another |
-//! | `tests/tables` | texts of tables, words that cover a word, steps that keep a table's answers, the search that shortens tables, and entries that are joined; small tables at each of sixteen keys |
+//! | `tests/lists` | diagrams, least costs and prefix lists, covers of intervals, certificates row by row, written lists, what errors say |
+//! | `tests/tables` | words that cover a word, at each of sixteen keys; steps that keep a table's answers, and redundant entries |
 //! | `tests/memories` | scripts and sessions over memories of which some writes fail |
 #![tactic(auto)]
 
