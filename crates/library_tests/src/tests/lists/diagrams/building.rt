@@ -82,10 +82,15 @@ fn expect_web<R: Abort + AllocGlobal>(rt: &R, store: &mut Store) -> Result<(), F
     expect(rt, store, root, 5, &answers)
 }
 
+/// All of these in one store.
+fn expect_all<R: Abort + AllocGlobal>(rt: &R, store: &mut Store) -> Result<(), Fail> {
+    expect_boxes(rt, store)?;
+    expect_agreement(rt, store)?;
+    expect_web(rt, store)
+}
+
 #[test]
 fn boxes_and_rules_go_under_and_over_diagrams(rt: HostRuntime) -> Result<(), Fail> {
     let mut store = Store::new(rt.alloc());
-    expect_boxes(&rt, &mut store)?;
-    expect_agreement(&rt, &mut store)?;
-    expect_web(&rt, &mut store)
+    expect_all(&rt, &mut store)
 }
