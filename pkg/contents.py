@@ -55,7 +55,7 @@ def examples():
 
 def scripts():
     """The scripts that want nothing but Python, and their sources, below a prefix."""
-    sources = below(ROOT / "python", lambda path: path.suffix in (".py", ".css") and "tcam_razor" in path.parts)
+    sources = below(ROOT / "python", lambda path: path.suffix in (".py", ".css", ".typed") and "tcam_razor" in path.parts)
     commands = {f"bin/razor-{name}": SCRIPT.format(sources=SOURCES, name=name).encode() for name in ("show", "flows", "report")}
     return {**commands, **under(SOURCES, sources)}
 
