@@ -27,6 +27,7 @@ from tcam_razor import {module}
 
 # The commands, and the modules that they call.
 COMMANDS = {
+    "razor-export": "exporting",
     "razor-flows": "flows",
     "razor-import": "importing",
     "razor-lines": "lines",
