@@ -4,11 +4,10 @@ import subprocess
 import unittest
 from unittest import mock
 
-from tcam_razor import importing, judge
-from tcam_razor.exporting import FOLDERS
+from tcam_razor import exporting, importing, judge
 from tests.calling import SAMPLES, call, sample
 
-THERE = shutil.which("nft", path=FOLDERS) and subprocess.run(["unshare", "-rn", "true"], capture_output=True).returncode == 0
+THERE = shutil.which("nft", path=exporting.FOLDERS) and subprocess.run([*exporting.NAMESPACE, "true"], capture_output=True).returncode == 0
 ASSUMED = {"in": "eth0", "state": "new", "icmp": "8/0"}
 WORDS = [f"--assume={key}={value}" for key, value in ASSUMED.items()]
 SAVE = """*filter
@@ -20,12 +19,12 @@ COMMIT
 """
 
 
-@unittest.skipUnless(THERE, "there is no nft, which Debian's package nftables has, or no namespace by unshare -rn")
+@unittest.skipUnless(THERE, "there is no nft, which Debian's package nftables has, or no namespace by unshare")
 class Judge(unittest.TestCase):
     def test_the_kernel_decides_as_the_list(self):
         for words, given, name in (((*WORDS, SAMPLES / "vmap.nft"), "", "inet t input"), ((*WORDS, "--pick", "FORWARD", "-"), SAVE.replace("INPUT", "FORWARD"), "filter FORWARD"),
                                    ((*WORDS, "-"), SAVE, "filter INPUT"), ((*WORDS, "-"), sample("vmap.json"), "inet t input")):
-            if given.startswith("*") and not shutil.which("iptables-nft-restore", path=FOLDERS):
+            if given.startswith("*") and not shutil.which("iptables-nft-restore", path=exporting.FOLDERS):
                 continue
             with self.subTest(name=name):
                 ended = call("judge", *words, "--packets", 200, given=given)

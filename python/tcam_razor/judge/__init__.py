@@ -3,7 +3,7 @@
     razor-judge [--pick NAME] [--assume KEY=VALUE].. [--packets N] [--seed N] FILE
 
 FILE is a ruleset as `nft -f` or `iptables-restore` loads it, or the JSON of `nft -j list ruleset`; `-` is standard input. It is
-loaded into a network namespace of its own, without root and without touching the machine. What the kernel has there is listed and
+loaded into a network namespace of its own, which needs no root, and touches nothing of the machine. What the kernel has there is listed and
 imported, with `--pick` and `--assume` as razor-import has them. Then packets are sent to the hook of the chain, drawn by `--seed`
 at the ends of the list's rules (1000, or as many as `--packets` says), and the kernel says which come out of it. Other chains are
 emptied before. Chains at the hooks prerouting, input and forward are judged.

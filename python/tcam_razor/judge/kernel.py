@@ -14,7 +14,7 @@ import sys
 from types import TracebackType
 from typing import Any, Iterable, Sequence
 
-from ..exporting import FOLDERS
+from ..exporting import FOLDERS, NAMESPACE
 from .namespace import OWN, TAGS
 from .packets import Form
 
@@ -33,7 +33,7 @@ class NotLoaded(Exception):
 
 class Kernel:
     def __init__(self, incoming: str = "razor-in", outgoing: str = "razor-out") -> None:
-        words = ["unshare", "-rn", sys.executable, "-B", "-m", "tcam_razor.judge.namespace", incoming, outgoing]
+        words = [*NAMESPACE, sys.executable, "-B", "-m", "tcam_razor.judge.namespace", incoming, outgoing]
         environment = os.environ | {"PATH": FOLDERS, "PYTHONPATH": str(PACKAGE)}
         try:
             self.process = subprocess.Popen(words, stdin=subprocess.PIPE, stdout=subprocess.PIPE, stderr=subprocess.PIPE, text=True, env=environment)

@@ -1,6 +1,6 @@
 """What runs inside a network namespace: it sends packets over a pair of interfaces, and reads what the kernel logs of them.
 
-Called by `kernel`, as `unshare -rn python3 -m tcam_razor.judge.namespace IN OUT`. It reads a request of JSON a line, and writes an
+Called by `kernel`, by `unshare`, as `python3 -m tcam_razor.judge.namespace IN OUT`. It reads a request of JSON a line, and writes an
 answer of JSON a line. A packet has the number of its header as its identification, by which a log message tells which it is.
 """
 from __future__ import annotations
