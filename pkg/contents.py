@@ -31,6 +31,8 @@ COMMANDS = {
     "razor-export": "exporting",
     "razor-flows": "flows",
     "razor-import": "importing",
+    "razor-json": "data",
+    "razor-judge": "judge",
     "razor-lines": "lines",
     "razor-report": "report",
     "razor-show": "show",
