@@ -5,6 +5,7 @@ crates.txt and what lies in src, specs and proofs.
 """
 import hashlib
 
+from building.kit import logic
 from building.sources import ROOT, below, checksums
 
 FILE = ROOT / "PROVED"
@@ -15,11 +16,6 @@ def checksum(crates):
     whole = hashlib.sha256((ROOT / "HANDLES").read_bytes())
     whole.update(checksums(crates, below(crates, PROGRAM))[PROGRAM].encode())
     return whole.hexdigest()
-
-
-def logic(version):
-    """The logic of a kit, of what it says of itself."""
-    return version.split()[-1]
 
 
 def text(crates, version):
