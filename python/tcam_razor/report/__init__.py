@@ -13,6 +13,7 @@ import hashlib
 import pathlib
 import sys
 import tempfile
+from typing import Callable
 
 from tcam_razor import script
 from tcam_razor.razor import Razor, found
@@ -20,7 +21,7 @@ from tcam_razor.report.change import Change, Version
 from tcam_razor.report.page import page
 
 
-def arguments():
+def arguments() -> argparse.Namespace:
     words = script.words(__doc__)
     words.add_argument("--slots", type=int, metavar="N", help="the slots in which writes are planned; without it a fifth more than the longer table")
     words.add_argument("--seconds", type=seconds, default=60, metavar="N", help="how long a command may take; 60 without it")
@@ -30,19 +31,19 @@ def arguments():
     return words.parse_args()
 
 
-def seconds(word):
+def seconds(word: str) -> float:
     value = float(word)
     if not value > 0:
         raise argparse.ArgumentTypeError("a time is more than 0 seconds")
     return value
 
 
-def text_of(name):
+def text_of(name: str) -> str:
     """The text of a list. It is read once, so that it may come from a pipe."""
     return pathlib.Path(name).read_bytes().decode("ascii", "replace")
 
 
-def main(program_of):
+def main(program_of: Callable[[str | None], str]) -> None:
     given = arguments()
     program = program_of(given.program)
     listed = [text_of(name) for name in (given.old, given.new)]
@@ -53,6 +54,6 @@ def main(program_of):
         sys.stdout.write(page(Change(old, new, sums, given.slots)))
 
 
-def call(program_of=found):
+def call(program_of: Callable[[str | None], str] = found) -> None:
     """Runs the script; which program is run says a function of the one that is given, or none."""
     script.run(lambda: main(program_of))

@@ -8,8 +8,16 @@ import functools
 import itertools
 import subprocess
 import time
+from typing import Iterable, Iterator, Sequence
 
 from tcam_razor.headers import MISS, WHOLE
+from tcam_razor.lists import Rule
+from tcam_razor.razor import Razor
+
+Span = tuple[int, int]
+Box = tuple[Span, ...]
+# Spans of a field, each with the tree of the fields behind it.
+Tree = list[tuple[Span, "Tree"]]
 
 # As many boxes are asked for apart; where there are more, one is asked for that holds all.
 MOST_REGIONS = 64
@@ -23,7 +31,7 @@ MOST_LINES = 200_000
 class Changed:
     """A box in which one list decides one name, and the other one another name."""
 
-    box: tuple
+    box: Box
     old: str
     new: str
 
@@ -32,13 +40,13 @@ class Changed:
 class Search:
     """What was found, and whether that is all."""
 
-    found: list
+    found: list[Changed]
     is_all: bool
 
 
-def regions(rules):
+def regions(rules: Sequence[Rule]) -> list[Box]:
     """Boxes that hold the headers that these rules match, no two of which meet."""
-    found = []
+    found: list[Box] = []
     for box in itertools.chain.from_iterable(itertools.product(*rule.spans) for rule in rules):
         pieces = [box]
         for other in found:
@@ -49,16 +57,17 @@ def regions(rules):
     return found
 
 
-def hull(boxes):
+def hull(boxes: Iterable[Box]) -> Box:
     """The smallest box that holds these boxes."""
     return tuple((min(low for low, _ in spans), max(high for _, high in spans)) for spans in zip(*boxes))
 
 
-def without(box, other):
+def without(box: Box, other: Box) -> list[Box]:
     """Boxes that hold what is in the first box and not in the other one."""
     if any(high < low_of_other or high_of_other < low for (low, high), (low_of_other, high_of_other) in zip(box, other)):
         return [box]
-    found, rest = [], list(box)
+    found: list[Box] = []
+    rest = list(box)
     for field, (low, high) in enumerate(other):
         first, last = rest[field]
         if first < low:
@@ -72,14 +81,15 @@ def without(box, other):
 class Lists:
     """Two lists of the program, by their paths, and the names that they decide."""
 
-    def __init__(self, razor, paths, names, seconds):
+    def __init__(self, razor: Razor, paths: tuple[str, str], names: Iterable[str], seconds: float) -> None:
         self.razor, self.paths, self.until = razor, paths, time.monotonic() + seconds
-        self.names = [*names, MISS][:MOST_NAMES]
-        self.is_all = len(names) < MOST_NAMES
+        all_names = [*names, MISS]
+        self.names = all_names[:MOST_NAMES]
+        self.is_all = len(all_names) <= MOST_NAMES
 
-    def changed(self, rules, most):
+    def changed(self, rules: Sequence[Rule], most: int) -> Search:
         """The boxes in which the lists decide differently, in rising order: so many are found at most in time, and then joined."""
-        pieces = []
+        pieces: list[Changed] = []
         for region in regions(rules):
             pieces += itertools.islice(self.differences(region), most - len(pieces))
             if len(pieces) == most or time.monotonic() > self.until:
@@ -87,37 +97,37 @@ class Lists:
                 break
         return Search(joined(pieces), self.is_all)
 
-    def differences(self, region):
+    def differences(self, region: Box) -> Iterator[Changed]:
         old, new = ({name: self.boxes(path, region, name) for name in self.names} for path in self.paths)
         for left, right in itertools.permutations(self.names, 2):
             for box in meeting(tree(old[left]), tree(new[right])):
                 yield Changed(box, left, right)
 
     @functools.lru_cache(maxsize=None)
-    def boxes(self, path, region, name):
+    def boxes(self, path: str, region: Box, name: str) -> list[Box]:
         """The boxes of `query`, as many as are read."""
         spans = ["*" if span == whole else f"{span[0]}-{span[1]}" for span, whole in zip(region, WHOLE)]
         words = [self.razor.program, "query", "--", path, *spans, name]
         with subprocess.Popen(words, cwd=self.razor.folder, stdout=subprocess.PIPE, stderr=subprocess.DEVNULL, text=True) as running:
-            lines = list(itertools.islice(running.stdout, MOST_LINES))
+            lines = list(itertools.islice(running.stdout or (), MOST_LINES))
             if len(lines) == MOST_LINES:
                 running.kill()
                 self.is_all = False
         return [box_of(line) for line in lines if not line.startswith("boxes ")]
 
 
-def box_of(line):
-    return tuple(tuple(map(int, span.split("-"))) for span in line.split())
+def box_of(line: str) -> Box:
+    return tuple((int(low), int(high)) for low, high in (span.split("-") for span in line.split()))
 
 
-def tree(boxes):
+def tree(boxes: list[Box]) -> Tree:
     """The boxes as spans of the first field, each with the tree of what follows."""
     if not boxes or not boxes[0]:
         return []
     return [(span, tree([box[1:] for box in group])) for span, group in itertools.groupby(boxes, key=lambda box: box[0])]
 
 
-def meeting(left, right, front=()):
+def meeting(left: Tree, right: Tree, front: Box = ()) -> Iterator[Box]:
     """The boxes in which a box of one tree meets one of the other."""
     if len(front) == len(WHOLE):
         yield front
@@ -130,7 +140,7 @@ def meeting(left, right, front=()):
             yield from meeting(below, below_right, (*front, (max(low, low_of_right), min(high, high_of_right))))
 
 
-def joined(pieces):
+def joined(pieces: list[Changed]) -> list[Changed]:
     """The same boxes with neighbours joined, field by field, the last one first."""
     for field in reversed(range(len(WHOLE))):
         pieces.sort(key=lambda it: (it.old, it.new, it.box[:field], it.box[field + 1 :], it.box[field]))
@@ -138,9 +148,9 @@ def joined(pieces):
     return sorted(pieces)
 
 
-def runs(pieces, field):
+def runs(pieces: list[Changed], field: int) -> Iterator[Changed]:
     """The pieces, where those that touch in the field and are alike otherwise are one."""
-    whole = None
+    whole: Changed | None = None
     for piece in pieces:
         if whole and alike(whole, piece, field) and whole.box[field][1] + 1 == piece.box[field][0]:
             span = (whole.box[field][0], piece.box[field][1])
@@ -153,6 +163,6 @@ def runs(pieces, field):
         yield whole
 
 
-def alike(left, right, field):
+def alike(left: Changed, right: Changed, field: int) -> bool:
     others = [[*it.box[:field], *it.box[field + 1 :], it.old, it.new] for it in (left, right)]
     return others[0] == others[1]

@@ -6,9 +6,12 @@ import io
 import itertools
 import re
 import subprocess
+from typing import Iterator
 
 from tcam_razor import headers, lists, tables
-from tcam_razor.report.boxes import Lists
+from tcam_razor.headers import Header
+from tcam_razor.razor import Ended, Razor
+from tcam_razor.report.boxes import Lists, Search
 from tcam_razor.script import shown
 
 MAKERS = ("expand", "compile", "arrange", "shorten")
@@ -19,6 +22,9 @@ MOST_BOXES = 2_000
 NEEDED = re.compile(r"(\d+) entries needed, limit (\d+)\n")
 VALID = re.compile(r"valid rows=(\d+)\n")
 PLAN = re.compile(r"plan 1 slots (\d+) width \d+ writes (\d+)\n")
+
+# The place of a rule in the old version and in the new one, of which one may be missing.
+Pair = tuple[int | None, int | None]
 
 
 @dataclasses.dataclass(frozen=True)
@@ -35,10 +41,10 @@ class State:
     """What `audit` says of a rule: its name, and a header that shows it, which a rule that is never first has not."""
 
     name: str
-    header: headers.Header | None
+    header: Header | None
 
     @property
-    def is_needed(self):
+    def is_needed(self) -> bool:
         return self.name == "live"
 
 
@@ -57,7 +63,7 @@ class Plan:
     """Writes that lead from one table to another; or how many slots they would need."""
 
     slots: int
-    writes: list
+    writes: list[str]
     needed: int = 0
 
 
@@ -72,34 +78,34 @@ class Verdict:
 class Version:
     """A version of a list, as a file of the program's folder."""
 
-    def __init__(self, razor, name, title, text, seconds):
+    def __init__(self, razor: Razor, name: str, title: str, text: str, seconds: float) -> None:
         self.razor, self.name, self.title, self.seconds = razor, name, title, seconds
         self.rules = lists.rules_of(title, io.StringIO(text))
         razor.put(name, text)
 
-    def run(self, *words):
+    def run(self, *words: str) -> Ended | None:
         """How the program ends, or none where that takes too long."""
         try:
             return self.razor.run(*words, seconds=self.seconds)
         except subprocess.TimeoutExpired:
             return None
 
-    def first(self, header):
+    def first(self, header: Header) -> lists.Rule | None:
         """The first rule that matches the header, or none."""
         return next((rule for rule in self.rules if rule.holds(header)), None)
 
     @functools.cached_property
-    def states(self):
+    def states(self) -> list[State] | None:
         """The state of each rule, or none where `audit` gives no answer in time."""
         ended = self.run("audit", self.name)
-        return ended and ended.status == 0 and [state(line.split()) for line in ended.lines]
+        return [state(line.split()) for line in ended.lines] if ended and ended.status == 0 else None
 
     @functools.cached_property
-    def sizes(self):
+    def sizes(self) -> dict[str, Size]:
         """The size of each command's table. The table of `shorten` is kept beside the list."""
         return {command: self.size(command) for command in MAKERS}
 
-    def size(self, command):
+    def size(self, command: str) -> Size:
         ended = self.run(command, self.name)
         if ended is None:
             return Size(is_made=False, why=f"no table in {self.seconds:g} seconds")
@@ -109,14 +115,15 @@ class Version:
             return Size(is_made=False, why=f"status {ended.status}: {ended.err.strip()}")
         if command == "shorten":
             self.razor.put(self.table, ended.out)
-        return Size(int(tables.FIRST.match(ended.out)[3]))
+        found = tables.FIRST.match(ended.out)
+        return Size(int(found[3])) if found else Size(is_made=False, why="no table")
 
     @property
-    def table(self):
+    def table(self) -> str:
         return f"{self.name}.table"
 
 
-def state(words):
+def state(words: list[str]) -> State:
     _, _, name, *values = words
     return State(name, headers.header(values) if values else None)
 
@@ -124,12 +131,12 @@ def state(words):
 class Change:
     """The change from one version to the other, with names and checksums of what the answers are of."""
 
-    def __init__(self, old, new, sums, slots=None):
+    def __init__(self, old: Version, new: Version, sums: list[tuple[str, str]], slots: int | None = None) -> None:
         self.old, self.new, self.razor = old, new, old.razor
         self.sums, self.slots = sums, slots
 
     @functools.cached_property
-    def difference(self):
+    def difference(self) -> tuple[Header, str, str] | None:
         """The least header that the versions decide differently, and what each decides; none where they decide alike."""
         ended = self.razor.run("equiv", self.old.name, self.new.name)
         if ended.status == 0:
@@ -139,7 +146,7 @@ class Change:
         _, *values, left, right = ended.out.split()
         return headers.header(values), left, right
 
-    def named(self, message):
+    def named(self, message: str) -> str:
         """A message of the program with the names that the lists were given."""
         for version in (self.old, self.new):
             if message.startswith(f"{version.name}: "):
@@ -147,10 +154,10 @@ class Change:
         return message
 
     @functools.cached_property
-    def rows(self):
+    def rows(self) -> list[Pair]:
         """The rules as a patch shows them: the place of each in the old version and in the new one, of which one may be missing."""
         sides = [[(rule.spans, rule.decision) for rule in version.rules] for version in (self.old, self.new)]
-        found = []
+        found: list[Pair] = []
         for tag, first, last, first_of_new, last_of_new in difflib.SequenceMatcher(None, *sides, autojunk=False).get_opcodes():
             if tag == "equal":
                 found += zip(range(first, last), range(first_of_new, last_of_new))
@@ -159,35 +166,36 @@ class Change:
         return found
 
     @property
-    def gone(self):
-        return [self.old.rules[old] for old, new in self.rows if new is None]
+    def gone(self) -> list[lists.Rule]:
+        return [self.old.rules[old] for old, new in self.rows if old is not None and new is None]
 
     @property
-    def put_in(self):
-        return [self.new.rules[new] for old, new in self.rows if old is None]
+    def put_in(self) -> list[lists.Rule]:
+        return [self.new.rules[new] for old, new in self.rows if new is not None and old is None]
 
     @functools.cached_property
-    def search(self):
+    def search(self) -> Search:
         """The boxes in which the versions decide differently."""
         names = dict.fromkeys(rule.decision for rule in [*self.gone, *self.put_in, *self.old.rules, *self.new.rules])
         asked = Lists(self.razor, (self.old.name, self.new.name), names, self.old.seconds)
         return asked.changed([*self.gone, *self.put_in], MOST_BOXES)
 
     @functools.cached_property
-    def turned(self):
+    def turned(self) -> list[Turned] | None:
         """The rules that do nothing now and did before, or weren't there; none where `audit` gave no answer in time."""
-        if not self.old.states and self.old.rules or not self.new.states and self.new.rules:
+        old_states, new_states = self.old.states, self.new.states
+        if old_states is None or new_states is None:
             return None
-        before = {new: self.old.states[old] for old, new in self.rows if old is not None and new is not None}
-        rows = [(at, now, before.get(at)) for at, now in enumerate(self.new.states or []) if not now.is_needed]
+        before = {new: old_states[old] for old, new in self.rows if old is not None and new is not None}
+        rows = [(at, now, before.get(at)) for at, now in enumerate(new_states) if not now.is_needed]
         return [Turned(self.new.rules[at], was, now, self.hider(at)) for at, now, was in rows if was is None or was.name != now.name]
 
-    def hider(self, at):
+    def hider(self, at: int) -> lists.Rule | None:
         """The first rule before this one that alone matches all that it matches, or none."""
         return next((rule for rule in self.new.rules[:at] if rule.covers(self.new.rules[at])), None)
 
     @functools.cached_property
-    def plan(self):
+    def plan(self) -> Plan | None:
         """The plan of writes from the old table to the new one in place; none where there is no table, or no plan in time."""
         both = [version.sizes["shorten"] for version in (self.old, self.new)]
         if not all(size.is_made for size in both):
@@ -198,13 +206,13 @@ class Change:
             return None
         self.razor.put("memory", placed.out)
         ended = self.old.run("patch", "memory", self.new.table)
-        needed = ended and NEEDED.fullmatch(ended.err)
+        needed = NEEDED.fullmatch(ended.err) if ended else None
         if needed:
             return Plan(slots, [], int(needed[1]))
         return Plan(slots, ended.lines[1:]) if ended and ended.status == 0 and PLAN.match(ended.out) else None
 
     @functools.cached_property
-    def verdict(self):
+    def verdict(self) -> Verdict | None:
         """What `check` says of the certificate of the new version's table; none where there is no table."""
         if not self.new.sizes["shorten"].is_made:
             return None
@@ -216,16 +224,20 @@ class Change:
             except subprocess.TimeoutExpired:
                 writing.kill()
                 return Verdict(None, f"no verdict in {self.new.seconds:g} seconds")
-            writing.stdout.close()
+            if writing.stdout:
+                writing.stdout.close()
         found = VALID.fullmatch(ended.stdout)
         if ended.returncode > 1:
             return Verdict(None, ended.stderr.strip().replace("-: ", "a certificate of ", 1))
         return Verdict(ended.returncode == 0 and writing.returncode == 0, f"{int(found[1]):,} rows" if found else ended.stdout.strip())
 
 
-def context(rows, around):
+def context(rows: list[Pair], around: int) -> Iterator[Pair | None]:
     """The rows at most so many rows from one that is changed; none of them stands for each run of others."""
     changed = [at for at, pair in enumerate(rows) if None in pair]
     near = {at for change in changed for at in range(change - around, change + around + 1)}
     for is_near, group in itertools.groupby(range(len(rows)), key=near.__contains__):
-        yield from ((rows[at] for at in group) if is_near else [None])
+        if is_near:
+            yield from (rows[at] for at in group)
+        else:
+            yield None

@@ -2,10 +2,12 @@
 import collections
 import pathlib
 import shlex
+from typing import Iterable, Iterator
 
 from tcam_razor import headers, texts
-from tcam_razor.report.change import MAKERS, context
-from tcam_razor.report.markup import Html, element, joined, rows
+from tcam_razor.headers import Header
+from tcam_razor.report.change import MAKERS, Change, Pair, Size, Turned, Version, context
+from tcam_razor.report.markup import Html, Part, element, joined, rows
 
 # As many rows are shown of what may be long.
 MOST_BOXES = 50
@@ -26,7 +28,7 @@ VERDICTS = {True: "valid", False: "not valid", None: "not known"}
 STATES = {"live": "needed", "droppable": "redundant", "never": "shadowed"}
 
 
-def page(change):
+def page(change: Change) -> str:
     """The whole page."""
     names = [version.title for version in (change.old, change.new)]
     head = element(
@@ -42,31 +44,31 @@ def page(change):
     return f"<!DOCTYPE html>\n{element('html', head, body, lang='en')}\n"
 
 
-def section(title, *parts):
+def section(title: str, *parts: Part) -> Html:
     return element("section", element("h2", title), *parts)
 
 
-def paragraph(*parts, **attributes):
+def paragraph(*parts: Part, **attributes: object) -> Html:
     return element("p", *parts, **attributes)
 
 
-def scrolled(table):
+def scrolled(table: Html) -> Html:
     return element("div", table, class_="scroll")
 
 
-def pill(text, kind="plain"):
+def pill(text: str, kind: str = "plain") -> Html:
     return element("span", text, class_=f"pill {kind}")
 
 
-def cell(text, kind):
+def cell(text: Part, kind: str) -> Html:
     return element("td", text, class_=kind)
 
 
-def counted(count, thing, things=None):
+def counted(count: int, thing: str, things: str | None = None) -> str:
     return f"{count:,} {thing if count == 1 else things or f'{thing}s'}"
 
 
-def top(change):
+def top(change: Change) -> Html:
     return element(
         "header",
         paragraph("What a change does", class_="kicker"),
@@ -75,11 +77,11 @@ def top(change):
     )
 
 
-def tile(title, value, says, kind=None):
+def tile(title: str, value: str, says: str, kind: str | None = None) -> Html:
     return element("div", element("dt", title), element("dd", value, class_=f"value {kind or ''}".strip()), element("dd", says, class_="soft"), class_="tile")
 
 
-def tiles(change):
+def tiles(change: Change) -> Iterator[tuple[str, str, str] | tuple[str, str, str, str | None]]:
     if change.difference:
         yield "Decisions", "changed", "some headers are decided differently", "bad"
     else:
@@ -93,14 +95,14 @@ def tiles(change):
         yield "Certificate", VERDICTS[change.verdict.is_valid], change.verdict.says, {True: "good", False: "bad"}.get(change.verdict.is_valid)
 
 
-def growth(before, after):
+def growth(before: Size, after: Size) -> str:
     if not (before.is_made and after.is_made):
         return after.why or before.why
     difference = after.count - before.count
     return f"{'+' if difference > 0 else '−'}{abs(difference):,}" if difference else "unchanged"
 
 
-def flags(change):
+def flags(change: Change) -> list[Html]:
     """A warning where rules ask for flags, which take no part."""
     found = [(version.title, sum(rule.is_flagged for rule in version.rules)) for version in (change.old, change.new)]
     return [
@@ -110,7 +112,7 @@ def flags(change):
     ]
 
 
-def first_difference(change):
+def first_difference(change: Change) -> Html:
     if change.difference is None:
         return section("First difference", paragraph("There is none: both lists decide every header alike."))
     header, *decisions = change.difference
@@ -124,17 +126,17 @@ def first_difference(change):
     )
 
 
-def values(header):
+def values(header: Header) -> list[str]:
     spans = ((value, value) for value in header)
     return [texts.shown_span(span, width) for span, width in zip(spans, headers.WIDTHS)]
 
 
-def deciding_row(version, decision, kind, header):
+def deciding_row(version: Version, decision: str, kind: str, header: Header) -> tuple[str, Html, Html]:
     rule = version.first(header)
     return version.title, pill(decision, kind or "plain"), cell(f"line {rule.line}: {rule.text}" if rule else "no rule matches", "rule")
 
 
-def boxes(change):
+def boxes(change: Change) -> Html | None:
     if change.difference is None:
         return None
     found = change.search.found
@@ -151,16 +153,16 @@ def boxes(change):
     )
 
 
-def unnamed(kinds):
+def unnamed(kinds: Iterable[tuple[str, str]]) -> str | None:
     """What is to be said where rules without a decision are named by their places, which a change moves."""
     return " A rule without a decision is named by its number among the rules." if any(name.startswith("#") for kind in kinds for name in kind) else None
 
 
-def arrow(old, new):
+def arrow(old: str, new: str) -> Html:
     return joined([pill(old), " → ", pill(new, "note")])
 
 
-def rules(change):
+def rules(change: Change) -> Html:
     if not change.gone and not change.put_in:
         return section("Rules", paragraph("Both lists have the same rules in the same order."))
     lines = list(context(change.rows, AROUND))
@@ -170,7 +172,7 @@ def rules(change):
     return section("Rules", paragraph("What was put in and taken out, and the rules around, by the lines of both lists."), more, scrolled(element("table", head, body, class_="patch")))
 
 
-def patch_row(change, pair):
+def patch_row(change: Change, pair: Pair | None) -> Html:
     if pair is None:
         return element("tr", element("td", "⋯", colspan="4"), class_="rest")
     old, new = pair
@@ -180,7 +182,7 @@ def patch_row(change, pair):
     return element("tr", [cell(number, "number soft") for number in numbers], cell(sign, "sign"), cell(rule.text, "rule"), class_=kind)
 
 
-def turned(change):
+def turned(change: Change) -> Html:
     title = "Rules that do nothing now"
     if change.turned is None:
         return section(title, paragraph("The states of the rules weren't found in time."))
@@ -200,13 +202,13 @@ def turned(change):
     return section(title, paragraph(says), scrolled(rows(("Line", "Rule", "Before", "Now", "Why"), lines)))
 
 
-def because(it):
+def because(it: Turned) -> str:
     if it.now.header:
         return f"first match of {it.now.header.shown}, which later rules decide alike"
     return f"line {it.hider.line} matches all that it matches" if it.hider else "earlier rules together match all that it matches"
 
 
-def sizes(change):
+def sizes(change: Change) -> Html:
     """The sizes of both lists' tables, as bars."""
     both = [version.sizes for version in (change.old, change.new)]
     most = max([1, *(size.count for found in both for size in found.values() if size.is_made)])
@@ -219,7 +221,7 @@ def sizes(change):
     )
 
 
-def bar_row(command, at, before, size, most):
+def bar_row(command: str, at: int, before: Size, size: Size, most: int) -> Html:
     side = ("old", "new")[at]
     text = f"{size.count:,}" if size.is_made else size.why
     more = f" ({growth(before, size)})" if at and size.is_made and before.is_made else ""
@@ -230,12 +232,12 @@ def bar_row(command, at, before, size, most):
     return element("tr", cells, element("td", element("div", parts, class_=f"bar {side if size.is_made else 'refused'}")), class_=("first", "last")[at])
 
 
-def bar(width):
+def bar(width: float) -> Html:
     """A bar as wide as so much of its place."""
     return Html(f'<svg width="{max(width, 0.5):.1f}%" height="15" aria-hidden="true"><rect x="1" y="1" width="calc(100% - 2px)" height="13" rx="2"/></svg>')
 
 
-def plan(change):
+def plan(change: Change) -> Html | None:
     """The writes that lead from the old table to the new one; nothing where there is no plan."""
     if change.plan is None:
         return None
@@ -255,12 +257,12 @@ def plan(change):
     )
 
 
-def write_row(name, count, most):
+def write_row(name: str, count: int, most: int) -> Html:
     parts = [bar(100 * count / most) if count else None, element("span", counted(count, "write"))]
     return element("tr", cell(name, "nowrap"), element("td", element("div", parts, class_=f"bar {'new' if name == 'in place' else 'old'}")))
 
 
-def certificate(change):
+def certificate(change: Change) -> Html:
     title, verdict = "Certificate", change.verdict
     if verdict is None:
         return section(title, paragraph("There is no shortened table of the new list."))
@@ -268,7 +270,7 @@ def certificate(change):
     return section(title, paragraph(pill(VERDICTS[verdict.is_valid], {True: "good", False: "bad"}.get(verdict.is_valid, "note")), " ", *says))
 
 
-def bottom(change):
+def bottom(change: Change) -> Html:
     """How to see the same again."""
     old, new = (shlex.quote(version.title) for version in (change.old, change.new))
     commands = (
