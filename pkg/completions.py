@@ -1,13 +1,18 @@
-"""Completions of the program's words for shells, made from the forms of its commands and what docs/commands says of them."""
+"""Completions of the program's words for shells, made of its usage text and of what docs/commands says of each command."""
 from commands import commands
-from specifications.usage import FILES
-from tcam_razor.options import VALUES
+from tcam_razor.grammar import Choice, File, Number
 
 
 def values(option):
     """The words of which an option's value is one; none where it is a number of a range."""
-    known = VALUES.get(option.name, ())
-    return "" if isinstance(known, range) else " ".join(map(str, known))
+    match option.kind:
+        case Choice(values) | Number(tuple(values)):
+            return " ".join(map(str, values))
+    return ""
+
+
+def is_file(place):
+    return isinstance(place.kind, File)
 
 
 def for_bash(forms):
@@ -19,7 +24,7 @@ def for_bash(forms):
     yield from (f"        *,{name}) words='{values(option)}' ;;" for name, option in options.items())
     yield "        *) case ${COMP_WORDS[1]} in"
     for form in forms:
-        files = "yes" if FILES.intersection(form.words) else ""
+        files = "yes" if any(map(is_file, form.places)) else ""
         yield f"            {form.name}) words='{' '.join(option.name for option in form.options)}' files={files} ;;"
     yield from ("        esac ;;", "    esac")
     yield from ("    if [[ $word == -* || ! $files ]]; then", '        COMPREPLY=($(compgen -W "$words" -- "$word"))', "        compopt +o default", "    fi", "}")
@@ -32,15 +37,15 @@ def for_zsh(forms):
     yield from (f"        '{form.name}:{said[form.name].says}'" for form in forms)
     yield from ("    )", "    _describe command commands", "    return", "fi", "shift words", "((CURRENT--))", "case $words[1] in")
     for form in forms:
-        options = [f"'{option.name}=[{said[form.name].options[option.name]}]:{option.value}:{f'({values(option)})' if values(option) else ''}'" for option in form.options]
-        words = [f"':{word}:{action(word)}'" for word in form.words]
-        again = [f"'*:{form.words[-1]}:{action(form.words[-1])}'"] if form.repeats else []
+        options = [f"'{option.name}=[{said[form.name].options[option.name]}]:{option.label}:{f'({values(option)})' if values(option) else ''}'" for option in form.options]
+        words = [f"':{place.label}:{action(place)}'" for place in form.places]
+        again = [f"'*:{form.places[-1].label}:{action(form.places[-1])}'"] if form.repeats else []
         yield f"    {form.name}) _arguments {' '.join([*options, *words, *again])} ;;"
     yield "esac"
 
 
-def action(word):
-    return "_files" if word in FILES else ""
+def action(place):
+    return "_files" if is_file(place) else ""
 
 
 def for_fish(forms):
@@ -52,7 +57,7 @@ def for_fish(forms):
         named = f"complete -c razor -n '__fish_seen_subcommand_from {form.name}'"
         for option in form.options:
             yield " ".join([named, "-l", option.name.removeprefix("--"), "-x", *([f"-a '{values(option)}'"] if values(option) else []), "-d", f"'{said[form.name].options[option.name]}'"])
-        if not FILES.intersection(form.words):
+        if not any(map(is_file, form.places)):
             yield f"{named} -f"
 
 

@@ -2,13 +2,14 @@
 
 Each part is a dict from paths to bytes; what is run is told by `mode`.
 """
+import functools
 import pathlib
 
+import commands
 from building import programs
 from building.sources import ROOT
 from completions import SHELLS
-from specifications import usage
-from specifications.antt import Specifications
+from tcam_razor import grammar
 
 # The folder with the scripts' sources, below a prefix.
 SOURCES = "share/tcam-razor"
@@ -30,6 +31,8 @@ COMMANDS = {
     "razor-export": "exporting",
     "razor-flows": "flows",
     "razor-import": "importing",
+    "razor-json": "data",
+    "razor-judge": "judge",
     "razor-lines": "lines",
     "razor-report": "report",
     "razor-show": "show",
@@ -40,7 +43,12 @@ DOCUMENTS = (".md", ".svg", ".png")
 
 def program():
     """The program that the variable RAZOR names, or the one that is proved and built of the sources here."""
-    return pathlib.Path(programs.program("razor_cli")).read_bytes()
+    return pathlib.Path(path_of_program()).read_bytes()
+
+
+@functools.cache
+def path_of_program():
+    return programs.program("razor_cli")
 
 
 def manual():
@@ -50,8 +58,11 @@ def manual():
 
 def completions():
     """The completions, by the shells' names."""
-    forms = usage.forms(Specifications())
-    return {name: "".join(line + "\n" for line in lines(forms)).encode() for name, lines in SHELLS.items()}
+    forms = grammar.forms(grammar.usage(path_of_program()))
+    unfit = list(commands.faults(forms))
+    if unfit:
+        raise ValueError("docs/commands doesn't fit the usage text of the program:\n" + "\n".join(unfit))
+    return {name: "".join(line + "\n" for line in lines(list(forms.values()))).encode() for name, lines in SHELLS.items()}
 
 
 def documents():

@@ -4,12 +4,14 @@
 |---|---|
 | `says` | what the command does, in a few words: completions |
 | `manual` | what it does, as a page of the manual says it: docs/man/razor.1 |
+| `writes` | the text that it writes with status 0, and `or-writes` the one with status 1: tests/fuzz |
+| `counts-entries` | true if it may say how many entries are needed: tests/fuzz |
 | `options` | what each of its options means, in a few words: completions |
 | `tour` | steps of the tour: their `place` among all steps, `line`, the file that it goes `into`, if any, and what it `shows` |
 | `fail-alloc` | the calls in which tests/edge/fail-alloc refuses memory, on the files in tests/files |
 | `writes-as-it-goes` | true if a front of the output may be written where memory is refused |
 
-How a command is spelled stands in the specifications, and nowhere here.
+How a command is spelled stands in the usage text that the program prints, and nowhere here: tcam_razor/grammar.py reads it.
 """
 import dataclasses
 import tomllib
@@ -37,6 +39,9 @@ class Command:
     name: str
     says: str
     manual: str
+    writes: str
+    or_writes: str | None
+    counts_entries: bool
     options: dict
     steps: tuple
     calls: tuple
@@ -50,6 +55,9 @@ def command(path):
             path.stem,
             said.pop("says"),
             said.pop("manual"),
+            said.pop("writes"),
+            said.pop("or-writes", None),
+            said.pop("counts-entries", False),
             {f"--{name}": text for name, text in said.pop("options", {}).items()},
             tuple(Step(**step) for step in said.pop("tour")),
             tuple(said.pop("fail-alloc")),
@@ -78,14 +86,13 @@ def steps():
 def faults(forms):
     """Where the files and the forms of the commands don't fit."""
     said = commands()
-    names = {form.name for form in forms}
+    names = set(forms)
     yield from (f"docs/commands has no {name}.toml" for name in sorted(names - said.keys()))
     yield from (f"docs/commands/{name}.toml is of no command" for name in sorted(said.keys() - names))
     places = [step.place for step in steps()]
     yield from (f"two steps of the tour have the place {place}" for place in sorted({it for it in places if places.count(it) > 1}))
-    for form in forms:
-        if form.name in said:
-            yield from (f"docs/commands/{form.name}.toml: {fault}" for fault in faults_of(said[form.name], form))
+    for name in said.keys() & names:
+        yield from (f"docs/commands/{name}.toml: {fault}" for fault in faults_of(said[name], forms[name]))
 
 
 def faults_of(it, form):

@@ -12,6 +12,7 @@ The program decides, and its promises are of lists and tables. What makes lists 
 |---|---|
 | `program`, `answers`, `errors` | the calls, what they answer, and what they raise |
 | `importing`, `exporting`, `lines` | the commands `razor-import`, `razor-export` and `razor-lines` |
+| `data`, `judge` | the commands `razor-json` and `razor-judge` |
 | `configurations` | what the dialects of configurations say |
 | `headers`, `lists`, `tables`, `memories` | what the texts spell: rules and entries, and which headers these match |
 | `texts` | the lines of all texts, as an engineer writes them |

@@ -39,6 +39,8 @@ TABLE_NAME = re.compile(r"[A-Za-z][A-Za-z0-9_]{0,30}")
 # Protocols that IOS and EOS name alike; others are written as numbers.
 BY_NAME = {names.IOS_PROTOCOLS[name]: name for name in ("icmp", "sctp", "tcp", "udp")}
 NFT_HEADERS = {number: name for name, number in names.LINUX_PROTOCOLS.items() if number in fields.PORTED}
+# A network namespace of its own. Root needs no other user there, for whom the kernel takes no long texts at once.
+NAMESPACE = ["unshare", "-n"] if os.geteuid() == 0 else ["unshare", "-rn"]
 # Where administrators' programs are, though a user's PATH may not say so.
 FOLDERS = os.pathsep.join([os.environ.get("PATH", os.defpath), "/usr/sbin", "/sbin"])
 
@@ -194,10 +196,12 @@ def listed(list_name: str, text: str) -> str:
     for tool, package in (("unshare", "util-linux"), ("nft", "nftables")):
         if shutil.which(tool, path=FOLDERS) is None:
             raise NotFound(f"no program {tool} to compare the text with the list: Debian's package {package} has it; or say --unchecked")
-    words = ["unshare", "-rn", "sh", "-c", "nft -f - && nft -nj list ruleset"]
+    words = [*NAMESPACE, "sh", "-c", "nft -f - && nft -nj list ruleset"]
     ended = subprocess.run(words, input=text, capture_output=True, text=True, env=os.environ | {"PATH": FOLDERS})
     if ended.returncode and ended.stderr.startswith("unshare:"):
         raise NotFound(f"no namespace to compare the text with the list: {ended.stderr.strip()}; or say --unchecked")
+    if "Message too long" in ended.stderr:
+        raise NotFound("the text is too long to be compared with the list without root; or say --unchecked")
     if ended.returncode:
         raise NotExported(list_name, (f"nft doesn't load the text: {ended.stderr.strip().splitlines()[0]}",))
     return ended.stdout

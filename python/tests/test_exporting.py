@@ -44,8 +44,8 @@ REFUSED = [
     (f"@{EVERY} 0x06/0xFF log\n", ("ios", "eos", "nft"), "line 1: decision log: say --call log="),
     (f"@{EVERY} 0x06/0xFF\n", ("ios", "eos", "nft"), "line 1: decision #1: say --call #1="),
 ]
-NAMESPACE = shutil.which("nft", path=exporting.FOLDERS) and subprocess.run(["unshare", "-rn", "true"], capture_output=True).returncode == 0
-with_nft = unittest.skipUnless(NAMESPACE, "there is no nft, which Debian's package nftables has, or no namespace by unshare -rn")
+NAMESPACE = shutil.which("nft", path=exporting.FOLDERS) and subprocess.run([*exporting.NAMESPACE, "true"], capture_output=True).returncode == 0
+with_nft = unittest.skipUnless(NAMESPACE, "there is no nft, which Debian's package nftables has, or no namespace by unshare")
 
 
 class Text(unittest.TestCase):

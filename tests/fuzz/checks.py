@@ -2,7 +2,8 @@
 import dataclasses
 import re
 
-from fuzz.commands import COMMANDS, FILES, MAKERS, parted
+import commands
+from tcam_razor.grammar import Spelled
 
 OF_ENTRIES = "first line|field form|value outside mask|decision|count of entries differs, stated [0-9]+ found [0-9]+"
 
@@ -42,40 +43,36 @@ MEMORY = f"memory 1 slots {NUMBER} width (104|144|288) entries {NUMBER}\n({NUMBE
 PLAN = f"plan 1 slots {NUMBER} width (104|144|288) writes {NUMBER}\n(set {NUMBER} {ENTRY}|clear {NUMBER}\n)*"
 SPAN = f"{NUMBER}-{NUMBER}"
 STATE_LINE = f"rule {NUMBER} ((live|droppable)( {NUMBER}){{5}}|never)\n"
-SCRIPT_LINE = f"(begun {NUMBER}|busy|no room {NUMBER} {NUMBER} {NUMBER}|stage {NUMBER} of {NUMBER}( back)?|idle|device fault|{NAME})\n"
+SCRIPT_LINE = f"(begun {NUMBER}|busy|no room {NUMBER} {NUMBER}( {NUMBER})?|stage {NUMBER} of {NUMBER}( back)?|idle|device fault|{NAME})\n"
 EDIT_LINE = f"(rules {NUMBER}|no place {NUMBER}|list full|{NUMBER} entries needed, limit {NUMBER})\n"
 
+# Each text that a command writes, as docs/commands calls it.
 OUTPUTS = {
-    "expand": TABLE,
-    "compile": TABLE,
-    "migrate": TABLE,
-    "arrange": TABLE,
-    "merge": TABLE,
-    "trim": TABLE,
-    "shorten": TABLE,
-    "place": MEMORY,
-    "patch": PLAN,
-    "apply": MEMORY,
-    "dump": TABLE,
-    "audit": f"({STATE_LINE})*",
-    "query": f"({SPAN} {SPAN} {SPAN} {SPAN} {SPAN}\n)*boxes {NUMBER}\n",
-    "equiv": "equal\n",
-    "cert": f"({SPAN} {SPAN} {SPAN} {SPAN} {SPAN} ({NUMBER}|-) ({NUMBER}|-)\n)*rows {NUMBER}\n",
-    "check": f"valid rows={NUMBER}\n",
-    "trace": f"({NAME}\n)*",
-    "drive": f"({SCRIPT_LINE})*",
-    "session": f"({SCRIPT_LINE}|{EDIT_LINE})*",
-    "gen": "(@[^\n]*\n)*",
-    "selfrun": f"rules {NUMBER} composed {NUMBER} entries {NUMBER} headers 256 accept {NUMBER} deny {NUMBER} log {NUMBER} miss {NUMBER}\n",
+    "table": TABLE,
+    "memory": MEMORY,
+    "plan": PLAN,
+    "states": f"({STATE_LINE})*",
+    "boxes": f"({SPAN} {SPAN} {SPAN} {SPAN} {SPAN}\n)*boxes {NUMBER}\n",
+    "agreement": "equal\n",
+    "difference": DIFFER,
+    "certificate": f"({SPAN} {SPAN} {SPAN} {SPAN} {SPAN} ({NUMBER}|-) ({NUMBER}|-)\n)*rows {NUMBER}\n",
+    "verdict": f"valid rows={NUMBER}\n",
+    "wrong row": WRONG,
+    "decisions": f"({NAME}\n)*",
+    "script answers": f"({SCRIPT_LINE})*",
+    "session answers": f"({SCRIPT_LINE}|{EDIT_LINE})*",
+    "list": "(@[^\n]*\n)*",
+    "summary": f"rules {NUMBER} composed {NUMBER} entries {NUMBER} headers 256 accept {NUMBER} deny {NUMBER} log {NUMBER} miss {NUMBER}\n",
 }
 
 
 @dataclasses.dataclass
 class Run:
-    """A run: its words and what they spell, whether all texts are right and the output is full, and what came of it."""
+    """A run: its words, what they spell and what is said of that command, whether all texts are right and the output is full, and what came of it."""
 
     words: list
-    pairs: list
+    spelled: Spelled | None
+    command: commands.Command | None
     clean: bool
     full: bool
     unreadable: set = dataclasses.field(default_factory=set)
@@ -85,11 +82,15 @@ class Run:
 
     def files(self):
         """The file words of the command that is spelled."""
-        return [text for kind, text in self.pairs or () if kind in FILES]
+        return [name for _, name in self.spelled.files] if self.spelled else []
 
     def options(self):
         """The options of the command that is spelled, with their values."""
-        return parted(self.words[1:], COMMANDS[self.words[0]])[0]
+        return self.spelled.options
+
+    def makes_table(self):
+        """Whether a table is made of a list."""
+        return self.command.writes == "table" and self.spelled.form.labels == "LIST"
 
 
 def matches(pattern, text):
@@ -104,17 +105,16 @@ def faults(run, usage):
         "".join(run.words).encode()
     except UnicodeEncodeError:
         return "" if (run.status, run.out, run.err) == (8, "", "") else "words that aren't text"
-    if run.pairs is None:
+    if run.spelled is None:
         return "" if (run.status, run.out, run.err) == (2, "", usage) else "words that spell no command"
     if run.status == 2:
         return "words that spell a command"
-    name = run.words[0]
-    return of_status(run, COMMANDS[name]) or of_output(run, name) or of_message(run, name)
+    return of_status(run) or of_output(run) or of_message(run)
 
 
-def of_status(run, command):
+def of_status(run):
     allowed = {0, 3, 4, 5, 7}
-    if command.says_no:
+    if run.command.or_writes:
         allowed.add(1)
     if run.full:
         allowed.add(6)
@@ -131,47 +131,46 @@ def of_status(run, command):
     return "" if run.status in allowed else f"status {run.status} where only {sorted(allowed)} may come"
 
 
-def of_output(run, name):
+def of_output(run):
+    name = run.command.name
     if run.full:
         return ""
-    if run.status == 0:
-        pattern = OUTPUTS[name]
-    elif run.status == 1:
-        pattern = WRONG if name == "check" else DIFFER
-    elif name == "trace" or (name in ("drive", "session", "cert") and run.status == 7):
+    if run.status in (0, 1):
+        pattern = OUTPUTS[run.command.writes if run.status == 0 else run.command.or_writes]
+    elif name == "trace" or (run.command.writes_as_it_goes and run.status == 7):
         pattern = "([^\n]+\n)*"
     else:
         pattern = ""
     if not matches(pattern, run.out):
         return "an output of another form"
-    return "" if run.status != 0 or is_counted(name, run.out.splitlines()) else "lines that are counted wrongly"
+    return "" if run.status != 0 or is_counted(run.command.writes, run.out.splitlines()) else "lines that are counted wrongly"
 
 
-def is_counted(name, lines):
-    """Whether the numbers of the lines are right."""
-    match name:
-        case "audit":
+def is_counted(text, lines):
+    """Whether the numbers of the lines of a text are right."""
+    match text:
+        case "states":
             return all(line.split()[1] == str(number) for number, line in enumerate(lines, 1))
-        case "query":
-            return lines[-1] == f"boxes {len(lines) - 1}"
-        case "place" | "patch" | "apply" | "dump":
+        case "boxes" | "certificate":
+            return lines[-1].split()[1] == str(len(lines) - 1)
+        case "table" | "memory" | "plan":
             return lines[0].endswith(f" {len(lines) - 1}")
     return True
 
 
-def of_message(run, name):
-    files = [(kind, text) for kind, text in run.pairs if kind in FILES]
+def of_message(run):
+    name, files = run.command.name, run.spelled.files
     if run.status == 3:
         patterns = [f"{re.escape(text)}: line [1-9][0-9]*: ({REASONS[kind]})\n" for kind, text in files if kind in REASONS]
     elif run.status == 4:
         patterns = [f"{re.escape(text)}: more than {LIMITS[kind]} bytes\n" for kind, text in files]
-        if COMMANDS[name].counts_entries:
+        if run.command.counts_entries:
             patterns.append(f"{NUMBER} entries needed, limit {NUMBER}\n")
     elif run.status == 5:
         patterns = [f"{re.escape(text)}: read fault\n" for _, text in files if text in run.unreadable]
     else:
         patterns = [{6: "write fault\n", 7: "out of memory\n"}.get(run.status, "")]
-        if run.status == 0 and name in MAKERS:
+        if run.status == 0 and run.makes_table():
             order = ", order [0-4]{5}" if name == "arrange" or "--order" in run.options() else ""
             patterns = [f"rules {NUMBER}, flagged {NUMBER}{order}\n"]
     return "" if any(matches(pattern, run.err) for pattern in patterns) else "a message of another form"

@@ -4,8 +4,8 @@ import random
 import re
 
 from fuzz import texts
-from fuzz.commands import MAKERS
 from fuzz.slots import Slots
+from tcam_razor.grammar import MOST_ENTRIES
 
 # Where what the run wrote stands, and what further runs write.
 MADE, FURTHER = "table of it", "further"
@@ -26,8 +26,8 @@ class Further:
 
     def faults(self, run):
         """What is wrong with a further run over what this one wrote, or nothing."""
-        name, files = run.words[0], run.files()
-        if name in (*MAKERS, "trim") and run.status == 0:
+        name, files = run.command.name, run.files()
+        if (run.makes_table() or name == "trim") and run.status == 0:
             os.rename("out", MADE)
             return self.of_table(run) or (self.of_shortened(run) if name == "shorten" else self.of_trimmed(run) if name == "trim" else "")
         if name == "shorten" and NEEDED.fullmatch(run.err):
@@ -53,7 +53,7 @@ class Further:
         """A shortened table is that of its list, needs each of its entries, and has no more than are allowed and promised."""
         [file], options = run.files(), run.options()
         composed, entries = map(int, FIRST_LINE.match(run.out).groups())
-        if composed != entries or entries > int(options.get("--limit", 262_144)):
+        if composed != entries or entries > int(options.get("--limit", MOST_ENTRIES)):
             return "more entries than it says, or than the limit"
         if self.run("trim", MADE)[:2] != (0, run.out):
             return "trim changes it"
@@ -73,7 +73,7 @@ class Further:
     def of_refused(self, run):
         """No table comes only where the other ways need more than the limit too, and the lesser of them is said."""
         [file], options = run.files(), run.options()
-        limit = ["--limit", options.get("--limit", "262144")]
+        limit = ["--limit", options.get("--limit", str(MOST_ENTRIES))]
         others = [self.run("expand", *limit, "--", file)]
         if "--order" in options:
             others.append(self.run("arrange", "--order", options["--order"], *limit, "--", file))

@@ -28,7 +28,7 @@ class Slots:
             return f"a text that isn't read here: {fault}"
 
     def fault(self, run, *files):
-        match run.words[0], run.status:
+        match run.command.name, run.status:
             case "patch", 4 if " entries needed" in run.err:
                 return self.of_refused(*files)
             case "place" | "patch" | "apply" | "dump" as name, 0:

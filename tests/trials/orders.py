@@ -12,11 +12,10 @@ import re
 from model import cases, lists
 from model.meaning import Cut, fault
 from tcam_razor import tables
+from tcam_razor.grammar import ORDERS
 from tcam_razor.headers import MISS, WIDTHS
 from tcam_razor.lists import rules_of
 from tcam_razor.razor import written
-
-ORDERS = tuple("".join(order) for order in itertools.permutations("01234"))
 
 SAID = re.compile(r"rules \d+, flagged 0, order (\d{5})\n")
 

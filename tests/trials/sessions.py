@@ -18,7 +18,8 @@ import dataclasses
 import re
 
 from model import cases, lists
-from tcam_razor import headers, memories, options
+from tcam_razor import headers, memories
+from tcam_razor.grammar import ORDERS
 from tcam_razor.lists import rules_of
 from tcam_razor.razor import written
 
@@ -26,9 +27,6 @@ COMMANDS = 50
 
 NEEDED = re.compile(r"(\d+) entries needed, limit (\d+)\n")
 BEGUN = re.compile(r"begun (\d+)")
-
-# The orders of fields that a session takes.
-ORDERS = [order for order in options.VALUES["--order"] if order.isdigit()]
 
 # As many tables as `drive` takes.
 MOST_TABLES = 8

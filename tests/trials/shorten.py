@@ -12,14 +12,12 @@ import re
 
 from model import cases, lists
 from model.meaning import fault
-from tcam_razor import options
 from tcam_razor import tables
+from tcam_razor.grammar import MOST_ENTRIES, VALUES
 from tcam_razor.lists import rules_of
 from tcam_razor.razor import written
 
 DECISIONS = ("accept", "deny", "deny", "log", "")
-
-MOST = options.VALUES["--limit"][-1]
 
 NEEDED = re.compile(r"(\d+) entries needed, limit (\d+)\n")
 
@@ -66,8 +64,8 @@ def trial(razor, rng, seen):
     """Shortens a list without an order, in one, and within a limit. At most three fields ask for something in all rules together."""
     lines = lists.rules(rng, 10, lists.opened(rng, lists.SPLITTING, 2), DECISIONS)
     razor.put("list", written(lines))
-    orders = options.VALUES["--order"]
-    for order, limit in (("", MOST), (rng.choice(orders), MOST), (rng.choice(("", *orders)), rng.randint(1, 40))):
+    orders = VALUES["P"].values
+    for order, limit in (("", MOST_ENTRIES), (rng.choice(orders), MOST_ENTRIES), (rng.choice(("", *orders)), rng.randint(1, 40))):
         try:
             try_one(razor, rules_of("list", lines), order, limit, seen)
         except cases.Wrong as wrong:

@@ -15,6 +15,11 @@ def kit():
 
 
 @functools.cache
-def logic():
-    """The checksum of the logic that proofs stand on, as the kit's version tells it."""
-    return said("version").partition(" logic ")[2].split()[0]
+def version():
+    """What the kit says of itself: its name, and behind it its logic."""
+    return said("version")
+
+
+def logic(version):
+    """The logic of a kit, of what it says of itself."""
+    return version.split()[-1]

@@ -1,4 +1,5 @@
 """The crates of crates.txt, with checksums of the sources that each is built of."""
+import contextlib
 import dataclasses
 import functools
 import hashlib
@@ -100,3 +101,10 @@ def put_note(crate, checksum):
     # Other checkouts may have second names for the files of a library.
     crate.stamp.unlink(missing_ok=True)
     crate.stamp.write_text(note(crate, checksum))
+
+
+def mark(path, moment):
+    """Gives a note on a program the time at which the sources were those that it was built of: `razor` compares times."""
+    # Whoever may not write here still may run the program; and another build may have just moved it.
+    with contextlib.suppress(OSError):
+        os.utime(path, (moment, moment))

@@ -83,7 +83,8 @@ class Blocks:
         elif number := numbered(words, self.dialect):
             self.number(number, line)
         elif words[0] == "no" and (gone := head_of(words[1:], self.dialect) or numbered(words[1:], self.dialect)):
-            self.block(gone).faults.append(line.told("takes a block away"))
+            if self.block(gone).is_begun:
+                self.block(gone).faults.append(line.told("takes away what stands before it"))
             self.pass_over("command")
         elif self.open and (ENTRY if self.kind == LIST else MEMBER).match(line.text):
             self.open.lines.append(line)
