@@ -1,16 +1,25 @@
-"""Filter lists that the program has read without a fault: their rules, and which headers these hold."""
+"""Filter lists: their rules, and which headers these hold."""
 import dataclasses
 import ipaddress
 import os
 import re
 from typing import Iterable
 
-from tcam_razor.headers import without_zeros
-from tcam_razor.script import shown
+from tcam_razor import script
+from tcam_razor.errors import BadText
+from tcam_razor.headers import MISS, without_zeros
 
-PORTS = r"\d+\s*:\s*\d+(?:\s*,\s*\d+\s*:\s*\d+)*"
-RULE = re.compile(rf"\s*@(\S+)\s+(\S+)\s+({PORTS})\s+({PORTS})\s+0[xX](\w+)/0[xX](\w+)(?:\s+(\S+/\S+))?(?:\s+(\S+))?\s*")
+ADDRESS = r"(\d+\.\d+\.\d+\.\d+/\d+)"
+PORTS = r"(\d+\s*:\s*\d+(?:\s*,\s*\d+\s*:\s*\d+)*)"
+PROTOCOL = r"0[xX]([0-9A-Fa-f]{1,2})/0[xX]([0-9A-Fa-f]{1,2})"
+FLAGS = r"0[xX][0-9A-Fa-f]{1,4}/0[xX]([0-9A-Fa-f]{1,4})"
+DECISION = r"(?P<decision>[A-Za-z0-9_.-]{1,32})"
+RULE = re.compile(rf"\s*@{ADDRESS}\s+{ADDRESS}\s+{PORTS}\s+{PORTS}\s+{PROTOCOL}(?:\s+{FLAGS})?(?:\s+{DECISION})?\s*")
 SKIPPED = re.compile(r"[ \t]*(#.*)?\s*")
+
+# As many ranges a column of ports has at most.
+MOST_RANGES = 16
+LAST_PORT = 65_535
 
 Spans = tuple[tuple[int, int], ...]
 
@@ -44,35 +53,41 @@ def address_span(word: str) -> Spans:
 
 def port_spans(text: str) -> Spans:
     pairs = (span.split(":") for span in text.split(","))
-    return tuple((int(low), int(high)) for low, high in pairs)
+    spans = tuple((int(low), int(high)) for low, high in pairs)
+    if len(spans) > MOST_RANGES or any(not low <= high <= LAST_PORT for low, high in spans):
+        raise ValueError("no ports")
+    return spans
+
+
+def protocol_span(value: str, mask: str) -> Spans:
+    if int(mask, 16) not in (0, 0xFF):
+        raise ValueError("neither one protocol nor all")
+    return ((int(value, 16),) * 2 if int(mask, 16) else (0, 255),)
 
 
 def rules(path: str | os.PathLike[str]) -> list[Rule]:
     """The rules of a list, in order."""
-    with open(path, encoding="ascii", errors="replace") as file:
-        return rules_of(path, file)
+    return rules_of(script.title(path), script.lines(path))
 
 
-def rules_of(name: str | os.PathLike[str], lines: Iterable[str]) -> list[Rule]:
+def rules_of(name: str, lines: Iterable[str]) -> list[Rule]:
     """The rules of a list's lines."""
     of_rules = ((number, text) for number, text in enumerate(lines, 1) if not SKIPPED.fullmatch(text))
     return [rule(name, number, *line) for number, line in enumerate(of_rules, 1)]
 
 
-def rule(name: str | os.PathLike[str], number: int, line: int, text: str) -> Rule:
+def rule(name: str, number: int, line: int, text: str) -> Rule:
     try:
         return parsed(number, line, text)
     except ValueError:
-        raise ValueError(f"{shown(name)}: line {line}: no rule of a list") from None
+        raise BadText(name, f"line {line}: no rule of a list") from None
 
 
 def parsed(number: int, line: int, text: str) -> Rule:
     """The rule of a line; a ValueError where it is none."""
     found = RULE.fullmatch(text)
-    if found is None:
+    if found is None or found["decision"] == MISS:
         raise ValueError("another form")
     source, destination, source_ports, destination_ports, value, mask, flags, decision = found.groups()
-    protocol = ((int(value, 16),) * 2 if int(mask, 16) else (0, 255),)
-    spans = (address_span(source), address_span(destination), port_spans(source_ports), port_spans(destination_ports), protocol)
-    is_flagged = bool(flags) and int(flags.partition("/")[2], 16) != 0
-    return Rule(number, line, " ".join(text.split()), spans, decision or f"#{number}", is_flagged)
+    spans = (address_span(source), address_span(destination), port_spans(source_ports), port_spans(destination_ports), protocol_span(value, mask))
+    return Rule(number, line, " ".join(text.split()), spans, decision or f"#{number}", int(flags or "0", 16) != 0)

@@ -1,15 +1,22 @@
-"""Memories and plans: what slots hold, and what is written to them."""
+"""Memories and plans: what slots hold, and what is written to them. A bad text is refused in the program's words."""
 import dataclasses
+import os
 import re
+from typing import Iterable, Sequence
 
-from tcam_razor import tables
-from tcam_razor.script import shown
+from tcam_razor import script, tables
+from tcam_razor.errors import BadText
+from tcam_razor.tables import COUNT, MOST_ENTRIES, SLOT_WIDTH, Entry
 
-FIRST_OF_MEMORY = re.compile(r"memory 1 slots (\d+) width (\d+) entries (\d+)\n")
-FIRST_OF_PLAN = re.compile(r"plan 1 slots (\d+) width (\d+) writes (\d+)\n")
+FIRST_OF_MEMORY = re.compile(rf"memory 1 slots {COUNT} width {SLOT_WIDTH} entries {COUNT}\n")
+FIRST_OF_PLAN = re.compile(rf"plan 1 slots {COUNT} width {SLOT_WIDTH} writes {COUNT}\n")
+MOST_WRITES = 1_048_576
 
-SET = re.compile(r"(\d+) (.*\n)")
-CLEAR = re.compile(r"clear (\d+)\n")
+KIND = re.compile(r"(set|clear)(?: |$)")
+SLOT = re.compile(r"([1-9]\d{0,5})(?: |$)")
+
+# What each slot holds, from slot 1 on.
+Held = list[Entry | None]
 
 
 @dataclasses.dataclass(frozen=True)
@@ -17,9 +24,9 @@ class Write:
     """What a slot, counted from 1, is made to hold: an entry, or none."""
 
     slot: int
-    entry: tables.Entry | None
+    entry: Entry | None
 
-    def __str__(self):
+    def __str__(self) -> str:
         return f"set {self.slot}" if self.entry else f"clear {self.slot}"
 
 
@@ -28,68 +35,87 @@ class Plan:
     """Writes in order to a memory of so many slots."""
 
     slots: int
-    writes: list
+    writes: list[Write]
 
 
-def lines_of(path):
-    with open(path, encoding="ascii", errors="replace") as file:
-        return file.readlines()
+def memory(path: str | os.PathLike[str]) -> Held:
+    return memory_of(script.title(path), list(script.lines(path)))
 
 
-def memory(path):
-    return memory_of(path, lines_of(path))
+def plan(path: str | os.PathLike[str]) -> Plan:
+    return plan_of(script.title(path), list(script.lines(path)))
 
 
-def plan(path):
-    return plan_of(path, lines_of(path))
-
-
-def memory_of(name, lines):
+def memory_of(name: str, lines: Sequence[str]) -> Held:
     """What each slot of a memory's text holds."""
-    slots, rest = headed(name, lines, FIRST_OF_MEMORY, "memory")
-    held = [None] * slots
-    for number, line in enumerate(rest, 2):
-        write = setting(number - 1, line)
-        if write is None or not 1 <= write.slot <= slots:
-            raise ValueError(f"{shown(name)}: line {number}: no slot of a memory")
-        held[write.slot - 1] = write.entry
+    slots, stated = headed(name, lines, FIRST_OF_MEMORY, MOST_ENTRIES)
+    if stated > slots:
+        raise BadText(name, "line 1: first line")
+    held: Held = [None] * slots
+    last = 0
+    for number, line in enumerate(lines[1 : stated + 1], 1):
+        try:
+            write = setting(number, line, last + 1, slots)
+        except ValueError as fault:
+            raise BadText(name, f"line {number + 1}: {fault}") from None
+        last = write.slot
+        held[last - 1] = write.entry
+    tables.expect_count(name, "entries", stated, len(lines) - 1)
     return held
 
 
-def plan_of(name, lines):
+def plan_of(name: str, lines: Sequence[str]) -> Plan:
     """The plan of a plan's text."""
-    slots, rest = headed(name, lines, FIRST_OF_PLAN, "plan")
-    writes = [write_of(number, line) for number, line in enumerate(rest, 1)]
-    for number, write in enumerate(writes, 2):
-        if write is None or not 1 <= write.slot <= slots:
-            raise ValueError(f"{shown(name)}: line {number}: no write of a plan")
+    slots, stated = headed(name, lines, FIRST_OF_PLAN, MOST_WRITES)
+    writes = []
+    for number, line in enumerate(lines[1 : stated + 1], 1):
+        try:
+            writes.append(write_of(number, line, slots))
+        except ValueError as fault:
+            raise BadText(name, f"line {number + 1}: {fault}") from None
+    tables.expect_count(name, "writes", stated, len(lines) - 1)
     return Plan(slots, writes)
 
 
-def headed(name, lines, first, kind):
-    """How many slots the first line says, and the other lines, of which there must be as many as it says."""
+def headed(name: str, lines: Sequence[str], first: re.Pattern[str], most: int) -> tuple[int, int]:
+    """How many slots the first line says, and how many lines stand behind it: so many at most."""
     found = first.fullmatch(lines[0]) if lines else None
-    if found is None:
-        raise ValueError(f"{shown(name)}: line 1: no {kind}")
-    if int(found[3]) != len(lines) - 1:
-        raise ValueError(f"{shown(name)}: {len(lines) - 1} lines behind the first one, and {found[3]} are stated")
-    return int(found[1]), lines[1:]
+    if found is None or not 1 <= int(found[1]) <= MOST_ENTRIES or int(found[3]) > most:
+        raise BadText(name, "line 1: first line")
+    return int(found[1]), int(found[3])
 
 
-def write_of(number, line):
-    """The write of a plan's line, or none."""
-    found = CLEAR.fullmatch(line)
-    return Write(int(found[1]), None) if found else setting(number, line.removeprefix("set ")) if line.startswith("set ") else None
+def write_of(number: int, line: str, slots: int = MOST_ENTRIES) -> Write:
+    """The write of a plan's line; a ValueError with the reason where it is none."""
+    kind = KIND.match(line)
+    if kind is None:
+        raise ValueError("unknown write")
+    rest = line[kind.end() :]
+    if kind[1] == "set":
+        return setting(number, rest, 1, slots)
+    slot, behind = slot_of(rest, 1, slots)
+    if rest[behind - 1 : behind] == " ":
+        raise ValueError("slot")
+    if not rest.endswith("\n"):
+        raise ValueError("decision")
+    return Write(slot, None)
 
 
-def setting(number, line):
-    """A slot and the entry that is put there, or none."""
-    found = SET.fullmatch(line)
-    entry = found and tables.parsed(number, found[2])
-    return Write(int(found[1]), entry) if entry else None
+def setting(number: int, line: str, first: int, last: int) -> Write:
+    """A slot between these, and the entry that is put there; a ValueError with the reason where they are none."""
+    slot, behind = slot_of(line, first, last)
+    return Write(slot, tables.entry_of(number, line[behind:]))
 
 
-def after(held, writes):
+def slot_of(line: str, first: int, last: int) -> tuple[int, int]:
+    """The slot with which a line begins, one between these, and where it goes on behind it."""
+    found = SLOT.match(line)
+    if found is None or not first <= int(found[1]) <= last:
+        raise ValueError("slot")
+    return int(found[1]), found.end()
+
+
+def after(held: Held, writes: Iterable[Write]) -> Held:
     """What the slots hold after writes."""
     held = list(held)
     for write in writes:
@@ -97,11 +123,11 @@ def after(held, writes):
     return held
 
 
-def entries_in(held):
+def entries_in(held: Iterable[Entry | None]) -> list[Entry]:
     """The entries by rising slot."""
     return [entry for entry in held if entry]
 
 
-def answer(entries, header):
+def answer(entries: Iterable[Entry], header: Sequence[int]) -> str | None:
     """The decision of the first entry that matches, or none."""
     return next((entry.decision for entry in entries if entry.matches(header)), None)

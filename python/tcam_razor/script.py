@@ -1,4 +1,7 @@
-"""How a script reads its words, and how it ends where it can't go on."""
+"""How a script reads its words and its texts, and how it ends where it can't go on.
+
+Where a fault has a status of the program's (`errors`), the script ends with it; with 6 where it couldn't write, and else with 1.
+"""
 import argparse
 import contextlib
 import errno
@@ -10,6 +13,8 @@ import signal
 import subprocess
 import sys
 from typing import Any, Callable, Iterator, NoReturn, TextIO, cast
+
+from tcam_razor.errors import RazorError, ReadFault, WriteFault
 
 UNSEEN = re.compile(r"[\x00-\x1f\x7f-\x9f\u2028-\u202e\u2066-\u2069\udc80-\udcff]")
 
@@ -60,7 +65,8 @@ def run(main: Callable[[], object]) -> None:
             signal.signal(number, stop)
     try:
         try:
-            expect_open(sys.stdout, "standard output")
+            if sys.stdout is None:
+                raise WriteFault(f"standard output: {os.strerror(errno.EBADF)}")
             main()
         finally:
             if sys.stdout:
@@ -71,7 +77,12 @@ def run(main: Callable[[], object]) -> None:
         end_by(signal.SIGINT)
     except Stopped as stopped:
         end_by(*stopped.args)
-    except (OSError, ValueError) as fault:
+    except RazorError as fault:
+        end(str(fault), fault.status)
+    except OSError as fault:
+        # What is written has no name: it is the output.
+        end(said(fault), 1 if fault.filename is not None else WriteFault.status)
+    except ValueError as fault:
         end(said(fault))
     except subprocess.CalledProcessError as fault:
         end(f"{pathlib.Path(fault.cmd[0]).name} ended with {fault.returncode}: {str(fault.stderr or '').strip()}")
@@ -91,16 +102,31 @@ def unstopped() -> Iterator[None]:
         signal.pthread_sigmask(signal.SIG_SETMASK, before)
 
 
-def given() -> TextIO:
-    """The standard input, as text."""
-    expect_open(sys.stdin, "standard input")
-    cast(io.TextIOWrapper, sys.stdin).reconfigure(encoding="ascii", errors="replace")
-    return sys.stdin
+@contextlib.contextmanager
+def opened(path: str | os.PathLike[str]) -> Iterator[TextIO]:
+    """A text, or that of standard input for `-`. Its lines end with a line feed alone; a byte that isn't ASCII is none of a text."""
+    if path != "-":
+        with open(path, encoding="ascii", errors="replace", newline="\n") as file:
+            yield file
+    elif sys.stdin is None:
+        raise OSError(errno.EBADF, os.strerror(errno.EBADF))
+    else:
+        cast(io.TextIOWrapper, sys.stdin).reconfigure(encoding="ascii", errors="replace", newline="\n")
+        yield sys.stdin
 
 
-def expect_open(stream: TextIO | None, name: str) -> None:
-    if stream is None:
-        raise OSError(errno.EBADF, os.strerror(errno.EBADF), name)
+def lines(path: str | os.PathLike[str]) -> Iterator[str]:
+    """The lines of a text, one after another as they are read, each with its line feed."""
+    try:
+        with opened(path) as text:
+            yield from text
+    except OSError as fault:
+        raise ReadFault(f"{title(path)}: {fault.strerror}") from None
+
+
+def title(path: str | os.PathLike[str]) -> str:
+    """What a text is called in messages."""
+    return shown("standard input" if path == "-" else os.fspath(path))
 
 
 def said(fault: BaseException) -> str:
@@ -116,11 +142,12 @@ def fail(why: str) -> NoReturn:
     raise SystemExit(why)
 
 
-def end(why: str) -> NoReturn:
+def end(why: str, status: int = 1) -> NoReturn:
     """Ends with what is wrong, of which nothing is obeyed by a terminal."""
     drop_output()
-    lines = map(shown, f"{pathlib.Path(sys.argv[0]).name}: {why}".rstrip("\n").split("\n"))
-    sys.exit("\n".join(lines))
+    if sys.stderr:
+        print(*map(shown, f"{pathlib.Path(sys.argv[0]).name}: {why}".rstrip("\n").split("\n")), sep="\n", file=sys.stderr)
+    sys.exit(status)
 
 
 def end_by(number: int) -> None:

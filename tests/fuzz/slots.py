@@ -4,6 +4,7 @@ import os
 from fuzz import texts
 from model import patching
 from tcam_razor import memories, tables
+from tcam_razor.errors import BadText
 from tcam_razor.headers import Header
 
 # Where what the run wrote stands, and what a further run wrote that others read.
@@ -23,7 +24,7 @@ class Slots:
         """What is wrong with a further run over what this one wrote, or nothing."""
         try:
             return self.fault(run, *run.files())
-        except ValueError as fault:
+        except BadText as fault:
             return f"a text that isn't read here: {fault}"
 
     def fault(self, run, *files):

@@ -16,8 +16,11 @@ SCHEMA = "/usr/share/openvswitch/vswitch.ovsschema"
 NEEDED = ("ovsdb-tool", "ovsdb-server", "ovs-vswitchd", "ovs-vsctl", "ovs-ofctl")
 SECONDS = 30
 
-FLOW = re.compile(r"^ *0\. .*cookie (0x[0-9a-f]+)", re.MULTILINE)
-NO_FLOW = re.compile(r"^ *0\. No match", re.MULTILINE)
+# The ports of the switch.
+PORTS = (1, 2)
+
+# The table of the switch in which a flow was found, or none, and the flow's cookie.
+FLOW = re.compile(r"^ *(\d+)\. (?:No match|.*cookie (0x[0-9a-f]+))", re.MULTILINE)
 
 
 def is_there():
@@ -43,7 +46,8 @@ class Switch:
         self.wait_for("switch.ctl")
         bridge = ("set", "bridge", "br0", "datapath-type=dummy", "fail-mode=secure", "protocols=OpenFlow13")
         self.run("ovs-vsctl", "--db=unix:db.sock", f"--timeout={SECONDS}", "add-br", "br0", "--", *bridge)
-        self.run("ovs-vsctl", "--db=unix:db.sock", f"--timeout={SECONDS}", "add-port", "br0", "p1", "--", "set", "interface", "p1", "type=dummy", "ofport_request=1")
+        for port in PORTS:
+            self.run("ovs-vsctl", "--db=unix:db.sock", f"--timeout={SECONDS}", "add-port", "br0", f"p{port}", "--", "set", "interface", f"p{port}", "type=dummy", f"ofport_request={port}")
 
     def begin(self, *words):
         with open(f"{self.folder}/log", "a") as log:
@@ -76,13 +80,13 @@ class Switch:
         """Removes the flows that have the cookie, in the bits of the mask."""
         self.run("ovs-ofctl", "-O", "OpenFlow13", "del-flows", "br0", f"cookie={cookie:#x}/{mask:#x}")
 
-    def cookie(self, packet):
-        """The cookie of the flow that decides the packet, or 0 where none does."""
+    def cookie(self, packet, table=0):
+        """The cookie of the flow that decides the packet in a table of the switch, or 0 where none does."""
         said = self.asked("ofproto/trace", "br0", packet)
-        found = FLOW.search(said)
-        if found is None and not NO_FLOW.search(said):
-            raise ValueError(f"ofproto/trace says no flow:\n{said}")
-        return int(found[1], 16) if found else 0
+        found = {int(at): int(cookie or "0", 16) for at, cookie in FLOW.findall(said)}
+        if table not in found:
+            raise ValueError(f"ofproto/trace says no flow of table {table}:\n{said}")
+        return found[table]
 
     def asked(self, method, *words):
         """What the switch answers, as `ovs-appctl` would show it; a program for each question takes far longer."""
@@ -110,9 +114,9 @@ def with_sbin():
     return f"{os.environ.get('PATH', '')}:/usr/sbin:/sbin"
 
 
-def packet_of(header):
-    """A packet with the header, as the switch is told of one."""
+def packet_of(header, port=1):
+    """A packet with the header that comes in by the port, as the switch is told of one."""
     source, destination = map(ipaddress.IPv4Address, header[:2])
     kind = WITH_PORTS.get(header.protocol)
     ports = f",{kind}_src={header.source_port},{kind}_dst={header.destination_port}" if kind else ""
-    return f"in_port=1,{kind or f'ip,nw_proto={header.protocol}'},nw_src={source},nw_dst={destination}{ports}"
+    return f"in_port={port},{kind or f'ip,nw_proto={header.protocol}'},nw_src={source},nw_dst={destination}{ports}"

@@ -19,6 +19,9 @@ those of the new one put. The switch has flows of its own: after each step they 
 later fragments, and each header, and the first fragment of a packet with it, must be decided by the new table. By
 `replace-flows`, which takes all other flows away, these packets must meet none: so what is looked up tells.
 
+Last, each port of the switch gets a list of its own, in a table of the switch behind the first one, all by one mark. Each header
+must be decided by the list of the port by which it comes, also while the table of one port is replaced by the other mark.
+
 The switch runs in a folder of its own, over no device; where it isn't there, this is skipped.
 """
 import contextlib
@@ -47,6 +50,9 @@ LOOKS = 10
 
 # The first priority of tables that are replaced by their marks, as in docs/SWITCH.md.
 BAND = 40_000
+
+# A table of the switch behind the first one.
+INNER = 3
 
 # The flows of the switch itself, behind a mark of their own, and packets that these decide.
 OWN = 0xFF
@@ -252,6 +258,30 @@ def replaced(switch, razor, texts, rng):
     return count, rows
 
 
+def lies_in(port):
+    """The words by which the flows of a port's list come into a table of their own."""
+    return ["--table", INNER, "--match", f"in_port={port}"]
+
+
+def by_port(switch, razor, texts, rng):
+    """How many lookups there were in the tables of two ports, of which one is replaced, and those that were answered otherwise."""
+    (first, old), (second, new) = (razor.table(name, text) for name, text in zip(("first", "second"), texts))
+    drawn = [drawn_header(rng, old + new) for _ in range(LOOKS)]
+    switch.clear()
+    switch.put([f"priority=0,actions=goto_table:{INNER}\n"])
+    rows = []
+    for words, sides in (
+        ([(second, new, ["--mark", 1, *lies_in(2)]), (first, old, ["--mark", 1, *lies_in(1)])], {1: (1, old), 2: (1, new)}),
+        ([(second, new, ["--mark", 2, "--replace", 1, *lies_in(1)])], {1: (2, new), 2: (1, new)}),
+    ):
+        for path, entries, options in words:
+            switch.put(lines_of(path, entries, *options))
+        for header, (port, (mark, entries)) in itertools.product(drawn, sides.items()):
+            wanted = next((mark << 32 | entry.number for entry in entries if entry.matches(header)), 0)
+            rows.append((header, hex(wanted), hex(switch.cookie(packet_of(header, port), INNER))))
+    return len(rows), [row for row in rows if row[1] != row[2]]
+
+
 def tried(switch, razor, seed):
     """What is tried, one after another: its name, how many headers were asked for, and those that are decided otherwise."""
 
@@ -268,6 +298,7 @@ def tried(switch, razor, seed):
         yield f"the plan for {name}", *patched(switch, razor, texts, rng(name))
     for (left, old), (right, new) in zip(compiled, compiled[1:]):
         yield f"{left}, {right}, {left} by marks", *replaced(switch, razor, (old, new), rng(left, right))
+        yield f"{left} and {right} by ports", *by_port(switch, razor, (old, new), rng(left, right, "by ports"))
 
 
 def run(given):
