@@ -16,8 +16,6 @@ from tcam_razor.razor import Razor
 
 Span = tuple[int, int]
 Box = tuple[Span, ...]
-# Spans of a field, each with the tree of the fields behind it.
-Tree = list[tuple[Span, "Tree"]]
 
 # As many boxes are asked for apart; where there are more, one is asked for that holds all.
 MOST_REGIONS = 64
@@ -34,6 +32,14 @@ class Changed:
     box: Box
     old: str
     new: str
+
+
+@dataclasses.dataclass(frozen=True)
+class Branch:
+    """A span of a field, and the branches of the field behind it."""
+
+    span: Span
+    below: list["Branch"]
 
 
 @dataclasses.dataclass
@@ -120,24 +126,27 @@ def box_of(line: str) -> Box:
     return tuple((int(low), int(high)) for low, high in (span.split("-") for span in line.split()))
 
 
-def tree(boxes: list[Box]) -> Tree:
+def tree(boxes: list[Box]) -> list[Branch]:
     """The boxes as spans of the first field, each with the tree of what follows."""
     if not boxes or not boxes[0]:
         return []
-    return [(span, tree([box[1:] for box in group])) for span, group in itertools.groupby(boxes, key=lambda box: box[0])]
+    return [Branch(span, tree([box[1:] for box in group])) for span, group in itertools.groupby(boxes, key=lambda box: box[0])]
 
 
-def meeting(left: Tree, right: Tree, front: Box = ()) -> Iterator[Box]:
+def meeting(left: list[Branch], right: list[Branch], front: Box = ()) -> Iterator[Box]:
     """The boxes in which a box of one tree meets one of the other."""
     if len(front) == len(WHOLE):
         yield front
         return
     at = 0
-    for (low, high), below in left:
-        while at < len(right) and right[at][0][1] < low:
+    for one in left:
+        low, high = one.span
+        while at < len(right) and right[at].span[1] < low:
             at += 1
-        for (low_of_right, high_of_right), below_right in itertools.takewhile(lambda it: it[0][0] <= high, itertools.islice(right, at, None)):
-            yield from meeting(below, below_right, (*front, (max(low, low_of_right), min(high, high_of_right))))
+        for other in itertools.islice(right, at, None):
+            if other.span[0] > high:
+                break
+            yield from meeting(one.below, other.below, (*front, (max(low, other.span[0]), min(high, other.span[1]))))
 
 
 def joined(pieces: list[Changed]) -> list[Changed]:

@@ -2,7 +2,7 @@
 from __future__ import annotations
 
 import html
-from typing import Iterable, Sequence, Union
+from typing import Iterable
 
 from tcam_razor.script import shown
 
@@ -11,22 +11,18 @@ class Html(str):
     """Text that is HTML already; any other is escaped where it is put in."""
 
 
-# What may stand in an element: a part or several, or nothing.
-Part = Union[str, int, None, Sequence["Part"]]
-
-
-def element(name: str, *parts: Part, **attributes: object) -> Html:
+def element(name: str, *parts: object, **attributes: object) -> Html:
     """An element with attributes, of which a name may end with `_`, and parts; a part may be a list of parts, or none."""
     marks = "".join(f' {key.rstrip("_").replace("_", "-")}="{html.escape(str(value))}"' for key, value in attributes.items() if value is not None)
     return Html(f"<{name}{marks}>{joined(parts)}</{name}>")
 
 
-def joined(parts: Iterable[Part]) -> Html:
+def joined(parts: Iterable[object]) -> Html:
     """Parts one behind the other."""
     return Html("".join(map(part, parts)))
 
 
-def part(it: Part) -> str:
+def part(it: object) -> str:
     if it is None:
         return ""
     if isinstance(it, Html):

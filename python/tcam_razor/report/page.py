@@ -7,7 +7,7 @@ from typing import Iterable, Iterator
 from tcam_razor import headers, texts
 from tcam_razor.headers import Header
 from tcam_razor.report.change import MAKERS, Change, Pair, Size, Turned, Version, context
-from tcam_razor.report.markup import Html, Part, element, joined, rows
+from tcam_razor.report.markup import Html, element, joined, rows
 
 # As many rows are shown of what may be long.
 MOST_BOXES = 50
@@ -23,6 +23,7 @@ STYLE = (pathlib.Path(__file__).parent / "style.css").read_text()
 POLICY = "default-src 'none'; style-src 'unsafe-inline'"
 
 VERDICTS = {True: "valid", False: "not valid", None: "not known"}
+KINDS = {True: "good", False: "bad", None: None}
 
 # What the states of `audit` are called in the field.
 STATES = {"live": "needed", "droppable": "redundant", "never": "shadowed"}
@@ -44,11 +45,11 @@ def page(change: Change) -> str:
     return f"<!DOCTYPE html>\n{element('html', head, body, lang='en')}\n"
 
 
-def section(title: str, *parts: Part) -> Html:
+def section(title: str, *parts: object) -> Html:
     return element("section", element("h2", title), *parts)
 
 
-def paragraph(*parts: Part, **attributes: object) -> Html:
+def paragraph(*parts: object, **attributes: object) -> Html:
     return element("p", *parts, **attributes)
 
 
@@ -60,7 +61,7 @@ def pill(text: str, kind: str = "plain") -> Html:
     return element("span", text, class_=f"pill {kind}")
 
 
-def cell(text: Part, kind: str) -> Html:
+def cell(text: object, kind: str) -> Html:
     return element("td", text, class_=kind)
 
 
@@ -92,7 +93,7 @@ def tiles(change: Change) -> Iterator[tuple[str, str, str] | tuple[str, str, str
     if change.plan and not change.plan.needed:
         yield "Writes in place", f"{len(change.plan.writes):,}", f"{before.count + after.count:,} for a whole swap"
     if change.verdict:
-        yield "Certificate", VERDICTS[change.verdict.is_valid], change.verdict.says, {True: "good", False: "bad"}.get(change.verdict.is_valid)
+        yield "Certificate", VERDICTS[change.verdict.is_valid], change.verdict.says, KINDS[change.verdict.is_valid]
 
 
 def growth(before: Size, after: Size) -> str:
@@ -176,10 +177,11 @@ def patch_row(change: Change, pair: Pair | None) -> Html:
     if pair is None:
         return element("tr", element("td", "⋯", colspan="4"), class_="rest")
     old, new = pair
-    rule = change.old.rules[old] if new is None else change.new.rules[new]
-    numbers = [change.old.rules[old].line if old is not None else "", change.new.rules[new].line if new is not None else ""]
+    sides = [None if at is None else version.rules[at] for version, at in ((change.old, old), (change.new, new))]
+    numbers = [rule.line if rule else "" for rule in sides]
+    text = next(rule.text for rule in reversed(sides) if rule)
     kind, sign = ("gone", "−") if new is None else ("put", "+") if old is None else ("kept", "")
-    return element("tr", [cell(number, "number soft") for number in numbers], cell(sign, "sign"), cell(rule.text, "rule"), class_=kind)
+    return element("tr", [cell(number, "number soft") for number in numbers], cell(sign, "sign"), cell(text, "rule"), class_=kind)
 
 
 def turned(change: Change) -> Html:
@@ -267,7 +269,7 @@ def certificate(change: Change) -> Html:
     if verdict is None:
         return section(title, paragraph("There is no shortened table of the new list."))
     says = (element("code", "cert"), " wrote the certificate of the new list's shortened table, and ", element("code", "check"), ", which knows nothing of the compiler, tested it: ", verdict.says, ".")
-    return section(title, paragraph(pill(VERDICTS[verdict.is_valid], {True: "good", False: "bad"}.get(verdict.is_valid, "note")), " ", *says))
+    return section(title, paragraph(pill(VERDICTS[verdict.is_valid], KINDS[verdict.is_valid] or "note"), " ", *says))
 
 
 def bottom(change: Change) -> Html:
