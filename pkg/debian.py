@@ -17,7 +17,7 @@ Maintainer: {maintainer}
 Installed-Size: {size}
 Depends: libc6 (>= {libc})
 Recommends: python3
-Suggests: openvswitch-switch
+Suggests: nftables, openvswitch-switch
 Section: net
 Priority: optional
 Description: {title}
@@ -25,7 +25,9 @@ Description: {title}
  memories. {promise}
  razor-show shows lists and tables with addresses in points, razor-flows
  writes a table as flows of OpenFlow, and razor-report writes a page on
- what a change of a list does.
+ what a change of a list does. razor-import makes lists of access lists of
+ IOS and EOS, and of chains of nftables and iptables; razor-export makes
+ configurations of lists.
 """
 
 PROVED = {
