@@ -5,7 +5,9 @@ import pathlib
 import shutil
 import subprocess
 import sys
+from typing import Iterable
 
+from tcam_razor.errors import NotFound
 from tcam_razor.script import shown
 
 
@@ -18,16 +20,16 @@ class Ended:
     err: str
 
     @property
-    def lines(self):
+    def lines(self) -> list[str]:
         return self.out.splitlines()
 
 
-def written(lines):
+def written(lines: Iterable[object]) -> str:
     """The text of lines."""
     return "".join(f"{line}\n" for line in lines)
 
 
-def found(given=None):
+def found(given: str | None = None) -> str:
     """The path of the program: the one that is given or that the variable RAZOR names, or that lies beside the script or is found as commands are."""
     name = given or os.environ.get("RAZOR")
     if name:
@@ -35,32 +37,32 @@ def found(given=None):
     return path_of("razor", os.pathsep.join([str(pathlib.Path(sys.argv[0]).parent), *os.get_exec_path()]))
 
 
-def path_of(name, folders=None):
+def path_of(name: str, folders: str | None = None) -> str:
     path = shutil.which(name, path=folders)
     if path is None:
-        raise ValueError(f"there is no program {shown(name)}")
+        raise NotFound(f"there is no program {shown(name)}")
     return os.path.abspath(path)
 
 
 class Razor:
     """The program, run in a folder."""
 
-    def __init__(self, program, folder):
+    def __init__(self, program: str, folder: str | os.PathLike[str]) -> None:
         self.program, self.folder = program, pathlib.Path(folder)
 
-    def run(self, *words, given="", seconds=None):
+    def run(self, *words: object, given: str = "", seconds: float | None = None) -> Ended:
         """How the program ends on these words, with a text as its standard input."""
         ended = subprocess.run([self.program, *map(str, words)], cwd=self.folder, input=given, capture_output=True, text=True, timeout=seconds)
         return Ended(ended.returncode, ended.stdout, ended.stderr)
 
-    def made(self, *words, given=""):
+    def made(self, *words: object, given: str = "") -> str:
         """What the program writes on these words, which must be right."""
         ended = self.run(*words, given=given)
         if ended.status != 0:
             raise ValueError(f"razor {' '.join(map(str, words))} ended with {ended.status}: {ended.err}")
         return ended.out
 
-    def put(self, name, text):
+    def put(self, name: str, text: str) -> pathlib.Path:
         """Writes a file of the folder, and gives its path."""
         path = self.folder / name
         path.write_text(text)

@@ -1,5 +1,6 @@
 """HTML that is escaped by the way in which it is made."""
 import html
+from typing import Any, Iterable, Sequence
 
 from tcam_razor.script import shown
 
@@ -8,18 +9,18 @@ class Html(str):
     """Text that is HTML already; any other is escaped where it is put in."""
 
 
-def element(name, *parts, **attributes):
+def element(name: str, *parts: Any, **attributes: Any) -> Html:
     """An element with attributes, of which a name may end with `_`, and parts; a part may be a list of parts, or none."""
     marks = "".join(f' {key.rstrip("_").replace("_", "-")}="{html.escape(str(value))}"' for key, value in attributes.items() if value is not None)
     return Html(f"<{name}{marks}>{joined(parts)}</{name}>")
 
 
-def joined(parts):
+def joined(parts: Iterable[Any]) -> Html:
     """Parts one behind the other."""
     return Html("".join(map(part, parts)))
 
 
-def part(it):
+def part(it: Any) -> str:
     if it is None:
         return ""
     if isinstance(it, Html):
@@ -27,7 +28,7 @@ def part(it):
     return joined(it) if isinstance(it, (list, tuple)) else html.escape(shown(it))
 
 
-def rows(head, body, **attributes):
+def rows(head: Sequence[Any], body: Iterable[Iterable[Any]], **attributes: Any) -> Html:
     """A table with a head, whose rows are lists of cells."""
     return element(
         "table",
