@@ -16,7 +16,7 @@ import time
 ROOT = pathlib.Path(__file__).resolve().parents[1]
 sys.path[:0] = [str(ROOT / "python"), str(ROOT / "tools")]
 
-from building.programs import program
+from building.programs import proved as program
 from tcam_razor.script import fail, shown
 
 RUNS = 3

@@ -40,6 +40,9 @@ COMMANDS = {
 
 DOCUMENTS = (".md", ".svg", ".png")
 
+# What is of use beside the sources alone.
+OF_SOURCES = ("PROVING.md",)
+
 
 def program():
     """The program that the variable RAZOR names, or the one that is proved and built of the sources here."""
@@ -66,8 +69,8 @@ def completions():
 
 
 def documents():
-    """All that is written for people, below docs/."""
-    return below(ROOT / "docs", lambda path: path.suffix in DOCUMENTS)
+    """What is written below docs/ for those who have the program."""
+    return below(ROOT / "docs", lambda path: path.suffix in DOCUMENTS and path.name not in OF_SOURCES)
 
 
 def examples():

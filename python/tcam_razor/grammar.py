@@ -221,17 +221,17 @@ def parted(form: Form, words: Iterable[str]) -> tuple[dict[str, str], list[str]]
             ended = True
         else:
             name, sign, text = word.partition("=")
-            value = text if sign else next(rest, None)
-            if value is None or name in options or form.option(name) is None:
+            values = [text] if sign else [*itertools.islice(rest, 1)]
+            if not values or name in options or form.option(name) is None:
                 return None
-            options[name] = value
+            options[name] = values[0]
     return options, places
 
 
 def spelled(forms: Mapping[str, Form], words: Sequence[str]) -> Spelled | None:
     """What the words spell, or none."""
     form = forms.get(words[0]) if words else None
-    parts = form and parted(form, words[1:])
+    parts = None if form is None else parted(form, words[1:])
     if form is None or parts is None:
         return None
     options, places = parts

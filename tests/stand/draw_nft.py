@@ -11,6 +11,8 @@ ICMP = ("type echo-request", "type { echo-reply, echo-request }", "type != echo-
         "code net-unreachable", "code != net-unreachable", "code { port-unreachable, 5 }", "code 0 icmp type echo-request")
 IPV4 = ("meta nfproto ipv4", "meta nfproto ipv6", "ip6 saddr ::1", "icmpv6 type echo-request", "meta nfproto != ipv6")
 INTERFACES = ('iifname "v1"', 'iifname != "v1"', 'iifname "v*"', 'iifname "lo"', 'iifname { "lo", "v1" }', 'iif "v1"', 'iif "lo"')
+# How many conditions a rule has, by the letter of its tag.
+CONDITIONS = {"t": (1, 1, 2, 2, 3), "j": (0, 0, 0, 1), "r": (1, 1, 1, 2), "v": (0, 1, 1, 2), "p": (0, 1, 2)}
 PICKED_PORTS = (22, 80, 443, 53, 0, 65535, 1023, 1024)
 
 
@@ -117,25 +119,32 @@ class Draw:
                 return f"meta l4proto {{ tcp, udp }} th {side}port {self.compared(self.one_port, 'port')}"
         return f"icmp {self.rng.choice(ICMP)}"
 
-    def rule(self, chains):
+    def rule(self, chains, kind=None):
+        """A rule, which may jump to these chains. Jumps ask for little, so that packets come deep."""
         self.count += 1
         self.transport, self.has_order = None, False
-        matches = " ".join(self.match() for _ in range(self.rng.choice([0, 1, 1, 2, 2, 3])))
-        tag, tail = self.tail(matches, chains)
-        return f'  {matches} counter log prefix "{tag}{self.count}" group 5 {tail}'
+        kind = kind or self.kind(chains)
+        matches = " ".join(self.match() for _ in range(self.rng.choice(CONDITIONS[kind])))
+        return f'  {matches} counter log prefix "{kind}{self.count}" group 5 {self.tail(kind, chains)}'
 
-    def tail(self, matches, chains):
-        """The letter of a rule's tag, and what it does."""
+    def kind(self, chains):
+        """The letter of a rule's tag."""
         choice = self.rng.random()
-        if choice < 0.55 and matches:
-            return "t", self.decision()
-        if choice < 0.7 and chains:
-            return "j", f"{self.rng.choice(['jump', 'jump', 'goto'])} {self.rng.choice(chains)}"
-        if choice < 0.8 and matches:
-            return "r", "return"
-        if choice < 0.92:
-            return "v", self.verdicts(chains)
-        return "p", ""
+        if choice < 0.18 and chains:
+            return "j"
+        return "r" if choice < 0.28 else "v" if choice < 0.38 else "t" if choice < 0.92 else "p"
+
+    def tail(self, kind, chains):
+        match kind:
+            case "t":
+                return self.decision()
+            case "j":
+                return f"{self.rng.choice(['jump', 'jump', 'goto'])} {self.rng.choice(chains)}"
+            case "r":
+                return "return"
+            case "v":
+                return self.verdicts(chains)
+        return ""
 
     def decision(self):
         rejection = "reject with icmpx type admin-prohibited" if self.family == "inet" else "reject with icmp type host-prohibited"
@@ -156,13 +165,20 @@ class Draw:
 
     def ruleset(self):
         """A table `t` whose chain `judged` is judged. Chains stand in front of the maps and rules that name them."""
-        names = [f"c{number}" for number in range(self.rng.randrange(0, 4))]
-        bodies = [[self.rule(names[at + 1:]) for _ in range(self.rng.randrange(0, 5))] for at in range(len(names))]
+        names = [f"c{number}" for number in range(self.rng.choice([0, 1, 2, 3, 3]))]
+        bodies = [self.body(names[at + 1:]) for at in range(len(names))]
         rules = [self.rule(names) for _ in range(self.rng.randrange(1, 12))]
         head = f"  type filter hook prerouting priority 0; policy {self.rng.choice(['accept', 'drop'])};"
         chains = [f" chain {name} {{\n" + "\n".join(body) + "\n }" for name, body in zip(names, bodies)]
         empty = [f" chain {name} {{\n }}" for name in names]
         return "\n".join([f"table {self.family} t {{", *self.sets, *empty, *self.maps, *reversed(chains), " chain judged {", head, *rules, " }", "}", ""])
+
+    def body(self, chains):
+        """The rules of a chain, of which one often jumps deeper, and one leaves the chain before its end."""
+        kinds = [kind for kind in "jr" if (kind == "r" or chains) and self.rng.random() < 0.6]
+        kinds += [None] * self.rng.randrange(0, 4)
+        self.rng.shuffle(kinds)
+        return [self.rule(chains, kind) for kind in kinds]
 
     def headers(self, count, protocols):
         """Headers of the values that were drawn."""

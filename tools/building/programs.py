@@ -1,4 +1,4 @@
-"""The programs that the scripts of bench/ and tools/ run."""
+"""The programs that scripts run."""
 import os
 import shutil
 import subprocess
@@ -10,11 +10,23 @@ from tcam_razor.script import shown
 # The variables of the environment by which the program of a crate can be given.
 GIVEN = {"razor_cli": "RAZOR", "razor_bench": "RAZOR_BENCH"}
 
+# The command that prints the path of a program which runs what the sources say, proved or not; the others are always proved.
+READY = {"razor_cli": ("tools/program",)}
+
 
 def program(crate, given=None):
-    """The path of a crate's program: the one that is given or that the environment names, or the one that is built."""
+    """The path of a crate's program: the one that is given or that the environment names, or the one that is there or built."""
+    return found_or_made(crate, given, READY.get(crate, ("tools/build", crate)))
+
+
+def proved(crate, given=None):
+    """The path of a crate's program: the one that is given or that the environment names, or else one that is proved."""
+    return found_or_made(crate, given, ("tools/build", crate))
+
+
+def found_or_made(crate, given, command):
     name = given or os.environ.get(GIVEN[crate])
-    return found(name) if name else built(crate)
+    return found(name) if name else made(*command)
 
 
 def found(name):
@@ -24,9 +36,9 @@ def found(name):
     return os.path.abspath(path)
 
 
-def built(crate):
-    """The program as `tools/build` builds it where its sources changed; where it can't, it shows the log."""
-    ended = subprocess.run([ROOT / "tools/build", crate], stdin=subprocess.DEVNULL, stdout=subprocess.PIPE, text=True)
+def made(command, *words):
+    """The path that a command of the repository prints; where it makes no program, it has said why."""
+    ended = subprocess.run([ROOT / command, *words], stdin=subprocess.DEVNULL, stdout=subprocess.PIPE, text=True)
     if ended.returncode != 0:
         sys.exit(ended.returncode)
     return ended.stdout.strip()

@@ -1,0 +1,37 @@
+"""The page about configurations: its commands run as they stand, and write what it shows."""
+import os
+import pathlib
+import re
+import subprocess
+import tempfile
+import unittest
+
+from tests.calling import PACKAGE, with_program
+from tests.test_exporting import with_nft
+
+ROOT = PACKAGE.parent
+PAGE = ROOT / "docs/CONFIGURATIONS.md"
+EXAMPLE = re.compile(r"```sh\n(.*?)```\n\n```text\n(.*?)```", re.DOTALL)
+
+
+@unittest.skipUnless(PAGE.exists(), "the package stands by itself")
+@with_program
+class Page(unittest.TestCase):
+    def expect(self, number):
+        commands, shown = EXAMPLE.findall(PAGE.read_text())[number]
+        with tempfile.TemporaryDirectory() as folder:
+            pathlib.Path(folder, "tools").symlink_to(ROOT / "tools")
+            pathlib.Path(folder, "razor").symlink_to(pathlib.Path(os.environ["RAZOR"]).resolve())
+            ended = subprocess.run(["bash", "-e", "-o", "pipefail", "-c", commands.replace("./razor equiv", "! ./razor equiv")], cwd=folder, capture_output=True, text=True)
+        self.assertEqual((0, shown), (ended.returncode, ended.stdout), ended.stderr)
+
+    def test_an_access_list_of_ios(self):
+        self.expect(0)
+
+    @with_nft
+    def test_a_chain_of_nftables(self):
+        self.expect(1)
+
+
+if __name__ == "__main__":
+    unittest.main()
