@@ -7,6 +7,7 @@ import subprocess
 import sys
 from typing import Iterable
 
+from tcam_razor.errors import NotFound
 from tcam_razor.script import shown
 
 
@@ -39,7 +40,7 @@ def found(given: str | None = None) -> str:
 def path_of(name: str, folders: str | None = None) -> str:
     path = shutil.which(name, path=folders)
     if path is None:
-        raise ValueError(f"there is no program {shown(name)}")
+        raise NotFound(f"there is no program {shown(name)}")
     return os.path.abspath(path)
 
 

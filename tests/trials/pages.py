@@ -10,8 +10,7 @@ import tempfile
 from building.sources import ROOT
 from model import browser, cases
 from tcam_razor.razor import Razor
-from tcam_razor.report.page import page
-from trials.report import HOSTILE, change_of, expect_sound
+from trials.report import HOSTILE, change_of, expect_sound, page_of
 
 EXAMPLE = ("examples/web.list", "examples/web.new.list")
 
@@ -27,7 +26,7 @@ def page_of_example(program):
 def page_of_long_lists(program, folder):
     """The page of an access list of which some rules are taken out."""
     lines = subprocess.run([ROOT / "bench/lists", "access", "1000"], check=True, capture_output=True, text=True).stdout.splitlines(keepends=True)
-    return page(change_of(Razor(program, folder), ["".join(lines), "".join([*lines[:100], *lines[140:-1]])], [HOSTILE, "new"]))
+    return page_of(change_of(Razor(program, folder), ["".join(lines), "".join([*lines[:100], *lines[140:-1]])], [HOSTILE, "new"]))
 
 
 def expect_seen(folder, picture):

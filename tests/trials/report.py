@@ -10,18 +10,21 @@ import html.parser
 
 from model import cases, lists, patching
 from model.meaning import Cut, decided
-from tcam_razor import memories, tables
-from tcam_razor.headers import header
+from tcam_razor import headers, memories, tables
 from tcam_razor.razor import written
 from tcam_razor.report.change import Change, Version
+from tcam_razor.report.findings import found
 from tcam_razor.report.page import page
+
+# The words that deny, if nobody gives others.
+DENY = {"deny", "drop"}
 
 # A name that would run, if it weren't escaped.
 HOSTILE = "<script>nowhere()</script>&\"'\x1b[31m"
 
 MOST_BYTES = 300_000
 
-VOID = {"meta"}
+VOID = {"meta", "wbr"}
 
 
 class Reader(html.parser.HTMLParser):
@@ -60,7 +63,13 @@ def edited(rng, lines):
 
 def change_of(razor, texts, titles, seconds=60):
     old, new = (Version(razor, name, title, text, seconds) for name, title, text in zip(("old.list", "new.list"), titles, texts))
-    return Change(old, new, [])
+    return Change(old, new)
+
+
+def page_of(change):
+    """The page of a change."""
+    titles = [change.old.title, change.new.title]
+    return page(found(change, titles, titles, b"the program"))
 
 
 def headers_changed(old, new, boxes):
@@ -91,16 +100,28 @@ def trial(razor, rng, seen):
     old = lists.rules(rng, 6, columns, default=0.5)
     new = edited(rng, old)
     change = change_of(razor, [written(old), written(new)], [HOSTILE, "new"])
-    search = change.search
+    searches = (change.permitted, change.denied, change.others)
+    boxes = sorted(box for search in searches for box in search.found)
     try:
         seen["writes"] += try_plan(razor, rng, change)
-        differing = headers_changed(change.old.rules, change.new.rules, search.found)
-        if not search.is_all or (change.difference is None) != (differing == 0):
+        differing = headers_changed(change.old.rules, change.new.rules, boxes)
+        if not all(search.is_all for search in searches) or (change.difference is None) != (differing == 0):
             raise cases.Wrong(f"{differing} headers differ, and the first difference is {change.difference}")
-        expect_sound(page(change))
+        expect_parted(*searches)
+        expect_sound(page_of(change))
     except cases.Wrong as wrong:
         raise cases.Wrong(f"{wrong}\n{written(old)}and\n{written(new)}") from None
-    seen.update({"boxes": len(search.found), "headers": differing})
+    seen.update({"boxes": len(boxes), "headers": differing, "permitted": len(change.permitted.found)})
+
+
+def expect_parted(permitted, denied, others):
+    """Fails unless what is newly permitted stands apart, and what is newly denied."""
+    for search, was, now in ((permitted, True, False), (denied, False, True)):
+        for box in search.found:
+            if ((box.old in DENY), (box.new in DENY)) != (was, now):
+                raise cases.Wrong(f"{box} stands among those that are newly {'permitted' if was else 'denied'}")
+    if any((box.old in DENY) != (box.new in DENY) for box in others.found):
+        raise cases.Wrong("a box that is newly permitted or denied stands among the others")
 
 
 def try_plan(razor, rng, change):
@@ -109,7 +130,7 @@ def try_plan(razor, rng, change):
         return 0
     held, entries = memories.memory(razor.folder / "memory"), tables.entries(razor.folder / change.new.table)
     writes = [memories.write_of(number, f"{line}\n") for number, line in enumerate(change.plan.writes, 1)]
-    drawn = [header(lists.header(rng).split()) for _ in range(20)]
+    drawn = [headers.header(lists.header(rng).split()) for _ in range(20)]
     wrong = patching.fault(held, entries, writes, drawn)
     if wrong or len(held) != change.plan.slots:
         raise cases.Wrong(wrong or f"a plan for {change.plan.slots} slots")
@@ -124,4 +145,4 @@ def expect_sound(text):
 
 def run(given):
     count, seen = cases.try_all(given, trial, runs=200)
-    return f"{count:,} changes: {seen['boxes']:,} boxes hold exactly the {seen['headers']:,} headers that are decided differently, and {seen['writes']:,} writes lead from table to table"
+    return f"{count:,} changes: {seen['boxes']:,} boxes hold exactly the {seen['headers']:,} headers that are decided differently, and {seen['permitted']:,} of the boxes are newly permitted; {seen['writes']:,} writes lead from table to table"

@@ -7,22 +7,26 @@ import dataclasses
 import functools
 import itertools
 import subprocess
+import threading
 import time
-from typing import Iterable, Iterator, Sequence
+from typing import Callable, Iterable, Iterator, Sequence
 
-from tcam_razor.headers import MISS, WHOLE
+from tcam_razor.headers import MISS, WHOLE, Header
 from tcam_razor.lists import Rule
 from tcam_razor.razor import Razor
-
-Span = tuple[int, int]
-Box = tuple[Span, ...]
 
 # As many boxes are asked for apart; where there are more, one is asked for that holds all.
 MOST_REGIONS = 64
 
-# As many names are asked for, and as many lines of each answer are read.
+# As many names are asked for in a box, and as many lines of each answer are read.
 MOST_NAMES = 16
 MOST_LINES = 200_000
+
+Span = tuple[int, int]
+# A span in each field.
+Box = tuple[Span, ...]
+# Boxes as spans of the first field, each with the tree of what follows.
+Tree = list[tuple[Span, "Tree"]]
 
 
 @dataclasses.dataclass(frozen=True, order=True)
@@ -33,16 +37,14 @@ class Changed:
     old: str
     new: str
 
+    @property
+    def first(self) -> Header:
+        """The least header of the box."""
+        source, destination, source_port, destination_port, protocol = (low for low, _ in self.box)
+        return Header(source, destination, source_port, destination_port, protocol)
+
 
 @dataclasses.dataclass(frozen=True)
-class Branch:
-    """A span of a field, and the branches of the field behind it."""
-
-    span: Span
-    below: list["Branch"]
-
-
-@dataclasses.dataclass
 class Search:
     """What was found, and whether that is all."""
 
@@ -84,69 +86,87 @@ def without(box: Box, other: Box) -> list[Box]:
     return found
 
 
+def meets(rule: Rule, box: Box) -> bool:
+    """Whether a header of the box may match the rule."""
+    return all(any(low <= last and first <= high for low, high in spans) for spans, (first, last) in zip(rule.spans, box))
+
+
 class Lists:
-    """Two lists of the program, by their paths, and the names that they decide."""
+    """Two lists of the program, by their paths and rules, and how long they may be asked."""
 
-    def __init__(self, razor: Razor, paths: tuple[str, str], names: Iterable[str], seconds: float) -> None:
-        self.razor, self.paths, self.until = razor, paths, time.monotonic() + seconds
-        all_names = [*names, MISS]
-        self.names = all_names[:MOST_NAMES]
-        self.is_all = len(all_names) <= MOST_NAMES
+    def __init__(self, razor: Razor, paths: tuple[str, str], rules: Sequence[Rule], seconds: float) -> None:
+        self.razor, self.paths, self.rules = razor, paths, rules
+        self.seconds, self.until, self.is_all = seconds, 0.0, True
 
-    def changed(self, rules: Sequence[Rule], most: int) -> Search:
-        """The boxes in which the lists decide differently, in rising order: so many are found at most in time, and then joined."""
+    def changed(self, rules: Sequence[Rule], most: int, is_sought: Callable[[str, str], bool]) -> Search:
+        """The boxes in which the lists decide differently in the way that is sought, of those that these rules match.
+
+        They come in rising order: so many are found at most in time, and then joined.
+        """
         pieces: list[Changed] = []
+        self.until = time.monotonic() + self.seconds
         for region in regions(rules):
-            pieces += itertools.islice(self.differences(region), most - len(pieces))
+            pieces += itertools.islice(self.differences(region, is_sought), most - len(pieces))
             if len(pieces) == most or time.monotonic() > self.until:
                 self.is_all = False
                 break
         return Search(joined(pieces), self.is_all)
 
-    def differences(self, region: Box) -> Iterator[Changed]:
-        old, new = ({name: self.boxes(path, region, name) for name in self.names} for path in self.paths)
-        for left, right in itertools.permutations(self.names, 2):
-            for box in meeting(tree(old[left]), tree(new[right])):
-                yield Changed(box, left, right)
+    def differences(self, region: Box, is_sought: Callable[[str, str], bool]) -> Iterator[Changed]:
+        for left, right in itertools.permutations(self.names(region), 2):
+            if is_sought(left, right):
+                old, new = self.boxes(self.paths[0], region, left), self.boxes(self.paths[1], region, right)
+                for box in meeting(tree(old), tree(new)):
+                    yield Changed(box, left, right)
+
+    @functools.lru_cache(maxsize=None)
+    def names(self, region: Box) -> list[str]:
+        """What may be decided in a box, as many names as are asked for."""
+        found = list(dict.fromkeys([MISS, *(rule.decision for rule in self.rules if meets(rule, region))]))
+        self.is_all &= len(found) <= MOST_NAMES
+        return found[:MOST_NAMES]
 
     @functools.lru_cache(maxsize=None)
     def boxes(self, path: str, region: Box, name: str) -> list[Box]:
-        """The boxes of `query`, as many as are read."""
+        """The boxes of `query`, as many as are read in time."""
         spans = ["*" if span == whole else f"{span[0]}-{span[1]}" for span, whole in zip(region, WHOLE)]
         words = [self.razor.program, "query", "--", path, *spans, name]
         with subprocess.Popen(words, cwd=self.razor.folder, stdout=subprocess.PIPE, stderr=subprocess.DEVNULL, text=True) as running:
-            lines = list(itertools.islice(running.stdout or (), MOST_LINES))
+            assert running.stdout is not None
+            late = threading.Timer(max(self.until - time.monotonic(), 0), running.kill)
+            late.start()
+            lines = list(itertools.islice(running.stdout, MOST_LINES))
             if len(lines) == MOST_LINES:
                 running.kill()
-                self.is_all = False
-        return [box_of(line) for line in lines if not line.startswith("boxes ")]
+            late.cancel()
+        # The last line says how many there are.
+        self.is_all &= running.returncode == 0
+        return [box_of(line) for line in lines if not line.startswith("boxes ") and line.endswith("\n")]
 
 
 def box_of(line: str) -> Box:
-    return tuple((int(low), int(high)) for low, high in (span.split("-") for span in line.split()))
+    pairs = (span.split("-") for span in line.split())
+    return tuple((int(low), int(high)) for low, high in pairs)
 
 
-def tree(boxes: list[Box]) -> list[Branch]:
-    """The boxes as spans of the first field, each with the tree of what follows."""
+def tree(boxes: list[Box]) -> Tree:
+    """The boxes as a tree; they come in rising order."""
     if not boxes or not boxes[0]:
         return []
-    return [Branch(span, tree([box[1:] for box in group])) for span, group in itertools.groupby(boxes, key=lambda box: box[0])]
+    return [(span, tree([box[1:] for box in group])) for span, group in itertools.groupby(boxes, key=lambda box: box[0])]
 
 
-def meeting(left: list[Branch], right: list[Branch], front: Box = ()) -> Iterator[Box]:
+def meeting(left: Tree, right: Tree, front: Box = ()) -> Iterator[Box]:
     """The boxes in which a box of one tree meets one of the other."""
     if len(front) == len(WHOLE):
         yield front
         return
     at = 0
-    for one in left:
-        low, high = one.span
-        while at < len(right) and right[at].span[1] < low:
+    for (low, high), below in left:
+        while at < len(right) and right[at][0][1] < low:
             at += 1
-        for other in itertools.islice(right, at, None):
-            if other.span[0] > high:
-                break
-            yield from meeting(one.below, other.below, (*front, (max(low, other.span[0]), min(high, other.span[1]))))
+        for (low_of_right, high_of_right), below_right in itertools.takewhile(lambda it: it[0][0] <= high, itertools.islice(right, at, None)):
+            yield from meeting(below, below_right, (*front, (max(low, low_of_right), min(high, high_of_right))))
 
 
 def joined(pieces: list[Changed]) -> list[Changed]:
@@ -157,7 +177,7 @@ def joined(pieces: list[Changed]) -> list[Changed]:
     return sorted(pieces)
 
 
-def runs(pieces: list[Changed], field: int) -> Iterator[Changed]:
+def runs(pieces: Iterable[Changed], field: int) -> Iterator[Changed]:
     """The pieces, where those that touch in the field and are alike otherwise are one."""
     whole: Changed | None = None
     for piece in pieces:

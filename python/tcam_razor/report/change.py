@@ -1,4 +1,6 @@
 """What the program says of two versions of a list."""
+from __future__ import annotations
+
 import dataclasses
 import difflib
 import functools
@@ -6,15 +8,20 @@ import io
 import itertools
 import re
 import subprocess
-from typing import Iterator
+from typing import Callable, Iterable, Iterator, Sequence
 
 from tcam_razor import headers, lists, tables
+from tcam_razor.errors import BY_STATUS, BadText, RazorError
 from tcam_razor.headers import Header
+from tcam_razor.lists import Rule
 from tcam_razor.razor import Ended, Razor
 from tcam_razor.report.boxes import Lists, Search
 from tcam_razor.script import shown
 
 MAKERS = ("expand", "compile", "arrange", "shorten")
+
+# The words that deny, where no others are given.
+DENY = ("deny", "drop")
 
 # As many boxes in which lists differ are looked for, before neighbours are joined.
 MOST_BOXES = 2_000
@@ -22,9 +29,6 @@ MOST_BOXES = 2_000
 NEEDED = re.compile(r"(\d+) entries needed, limit (\d+)\n")
 VALID = re.compile(r"valid rows=(\d+)\n")
 PLAN = re.compile(r"plan 1 slots (\d+) width \d+ writes (\d+)\n")
-
-# The place of a rule in the old version and in the new one, of which one may be missing.
-Pair = tuple[int | None, int | None]
 
 
 @dataclasses.dataclass(frozen=True)
@@ -52,10 +56,10 @@ class State:
 class Turned:
     """A rule that does nothing, with its state before, which a rule has not that was put in."""
 
-    rule: lists.Rule
+    rule: Rule
     before: State | None
     now: State
-    hider: lists.Rule | None
+    hider: Rule | None
 
 
 @dataclasses.dataclass(frozen=True)
@@ -75,13 +79,25 @@ class Verdict:
     says: str
 
 
+@dataclasses.dataclass(frozen=True)
+class Difference:
+    """The least header that both versions decide differently, and what each decides."""
+
+    header: Header
+    old: str
+    new: str
+
+
 class Version:
     """A version of a list, as a file of the program's folder."""
 
     def __init__(self, razor: Razor, name: str, title: str, text: str, seconds: float) -> None:
-        self.razor, self.name, self.title, self.seconds = razor, name, title, seconds
-        self.rules = lists.rules_of(title, io.StringIO(text))
+        self.razor, self.name, self.title, self.text, self.seconds = razor, name, title, text, seconds
         razor.put(name, text)
+
+    @functools.cached_property
+    def rules(self) -> list[Rule]:
+        return lists.rules_of(shown(self.title), io.StringIO(self.text, newline="\n"))
 
     def run(self, *words: str) -> Ended | None:
         """How the program ends, or none where that takes too long."""
@@ -90,7 +106,7 @@ class Version:
         except subprocess.TimeoutExpired:
             return None
 
-    def first(self, header: Header) -> lists.Rule | None:
+    def first(self, header: Header) -> Rule | None:
         """The first rule that matches the header, or none."""
         return next((rule for rule in self.rules if rule.holds(header)), None)
 
@@ -111,102 +127,140 @@ class Version:
             return Size(is_made=False, why=f"no table in {self.seconds:g} seconds")
         if ended.status == 4 and (needed := NEEDED.fullmatch(ended.err)):
             return Size(int(needed[1]), is_made=False, why=f"{int(needed[1]):,} entries needed, limit {int(needed[2]):,}")
-        if ended.status != 0:
+        first = tables.FIRST.match(ended.out)
+        if ended.status != 0 or first is None:
             return Size(is_made=False, why=f"status {ended.status}: {ended.err.strip()}")
         if command == "shorten":
             self.razor.put(self.table, ended.out)
-        found = tables.FIRST.match(ended.out)
-        return Size(int(found[3])) if found else Size(is_made=False, why="no table")
+        return Size(int(first[3]))
 
     @property
     def table(self) -> str:
         return f"{self.name}.table"
 
 
-def state(words: list[str]) -> State:
+def state(words: Sequence[str]) -> State:
     _, _, name, *values = words
     return State(name, headers.header(values) if values else None)
 
 
 class Change:
-    """The change from one version to the other, with names and checksums of what the answers are of."""
+    """The change from one version to the other, as far as the program answers in time."""
 
-    def __init__(self, old: Version, new: Version, sums: list[tuple[str, str]], slots: int | None = None) -> None:
+    def __init__(self, old: Version, new: Version, slots: int | None = None, deny: Iterable[str] = DENY) -> None:
         self.old, self.new, self.razor = old, new, old.razor
-        self.sums, self.slots = sums, slots
+        self.slots, self.deny = slots, frozenset(deny)
 
     @functools.cached_property
-    def difference(self) -> tuple[Header, str, str] | None:
-        """The least header that the versions decide differently, and what each decides; none where they decide alike."""
-        ended = self.razor.run("equiv", self.old.name, self.new.name)
+    def compared(self) -> tuple[bool, Difference | None]:
+        """Whether `equiv` answers in time, and the least header that the versions decide differently, if there is one."""
+        ended = self.old.run("equiv", self.old.name, self.new.name)
+        if ended is None:
+            return False, None
         if ended.status == 0:
-            return None
+            return True, None
         if ended.status != 1:
-            raise ValueError(self.named(ended.err.strip() or f"equiv ends with {ended.status}"))
+            raise self.refused(ended)
         _, *values, left, right = ended.out.split()
-        return headers.header(values), left, right
+        return True, Difference(headers.header(values), left, right)
 
-    def named(self, message: str) -> str:
-        """A message of the program with the names that the lists were given."""
+    @property
+    def difference(self) -> Difference | None:
+        return self.compared[1]
+
+    def refused(self, ended: Ended) -> RazorError:
+        """What the program said, with the names that the lists were given."""
+        message = ended.err.strip() or f"equiv ends with {ended.status}"
         for version in (self.old, self.new):
             if message.startswith(f"{version.name}: "):
-                return shown(version.title) + message.removeprefix(version.name)
-        return message
+                message = shown(version.title) + message.removeprefix(version.name)
+        return BadText("", message) if ended.status == BadText.status else BY_STATUS.get(ended.status, RazorError)(message)
 
     @functools.cached_property
-    def rows(self) -> list[Pair]:
+    def rows(self) -> list[tuple[int | None, int | None]]:
         """The rules as a patch shows them: the place of each in the old version and in the new one, of which one may be missing."""
-        before, behind = ([(rule.spans, rule.decision) for rule in version.rules] for version in (self.old, self.new))
-        found: list[Pair] = []
-        for tag, first, last, first_of_new, last_of_new in difflib.SequenceMatcher(a=before, b=behind, autojunk=False).get_opcodes():
+        sides = [[(rule.spans, rule.decision) for rule in version.rules] for version in (self.old, self.new)]
+        found: list[tuple[int | None, int | None]] = []
+        for tag, first, last, first_of_new, last_of_new in difflib.SequenceMatcher(None, *sides, autojunk=False).get_opcodes():
             if tag == "equal":
                 found += zip(range(first, last), range(first_of_new, last_of_new))
             else:
-                found += [(at, None) for at in range(first, last)] + [(None, at) for at in range(first_of_new, last_of_new)]
+                found += [(at, None) for at in range(first, last)]
+                found += [(None, at) for at in range(first_of_new, last_of_new)]
         return found
 
-    @property
-    def gone(self) -> list[lists.Rule]:
+    @functools.cached_property
+    def gone(self) -> list[Rule]:
         return [self.old.rules[old] for old, new in self.rows if old is not None and new is None]
 
-    @property
-    def put_in(self) -> list[lists.Rule]:
+    @functools.cached_property
+    def put_in(self) -> list[Rule]:
         return [self.new.rules[new] for old, new in self.rows if new is not None and old is None]
 
     @functools.cached_property
-    def search(self) -> Search:
-        """The boxes in which the versions decide differently."""
-        names = dict.fromkeys(rule.decision for rule in [*self.gone, *self.put_in, *self.old.rules, *self.new.rules])
-        asked = Lists(self.razor, (self.old.name, self.new.name), names, self.old.seconds)
-        return asked.changed([*self.gone, *self.put_in], MOST_BOXES)
+    def lists(self) -> Lists:
+        return Lists(self.razor, (self.old.name, self.new.name), [*self.old.rules, *self.new.rules], self.old.seconds)
+
+    def permits(self, old: str, new: str) -> bool:
+        """Whether a header is newly permitted that was decided so and is now."""
+        return old in self.deny and new not in self.deny
+
+    @functools.cached_property
+    def permitted(self) -> Search:
+        """The boxes that are newly permitted."""
+        return self.searched(self.permits)
+
+    @functools.cached_property
+    def denied(self) -> Search:
+        """The boxes that are newly denied."""
+        return self.searched(lambda old, new: self.permits(new, old))
+
+    @functools.cached_property
+    def others(self) -> Search:
+        """The boxes that are decided differently, and neither newly permitted nor newly denied."""
+        return self.searched(lambda old, new: (old in self.deny) == (new in self.deny))
+
+    def searched(self, is_sought: Callable[[str, str], bool]) -> Search:
+        answered, difference = self.compared
+        if answered and difference is None:
+            return Search([], True)
+        return self.lists.changed([*self.gone, *self.put_in], MOST_BOXES, is_sought)
 
     @functools.cached_property
     def turned(self) -> list[Turned] | None:
         """The rules that do nothing now and did before, or weren't there; none where `audit` gave no answer in time."""
-        old_states, new_states = self.old.states, self.new.states
-        if old_states is None or new_states is None:
+        was, now = self.old.states, self.new.states
+        if was is None or now is None:
             return None
-        before = {new: old_states[old] for old, new in self.rows if old is not None and new is not None}
-        rows = [(at, now, before.get(at)) for at, now in enumerate(new_states) if not now.is_needed]
-        return [Turned(self.new.rules[at], was, now, self.hider(at)) for at, now, was in rows if was is None or was.name != now.name]
+        before = {new: was[old] for old, new in self.rows if old is not None and new is not None}
+        rows = [(at, each, before.get(at)) for at, each in enumerate(now) if not each.is_needed]
+        return [Turned(self.new.rules[at], was, each, self.hider(at)) for at, each, was in rows if was is None or was.name != each.name]
 
-    def hider(self, at: int) -> lists.Rule | None:
+    def hider(self, at: int) -> Rule | None:
         """The first rule before this one that alone matches all that it matches, or none."""
         return next((rule for rule in self.new.rules[:at] if rule.covers(self.new.rules[at])), None)
 
     @functools.cached_property
     def plan(self) -> Plan | None:
-        """The plan of writes from the old table to the new one in place; none where there is no table, or no plan in time."""
+        """The plan of writes from the old table to the new one in place; none where there is no table, or no plan in time.
+
+        Where nobody says how many slots there are, a fifth more than the longer table has, or as many as the plan needs.
+        """
         both = [version.sizes["shorten"] for version in (self.old, self.new)]
         if not all(size.is_made for size in both):
             return None
-        slots = self.slots or max(size.count for size in both) * 6 // 5 + 1
+        plan = self.planned(self.slots or max(size.count for size in both) * 6 // 5 + 1)
+        return self.planned(plan.needed) if plan and plan.needed and not self.slots else plan
+
+    def planned(self, slots: int) -> Plan | None:
+        """The plan in so many slots, or how many it would need."""
         placed = self.old.run("place", "--slots", str(slots), self.old.table)
         if placed is None or placed.status != 0:
-            return None
+            needed = placed and NEEDED.fullmatch(placed.err)
+            return Plan(slots, [], int(needed[1])) if needed else None
         self.razor.put("memory", placed.out)
         ended = self.old.run("patch", "memory", self.new.table)
-        needed = NEEDED.fullmatch(ended.err) if ended else None
+        needed = ended and NEEDED.fullmatch(ended.err)
         if needed:
             return Plan(slots, [], int(needed[1]))
         return Plan(slots, ended.lines[1:]) if ended and ended.status == 0 and PLAN.match(ended.out) else None
@@ -218,26 +272,24 @@ class Change:
             return None
         files, folder = (self.new.name, self.new.table), self.razor.folder
         with subprocess.Popen([self.razor.program, "cert", *files], cwd=folder, stdout=subprocess.PIPE, stderr=subprocess.DEVNULL) as writing:
+            assert writing.stdout is not None
             words = [self.razor.program, "check", *files, "-"]
             try:
                 ended = subprocess.run(words, cwd=folder, stdin=writing.stdout, capture_output=True, text=True, timeout=self.new.seconds)
             except subprocess.TimeoutExpired:
                 writing.kill()
                 return Verdict(None, f"no verdict in {self.new.seconds:g} seconds")
-            if writing.stdout:
-                writing.stdout.close()
+            writing.stdout.close()
         found = VALID.fullmatch(ended.stdout)
         if ended.returncode > 1:
             return Verdict(None, ended.stderr.strip().replace("-: ", "a certificate of ", 1))
         return Verdict(ended.returncode == 0 and writing.returncode == 0, f"{int(found[1]):,} rows" if found else ended.stdout.strip())
 
 
-def context(rows: list[Pair], around: int) -> Iterator[Pair | None]:
-    """The rows at most so many rows from one that is changed; none of them stands for each run of others."""
+def context(rows: Sequence[tuple[int | None, int | None]], around: int) -> Iterator[list[tuple[int | None, int | None]]]:
+    """Runs of the rows that are at most so many rows from one that is changed."""
     changed = [at for at, pair in enumerate(rows) if None in pair]
     near = {at for change in changed for at in range(change - around, change + around + 1)}
     for is_near, group in itertools.groupby(range(len(rows)), key=near.__contains__):
         if is_near:
-            yield from (rows[at] for at in group)
-        else:
-            yield None
+            yield [rows[at] for at in group]

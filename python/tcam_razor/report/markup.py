@@ -1,8 +1,6 @@
 """HTML that is escaped by the way in which it is made."""
-from __future__ import annotations
-
 import html
-from typing import Iterable
+from typing import Any, Iterable, Sequence
 
 from tcam_razor.script import shown
 
@@ -11,18 +9,18 @@ class Html(str):
     """Text that is HTML already; any other is escaped where it is put in."""
 
 
-def element(name: str, *parts: object, **attributes: object) -> Html:
+def element(name: str, *parts: Any, **attributes: Any) -> Html:
     """An element with attributes, of which a name may end with `_`, and parts; a part may be a list of parts, or none."""
     marks = "".join(f' {key.rstrip("_").replace("_", "-")}="{html.escape(str(value))}"' for key, value in attributes.items() if value is not None)
     return Html(f"<{name}{marks}>{joined(parts)}</{name}>")
 
 
-def joined(parts: Iterable[object]) -> Html:
+def joined(parts: Iterable[Any]) -> Html:
     """Parts one behind the other."""
     return Html("".join(map(part, parts)))
 
 
-def part(it: object) -> str:
+def part(it: Any) -> str:
     if it is None:
         return ""
     if isinstance(it, Html):
@@ -30,7 +28,7 @@ def part(it: object) -> str:
     return joined(it) if isinstance(it, (list, tuple)) else html.escape(shown(it))
 
 
-def rows(head: Iterable[str], body: Iterable[Iterable[str]], **attributes: object) -> Html:
+def rows(head: Sequence[Any], body: Iterable[Iterable[Any]], **attributes: Any) -> Html:
     """A table with a head, whose rows are lists of cells."""
     return element(
         "table",
