@@ -11,7 +11,7 @@ use crate::growing::grow;
 use crate::key::key_of;
 use crate::node::Node;
 use field_boxes::Header;
-use razor_base::Memory;
+use razor_limits::Memory;
 use std::alloc::Global;
 use ternary_words::Entry;
 
@@ -52,7 +52,7 @@ fn next(key: u128, bit: u32, zero: u32, one: u32) -> u32
 
 impl Index {
     ghost use Rattle.std.specs.Prelude.{◌≡◌, ◌≤◌, IfOk, IfSome, Some, length, slice_get};
-    ghost use Rattle.razor_base.specs.declared.limits.TheConstants.{MOST_ENTRIES};
+    ghost use Rattle.razor_limits.specs.declared.limits.TheConstants.{MOST_ENTRIES};
     ghost use Rattle.ternary_words.specs.Headline.Word.{header_bits};
     ghost use Rattle.bank_index.specs.Hits.{all_slots, decision_at, first_of, hits};
 

@@ -22,7 +22,7 @@
 //! a node's slots well, the whole bank is looked through, eight slots at once. A table of fewer than 256 entries gets
 //! no index, and a `set` gives the index up.
 //!
-//! | Room | Holds |
+//! | Module | Holds |
 //! |---|---|
 //! | `indexed_bank` | a bank with its index, as a device |
 //! | `index`, `node` | the entries and the tree over them, and the way down |

@@ -1,7 +1,7 @@
 //! The words of a run at their places, with the least place of each word.
 
 use crate::key::Key;
-use razor_base::Memory;
+use razor_limits::Memory;
 use std::alloc::Global;
 use std::collections::HashMap;
 use std::marker::Model;

@@ -4,7 +4,7 @@ use crate::cube::Cube;
 use crate::fields::{FIELDS, field, lowest, place_of, up_to_highest};
 use crate::free::{free_for, passes};
 use crate::table::Table;
-use razor_base::Memory;
+use razor_limits::Memory;
 
 impl Table {
     /// Whether the table answers the same without the row; false too where that is too hard to see.

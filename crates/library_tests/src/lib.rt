@@ -3,7 +3,7 @@
 //! Worked rows of lists, tables and memories, and random ones against plain numbers. What is promised: [`Draw`], from which
 //! these are drawn, gives each number below its bound.
 //!
-//! | Room | Holds |
+//! | Module | Holds |
 //! |---|---|
 //! | `draw` | random numbers |
 //! | `tests/lists` | lists and certificates as they are read and written, what errors say, prefixes and diagrams, and lists that are compiled one after another |

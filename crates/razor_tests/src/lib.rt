@@ -3,7 +3,7 @@
 //! Nothing is promised here: the crate holds the tests of each command and of what all share, with faults at each of
 //! the first calls, and [`Setting`], what a test calls the program on.
 //!
-//! | Room | Holds |
+//! | Module | Holds |
 //! |---|---|
 //! | `setting` | inputs, outputs and words of a call |
 #![tactic(auto)]

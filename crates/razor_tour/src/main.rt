@@ -3,7 +3,7 @@
 //! What a command writes may go into a file that later commands name. Nothing is written to the disk. It is proved safe
 //! and to end, and nothing else; the gate compares what it writes, and `tools/tour` puts it into the documents.
 //!
-//! | Room | Holds |
+//! | Module | Holds |
 //! |---|---|
 //! | `steps` | the steps of the tour and the files that they begin with, as `tools/commands` has them |
 //! | `step` | a step |

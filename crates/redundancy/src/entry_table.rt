@@ -18,7 +18,7 @@ use crate::blocks::lists::Lists;
 use crate::sets::Sets;
 use crate::sifting::Memo;
 use field_boxes::Order;
-use razor_base::Memory;
+use razor_limits::Memory;
 use redundancy_laws::Context;
 use redundancy_laws::laws::{one_pass, whole_table};
 use std::alloc::Global;

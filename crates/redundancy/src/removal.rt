@@ -8,7 +8,7 @@ use crate::sets::Sets;
 use crate::sifting::Memo;
 use field_boxes::Prefix;
 use node_store::{NodeId, Store};
-use razor_base::Memory;
+use razor_limits::Memory;
 use redundancy_laws::laws::one_pass;
 use std::alloc::Global;
 use table_compose::Plans;

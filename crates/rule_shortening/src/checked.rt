@@ -3,7 +3,7 @@ ghost use Rattle.std.specs.Prelude.{IfOk, IfSome};
 ghost use Rattle.std.specs.Bool.{OnTrue};
 ghost use Rattle.rule_shortening.specs.Drafts.{AreAsShort};
 
-use razor_base::Memory;
+use razor_limits::Memory;
 use redundancy::are_prefixes;
 use std::alloc::Global;
 use table_steps::{answers_alike, are_numbered};

@@ -6,7 +6,7 @@ ghost use Rattle.rule_shortening.specs.Trimmed.{AreTrimmed};
 
 use crate::checked::STEPS;
 use field_boxes::{Decisions, Rule};
-use razor_base::Memory;
+use razor_limits::Memory;
 use redundancy::remove;
 use std::alloc::Global;
 use table_steps::laws::parts;

@@ -1,6 +1,6 @@
 //! Where each word stands in a table.
 use crate::key::Key;
-use razor_base::Memory;
+use razor_limits::Memory;
 use std::alloc::Global;
 use std::collections::HashMap;
 use ternary_words::{Entry, Word};

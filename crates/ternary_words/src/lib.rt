@@ -1,4 +1,4 @@
-//! Ternary words, entries and tables, and the text of a table.
+//! Ternary words, entries and tables, and the first entry that matches a header.
 //!
 //! A TCAM holds a list of entries, each a word of trits `0`, `1`, `*` and a decision. A key matches a word if every
 //! trit that isn't `*` equals the key's bit at its place, and a lookup answers by the first matching entry.
@@ -6,30 +6,24 @@
 //! What is promised:
 //!
 //! - [`Word::matches`] says yes exactly where every trit of the word that isn't `*` is the header's bit at its place,
-//!   of
-//! 104. [`Word::of`] makes the word of five prefixes, which matches exactly the headers that all five hold.
+//!   of 104. [`Word::of`] makes the word of five prefixes, which matches exactly the headers that all five hold.
 //! - [`Word::spans`] gives the box of the headers that the word matches, and none exactly where the word isn't a prefix
 //!   in each field.
 //! - [`look`] gives the place of the first entry that matches, and none exactly where none does; what it decides is the
 //!   table's answer ([`laws`]).
-//! - [`write_table`] writes exactly the text of its table, or after a failed write a front of it.
 //! - [`SlotWidth::of`] and [`Limit::of`] give a width or a limit exactly where it is one.
 //! - [`Table::copy`] has the same entries, with the same names under the same numbers.
-//! - [`text::read_table`] gives exactly the table that a text spells, or its first bad line.
 //!
-//! | Room | Holds |
+//! | Module | Holds |
 //! |---|---|
-//! | `word`, `masks`, `parts`, `key` | ternary words as values and masks, their prefixes, and the bits of a header |
+//! | `word`, `masks`, `parts`, `keys` | ternary words as values and masks, their prefixes, and the bits of a header |
 //! | `entry`, `table`, `lookup` | entries, tables, and the first match |
 //! | `slot_width`, `limit` | the width of a slot, and how many entries a table may have |
-//! | `write`, `hexadecimal` | the text of a table, written |
-//! | `text` | the text of a table, read |
 //! | `laws` | laws of the definitions |
 #![tactic(auto)]
 
 mod entry;
-mod hexadecimal;
-mod key;
+mod keys;
 pub mod laws;
 mod limit;
 mod lookup;
@@ -37,9 +31,7 @@ mod masks;
 mod parts;
 mod slot_width;
 mod table;
-pub mod text;
 mod word;
-mod write;
 
 pub use entry::Entry;
 pub use limit::Limit;
@@ -47,4 +39,3 @@ pub use lookup::look;
 pub use slot_width::SlotWidth;
 pub use table::Table;
 pub use word::Word;
-pub use write::{put_word, write_table};

@@ -1,7 +1,7 @@
 //! Words of 104 trits.
 ghost use Rattle.std.specs.Prelude.{◌≡◌, ◌<◌, ◌^◌, bit_and};
 
-use crate::key::key;
+use crate::keys::key;
 use crate::masks::{masks, values};
 use crate::parts::prefix_at;
 use field_boxes::{Header, Prefix, Span};

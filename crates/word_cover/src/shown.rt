@@ -10,7 +10,7 @@ use crate::sight::volume;
 use crate::splits::halves;
 use crate::words::meets;
 use field_boxes::Header;
-use razor_base::Memory;
+use razor_limits::Memory;
 use std::alloc::Global;
 use ternary_words::Word;
 

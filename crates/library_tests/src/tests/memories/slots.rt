@@ -9,8 +9,8 @@ use memory_text::{
 use razor_base::{MemSink, write_number};
 use std::process::Abort;
 use std::test::Fail;
+use table_text::TableReason;
 use ternary_words::Table;
-use ternary_words::text::TableReason;
 
 /// Two entries in eight slots.
 const HELD: &str = "memory 1 slots 8 width 144 entries 2\n\

@@ -1,7 +1,7 @@
 //! Tables that are refused, each with its first reason.
 use std::process::Abort;
 use std::test::Fail;
-use ternary_words::text::{TableError, TableReason, read_table};
+use table_text::{TableError, TableReason, read_table};
 
 /// The line and the reason of a text that is refused.
 fn check_refused<R: Abort + AllocGlobal>(rt: &R, text: &[u8], line: u64, reason: TableReason) {

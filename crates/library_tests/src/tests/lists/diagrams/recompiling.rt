@@ -2,15 +2,15 @@
 ghost use Rattle.std.specs.Prelude.{◌≤◌, All, IfOk, length};
 ghost use Rattle.field_boxes.specs.NamedRules.{IsNumberedBy};
 
-use field_boxes::{Decisions, Order, Rule};
-use filter_reader::RuleList;
+use field_boxes::{Decisions, Order, Rule, RuleList};
 use list_generator::generate;
 use razor_base::{MemSink, Memory};
 use rule_compilation::{Compiler, compile};
 use std::alloc::Global;
 use std::process::Abort;
 use std::test::Fail;
-use ternary_words::{Limit, SlotWidth, Table, write_table};
+use table_text::write_table;
+use ternary_words::{Limit, SlotWidth, Table};
 
 /// As many rules as a list has before it is edited.
 const RULES: u32 = 24;
