@@ -6,7 +6,7 @@ use Rattle.field_boxes.specs.Headline.Bits.{bits}
 use Rattle.field_boxes.specs.Headline.Fields.{width}
 use Rattle.field_boxes.proofs.Bits.{length-bits, bits-add, bits-mod}
 use Rattle.ternary_words.specs.Word.{trits, mask_bit}
-use Rattle.table_text.proofs.TritTexts.{length-trits, mask-bits, shifted_within, trits-append, value-bits}
+use Rattle.ternary_words.proofs.TritBits.{length-trits, mask-bits, shifted_within, trits-append, value-bits}
 use Rattle.table_text.specs.Headline.Hexadecimal.{bit_number, hex_digit, hex_digits}
 use Rattle.table_text.specs.Headline.TableText.{column_text, columns_text}
 

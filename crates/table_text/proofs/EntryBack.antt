@@ -13,7 +13,7 @@ use Rattle.table_text.specs.Headline.TableText.{column_text, columns_text, entry
 use Rattle.ternary_words.specs.Headline.Word.{field_bits}
 use Rattle.ternary_words.specs.Word.{trits, mask_bit}
 use Rattle.table_text.proofs.ColumnTexts.{column_of}
-use Rattle.table_text.proofs.TritTexts.{length-trits, mask-bits, trits-append, value-bits}
+use Rattle.ternary_words.proofs.TritBits.{length-trits, mask-bits, trits-append, value-bits}
 use Rattle.table_text.specs.declared.error.TableReason.TheVariants.{Decision, OutsideMask}
 use Rattle.table_text.specs.Columns.{Fields, LineColumns, Masked, are_within, columns_of, fields_of, is_within, masked_of, word_of_fields}
 use Rattle.table_text.specs.Lines.{Line}

@@ -6,7 +6,7 @@ use Rattle.std.proofs.lemmas.List.{map_more, take_all}
 use Rattle.field_boxes.specs.Headline.Bits.{bits}
 use Rattle.field_boxes.proofs.Bits.{length-bits, bits-add}
 use Rattle.ternary_words.specs.Word.{trit, trits}
-use Rattle.table_text.proofs.TritTexts.{trits-append}
+use Rattle.ternary_words.proofs.TritBits.{trits-append}
 use Rattle.table_text.specs.Trits.{trit_of}
 
 -- one bit behind those of a number
