@@ -8,12 +8,11 @@ ghost use Rattle.bank_index.specs.declared.index.TheConstants.{STEPS};
 
 use crate::bit::has_bit;
 use crate::growing::grow;
-use crate::key::key_of;
 use crate::node::Node;
 use field_boxes::Header;
 use razor_limits::Memory;
 use std::alloc::Global;
-use ternary_words::Entry;
+use ternary_words::{Entry, key};
 
 /// The most nodes on a way down.
 const STEPS: u32 = 48;
@@ -87,7 +86,7 @@ impl Index {
         ensures { IfSome result (λ slots. first_of self.now.entries.items (header_bits header.now.values) slots.now
             ≡ first_of self.now.entries.items (header_bits header.now.values) (all_slots self.now.entries.items)) }
     {
-        let key = key_of(header);
+        let key = key(header.values);
         let mut place = self.root;
         for _step in 0..STEPS {
             match self.node(place) {

@@ -28,7 +28,7 @@
 //! | `index`, `node` | the entries and the tree over them, and the way down |
 //! | `growing`, `parting`, `sides` | the tree grown, and its slots parted by a bit |
 //! | `choosing`, `tally` | the choice of bits, of which no proof speaks |
-//! | `bit`, `key` | the bits of a header and of a word |
+//! | `bit` | the bits of a header and of a word |
 #![tactic(auto)]
 
 mod bit;
@@ -36,7 +36,6 @@ mod choosing;
 mod growing;
 mod index;
 mod indexed_bank;
-mod key;
 mod node;
 mod parting;
 mod sides;

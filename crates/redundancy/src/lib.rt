@@ -66,3 +66,4 @@ mod sifting;
 
 pub use entry_table::{are_prefixes, remove, remove_in};
 pub use removal::Removal;
+pub use ternary_words::are_prefixes;

@@ -38,9 +38,8 @@ impl<'a> Removal<'a> {
     ghost use Rattle.table_compose.specs.Plans.{ArePlansOf, IsMarked};
     ghost use Rattle.table_compose.specs.Rows.{rows_at};
     ghost use Rattle.table_compose.specs.Composed.{HaveLists, IsAnswer, IsPlaced, boxes, open_all};
-    ghost use Rattle.redundancy_laws.specs.Built.{ArePrefixes};
+    ghost use Rattle.ternary_words.specs.Entries.{ArePrefixes, answer};
     ghost use Rattle.field_boxes.specs.Alike.{IsTight};
-    ghost use Rattle.ternary_words.specs.Entries.{answer};
     ghost use Rattle.redundancy_laws.specs.Flags.{with_flags};
     ghost use Rattle.field_boxes.specs.Orders.{IsOrder, picked};
     ghost use Rattle.redundancy_laws.specs.Pass.{Keeps};

@@ -1,6 +1,6 @@
 //! Tables without their redundant entries, by covers.
 ghost use Rattle.std.specs.Prelude.{IfOk, IfSome, length};
-ghost use Rattle.redundancy_laws.specs.Built.{ArePrefixes};
+ghost use Rattle.ternary_words.specs.Entries.{ArePrefixes};
 ghost use Rattle.rule_shortening.specs.Drafts.{AreFor, AreShortFor};
 ghost use Rattle.rule_shortening.specs.Trimmed.{AreTrimmed};
 

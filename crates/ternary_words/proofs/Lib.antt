@@ -10,3 +10,4 @@ pub mod OnesInFront
 pub mod Parted
 pub mod Spanned
 pub mod TritBits
+pub mod Listed

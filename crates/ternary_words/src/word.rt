@@ -8,7 +8,7 @@ use field_boxes::{Header, Prefix, Span};
 
 /// A word of 104 trits, over the keys of headers. Place `p` counts from the highest bit of the source
 /// address; its trit is `*` where bit `103 - p` of `mask` is 0, and else that bit of `value`.
-#[derive(Clone, Copy, Debug, PartialEq, Eq)]
+#[derive(Clone, Copy, Debug, PartialEq, Eq, Hash)]
 pub struct Word {
     pub value: u128,
     pub mask: u128,

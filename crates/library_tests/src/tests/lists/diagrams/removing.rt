@@ -1,10 +1,10 @@
 //! Worked tables without their redundant entries.
 use razor_base::Memory;
-use redundancy::{are_prefixes, remove};
+use redundancy::remove;
 use std::alloc::Global;
 use std::process::Abort;
 use std::test::Fail;
-use ternary_words::{Entry, Word};
+use ternary_words::{Entry, Word, are_prefixes};
 
 /// The mask of the highest eight trits.
 const FIRST_BYTE: u128 = 0xff << 96;

@@ -3,8 +3,8 @@ use Rattle.std.proofs.lemmas.Bool.{true≢false}
 use Rattle.ternary_words.specs.declared.entry.Entry.{Entry}
 use Rattle.ternary_words.specs.Prefixes.{IsPrefixInEach}
 use Rattle.ternary_words.specs.Views.{word_of}
-use Rattle.redundancy.proofs.WholeFlags.{up_to_next}
-use Rattle.redundancy.proofs.entry_table.are_prefixes.Goals as goal
+use Rattle.ternary_words.proofs.Listed.{up_to_next}
+use Rattle.ternary_words.proofs.prefix_words.are_prefixes.Goals as goal
 
 pub loop-entry-preserved : goal.loop-entry-preserved
 loop-entry-preserved c =
