@@ -12,12 +12,11 @@
 //! | Module | Holds |
 //! |---|---|
 //! | `table`, `runs` | the call, and the runs of a table |
-//! | `merging`, `places`, `partner`, `joining`, `key` | the words of a run, their least partners, and their joins |
+//! | `merging`, `places`, `partner`, `joining` | the words of a run, their least partners, and their joins |
 //! | `laws` | laws of the definitions |
 #![tactic(auto)]
 
 mod joining;
-mod key;
 pub mod laws;
 mod merging;
 mod partner;
