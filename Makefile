@@ -24,24 +24,16 @@ fmt: ## lay out the files of all crates
 	for crate in crates/*/; do (cd $$crate && rt fmt) || exit; done
 
 docs: ## make the documents that are written from other files
-	tools/docs
-	tools/testing
+	.ci/docs/all
 
 check-docs: ## see that the documents are current, and name what is there
-	tools/docs --check
-	tools/testing --check
+	.ci/docs/all --check
 
 try: ## try the program PROGRAM on random inputs
-	tools/fuzz --seconds 60 $(PROGRAM)
-	tools/try-certificates $(PROGRAM)
-	tools/try-audits $(PROGRAM)
-	tools/try-sessions $(PROGRAM)
-	tools/try-shorten $(PROGRAM)
-	tools/try-patches $(PROGRAM)
-	tools/try-orders $(PROGRAM)
-	tools/try-report $(PROGRAM)
-	tools/try-stack $(PROGRAM)
-	tools/try-tools $(PROGRAM)
+	tests/fuzz/run --seconds 60 $(PROGRAM)
+	tests/try --program $(PROGRAM)
+	tests/edge/stack $(PROGRAM)
+	tests/edge/tools $(PROGRAM)
 
 gate: ## the merge gate: all proofs, edits, tests and programs, and the documents
 	.ci/run

@@ -13,12 +13,13 @@ import sys
 import tempfile
 import time
 
-ROOT = pathlib.Path(__file__).resolve().parent.parent
-RUNS = 3
+ROOT = pathlib.Path(__file__).resolve().parents[1]
+sys.path[:0] = [str(ROOT / "python"), str(ROOT / "tools")]
 
-sys.path.append(str(ROOT / "tools"))
 from building.programs import program
-from calling.script import fail, shown
+from tcam_razor.script import fail, shown
+
+RUNS = 3
 
 
 def time_tool():

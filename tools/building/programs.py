@@ -5,7 +5,7 @@ import subprocess
 import sys
 
 from building.sources import ROOT
-from calling.script import shown
+from tcam_razor.script import shown
 
 # The variables of the environment by which the program of a crate can be given.
 GIVEN = {"razor_cli": "RAZOR", "razor_bench": "RAZOR_BENCH"}

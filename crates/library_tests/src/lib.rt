@@ -1,18 +1,14 @@
 //! Tests of the libraries.
 //!
-//! Worked rows of lists, tables and memories, and random ones against plain numbers. What is promised: [`Draw`], from which
-//! these are drawn, gives each number below its bound.
+//! Worked rows of what no command of the program reaches; the rows of commands stand in `tests/rows` and run over the built
+//! program. Nothing is promised here.
 //!
-//! | Module | Holds |
+//! | Room | Holds |
 //! |---|---|
-//! | `draw` | random numbers |
-//! | `tests/lists` | lists and certificates as they are read and written, what errors say, prefixes and diagrams, and lists that are compiled one after another |
-//! | `tests/tables` | texts of tables, words that cover a word, steps that keep a table's answers, the search that shortens tables, and entries that are joined; small tables at each of sixteen keys |
-//! | `tests/memories` | memories whose tables are replaced: plans, traces, scripts and sessions, over inputs, outputs and devices that fail, against banks that are filled anew and lists in plain numbers |
+//! | `tests/lists` | diagrams, least costs and prefix lists, covers of intervals, certificates row by row, written lists, what errors say |
+//! | `tests/tables` | words that cover a word, at each of sixteen keys; steps that keep a table's answers, and redundant entries |
+//! | `tests/memories` | scripts and sessions over memories of which some writes fail |
 #![tactic(auto)]
 
-mod draw;
 #[cfg(test)]
 mod tests;
-
-pub use draw::Draw;

@@ -1,9 +1,9 @@
-//! Worked calls of the program, over inputs and outputs in memory: the tests of the top call.
+//! Calls of the program over inputs and outputs in memory that fail or are full: the tests of the top call.
 //!
-//! Nothing is promised here: the crate holds the tests of each command and of what all share, with faults at each of
-//! the first calls, and [`Setting`], what a test calls the program on.
+//! Nothing is promised here: the crate holds tests with a fault at each of the first reads and writes, and [`Setting`], what
+//! a test calls the program on. What the program does otherwise is shown by rows over files (`tests/rows`).
 //!
-//! | Module | Holds |
+//! | Room | Holds |
 //! |---|---|
 //! | `setting` | inputs, outputs and words of a call |
 #![tactic(auto)]

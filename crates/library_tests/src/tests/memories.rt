@@ -1,21 +1,5 @@
-//! Memories whose tables are replaced.
+//! Memories of which some writes fail, as no command has them: tables are replaced past these writes.
 
-mod action;
-mod bank;
-mod drawing;
-mod driving;
-mod editing;
-mod edits;
-mod expected;
-mod in_place;
-mod lists;
-mod patching;
-mod plain_list;
-mod random;
-mod reading;
-mod refusing;
-mod running;
+mod devices;
+mod scripts;
 mod sessions;
-mod slots;
-mod table;
-mod tracing;

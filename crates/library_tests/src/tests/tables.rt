@@ -1,9 +1,6 @@
 //! Ternary tables.
 
 mod covers;
-mod index;
-mod merging;
-mod search;
+mod removing;
 mod small;
 mod steps;
-mod texts;

@@ -1,9 +1,57 @@
 //! Tests of failing reads and writes.
-use super::{ROOM, WEB, WEB_TABLE, call};
+use super::{ROOM, call};
 use crate::setting::{Setting, calm};
 use razor_base::{MemDesk, MemSink};
 use razor_core::{Words, razor};
+use std::process::Abort;
 use std::test::Fail;
+
+/// One source, one destination port, one protocol.
+const WEB: &[u8] = b"@10.0.0.0/8\t0.0.0.0/0\t0 : 65535\t80 : 80\t0x06/0xFF\tweb\n";
+
+/// The table of the rule above.
+const WEB_TABLE: &[u8] =
+    b"table 2 slot 144 composed 1 entries 1\n0A000000/FF000000 00000000/00000000 0000/0000 0050/FFFF 06/FF web\n";
+
+/// Expands the list, and compares the status, the output and the line on standard error.
+fn check_expand(
+    rt: &(impl Abort + AllocGlobal),
+    setting: Setting<'_>,
+    status: u8,
+    out: &[u8],
+    err: &[u8],
+) -> Result<(), Fail> {
+    let outcome = call(rt.alloc(), &["expand", "in"], setting)?;
+    assert!(rt; outcome.status == status);
+    assert!(rt; outcome.out.bytes() == out);
+    assert!(rt; outcome.err.bytes() == err);
+    Ok(())
+}
+
+#[test]
+fn names_each_fault(rt: HostRuntime) -> Result<(), Fail> {
+    let failing_read = Setting {
+        failing_read: 1,
+        ..calm(WEB)
+    };
+    check_expand(&rt, failing_read, 5, b"", b"in: read fault\n")?;
+    let failing_write = Setting {
+        failing_write: 1,
+        ..calm(WEB)
+    };
+    check_expand(&rt, failing_write, 6, b"", b"write fault\n")?;
+    let failing_line = Setting {
+        failing_line: 1,
+        ..calm(WEB)
+    };
+    check_expand(&rt, failing_line, 0, WEB_TABLE, b"")?;
+    let failing_both = Setting {
+        failing_write: 1,
+        failing_line: 1,
+        ..calm(WEB)
+    };
+    check_expand(&rt, failing_both, 6, b"", b"")
+}
 
 #[test]
 fn answers_the_same_or_the_fault(rt: HostRuntime) -> Result<(), Fail> {

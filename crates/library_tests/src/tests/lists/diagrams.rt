@@ -5,6 +5,4 @@ mod joints;
 mod nodes;
 mod orders;
 mod prefix_lists;
-mod recompiling;
-mod removing;
 mod stores;

@@ -1,9 +1,6 @@
-//! The tests of texts, desks, sinks and covers.
+//! The tests of texts, files and covers.
 
 mod covers;
-mod lists;
 mod real_files;
-mod reasons;
 mod rows;
-mod writes;
 mod written_lists;

@@ -1,117 +1,189 @@
-//! Random sessions where some writes fail, against lists in plain numbers and tables that are compiled anew.
-ghost use Rattle.std.specs.Prelude.{All};
-ghost use Rattle.field_boxes.specs.NamedRules.{IsNumberedBy};
-
-use super::drawing::failing;
-use super::editing::{editor, run};
-use super::edits::{Edit, drawn};
-use super::expected::SLOTS;
-use super::lists::{Compiled, LIMIT, Lists};
-use super::plain_list::{destination, word};
-use crate::Draw;
-use edit_session::Editor;
-use field_boxes::{Header, Order, Rule};
-use razor_base::MemSink;
-use rule_compilation::compile;
-use std::alloc::Global;
+//! Worked sessions over a device of which some writes fail.
+use super::devices::bank;
+use edit_session::{Editor, Method, Replaced, read_session, session_on};
+use field_boxes::Order;
+use filter_reader::read_list;
+use razor_base::{MemSink, Memory};
+use slot_patch::SlotTable;
 use std::process::Abort;
 use std::test::Fail;
-use table_compose::ComposeError;
 use tcam_sim::FaultyBank;
 use ternary_words::{Limit, SlotWidth};
 
-/// What comes of compiling the list of the editor anew.
-fn compiled(alloc: Global, editor: &Editor<'_, FaultyBank>) -> Result<Compiled, Fail> {
-    let rules = editor.rules(alloc)?;
-    compiled_of(alloc, rules.as_slice(), editor)
+/// A session of a list of one rule in four slots, the numbers of writes that fail, its lines, and how many rules the list has
+/// then.
+#[derive(Clone, Copy)]
+struct Script {
+    failing: [u64; 2],
+    text: &'static str,
+    lines: &'static str,
+    commands: u64,
+    rules: usize,
 }
 
-/// What comes of compiling these rules, with the names of the editor.
-fn compiled_of(
-    alloc: Global,
-    rules: &[Rule],
-    editor: &Editor<'_, FaultyBank>,
-) -> Result<Compiled, Fail>
-    requires { All (IsNumberedBy editor.now.session.list.names) rules.now }
-{
-    let limit = Limit { count: LIMIT };
-    match compile(alloc, rules, editor.names(), limit, SlotWidth { bits: 144 }) {
-        Ok(table) => Ok(Compiled::Entries(table.entries.len() as u32)),
-        Err(ComposeError::TooMany { needed, .. }) => Ok(Compiled::TooMany(needed)),
-        Err(ComposeError::Memory) => Err("memory was refused".into()),
+const LIST: &str = "@0.0.0.0/0\t0.0.0.0/0\t0 : 65535\t0 : 65535\t0x06/0xFF accept\n";
+
+const LIMIT: Limit = Limit { count: 262_144 };
+
+const SCRIPTS: [Script; 4] = [
+    // The first write of the second swap fails.
+    Script {
+        failing: [2, 0],
+        text: "commit\nstep\nlook 0 0 0 0 6\n\
+            add 1 @0.0.0.0/0\t0.0.0.0/0\t0 : 65535\t0 : 65535\t0x06/0xFF deny\nlook 0 0 0 0 6\n\
+            commit\nlook 0 0 0 0 6\ncommit\n\
+            step\nstep\nlook 0 0 0 0 6\nstep\nlook 0 0 0 0 6\n\
+            drop 5\ndrop 1\ncommit\n",
+        lines: "begun 1\nstage 1 of 1\naccept\nrules 2\naccept\nbegun 2\naccept\nbusy\n\
+            device fault\nstage 1 of 2\naccept\nstage 2 of 2\ndeny\nno place 2\nrules 1\nbegun 2\n",
+        commands: 16,
+        rules: 1,
+    },
+    // The entry of the first list stays where it is to be cleared.
+    Script {
+        failing: [3, 0],
+        text: "commit\nstep\nadd 1 @0.0.0.0/0\t0.0.0.0/0\t0 : 65535\t0 : 65535\t0x06/0xFF deny\n\
+            commit\nstep\nstep\nlook 0 0 0 0 6\nstage\ncommit\nstep\nlook 0 0 0 0 6\n",
+        lines: "begun 1\nstage 1 of 1\nrules 2\n\
+            begun 2\nstage 1 of 2\ndevice fault\naccept\nstage 1 of 2\nbusy\nstage 2 of 2\ndeny\n",
+        commands: 11,
+        rules: 2,
+    },
+    // The swap goes back, and that fails once.
+    Script {
+        failing: [3, 0],
+        text: "commit\nstep\nadd 1 @0.0.0.0/0\t0.0.0.0/0\t0 : 65535\t0 : 65535\t0x06/0xFF deny\n\
+            commit\nstep\nabort\nstep\nlook 0 0 0 0 6\nstage\nstep\nlook 0 0 0 0 6\nstage\n",
+        lines: "begun 1\nstage 1 of 1\nrules 2\n\
+            begun 2\nstage 1 of 2\nstage 1 of 2 back\ndevice fault\naccept\nstage 1 of 2 back\n\
+            stage 0 of 2 back\naccept\nidle\n",
+        commands: 12,
+        rules: 2,
+    },
+    // Nothing is settled until the third try.
+    Script {
+        failing: [1, 2],
+        text: "look 0 0 0 0 6\ncommit\nstep\nlook 0 0 0 0 6\nstep\nstage\nstep\nlook 0 0 0 0 6\nstage\n",
+        lines: "miss\nbegun 1\ndevice fault\nmiss\ndevice fault\nstage 0 of 1\nstage 1 of 1\naccept\nidle\n",
+        commands: 9,
+        rules: 1,
+    },
+];
+
+/// Tables are patched in place.
+const IN_PLACE: [Script; 2] = [
+    // Another decision is one write, which fails once.
+    Script {
+        failing: [2, 0],
+        text: "commit\nstep\nlook 0 0 0 0 6\n\
+            add 1 @0.0.0.0/0\t0.0.0.0/0\t0 : 65535\t0 : 65535\t0x06/0xFF deny\nlook 0 0 0 0 6\n\
+            commit\nlook 0 0 0 0 6\ncommit\n\
+            step\nlook 0 0 0 0 6\nstage\nstep\nlook 0 0 0 0 6\nstage\n",
+        lines: "begun 1\nstage 1 of 1\naccept\nrules 2\naccept\nbegun 1\naccept\nbusy\n\
+            device fault\naccept\nstage 0 of 1\nstage 1 of 1\ndeny\nidle\n",
+        commands: 14,
+        rules: 2,
+    },
+    // Another word is two writes. The way back fails once.
+    Script {
+        failing: [3, 0],
+        text: "commit\nstep\ndrop 1\n\
+            add 1 @0.0.0.0/0\t0.0.0.0/0\t0 : 65535\t0 : 65535\t0x11/0xFF deny\n\
+            commit\nstep\nlook 0 0 0 0 6\nlook 0 0 0 0 17\n\
+            abort\nstep\nlook 0 0 0 0 17\nstep\nlook 0 0 0 0 6\nlook 0 0 0 0 17\nstage\n",
+        lines: "begun 1\nstage 1 of 1\nrules 0\nrules 1\n\
+            begun 2\nstage 1 of 2\naccept\ndeny\n\
+            stage 1 of 2 back\ndevice fault\ndeny\nstage 0 of 2 back\naccept\nmiss\nidle\n",
+        commands: 15,
+        rules: 1,
+    },
+];
+
+/// A session over the list and an empty device, whose writes of these numbers fail. Each table is written whole.
+fn editor<'a, R: Abort + AllocGlobal>(
+    rt: &R,
+    order: &'a Order,
+    failing: [u64; 2],
+) -> Result<Editor<'a, FaultyBank>, Fail> {
+    let list = read_list(rt.alloc(), LIST.as_bytes())?;
+    let bank = bank(rt, rt.alloc(), 4, failing)?;
+    let method = Method::Compiled(order);
+    let slot = SlotWidth { bits: 144 };
+    Ok(Editor::new(rt.alloc(), list, method, slot, LIMIT, bank))
+}
+
+type InPlace<'a> = Editor<'a, FaultyBank, SlotTable>;
+
+/// The session that was made.
+fn made<'a>(answer: Result<InPlace<'a>, (FaultyBank, Memory)>) -> Result<InPlace<'a>, Fail> {
+    match answer {
+        Ok(editor) => Ok(editor),
+        Err(_) => Err("memory was refused".into()),
     }
 }
 
-/// Does the command, and compares its line with two of which it is one.
-fn check<R: Abort + AllocGlobal>(
+/// The same, but each table is written in the slots where the old one stands.
+fn in_place<'a, R: Abort + AllocGlobal>(
     rt: &R,
-    editor: &mut Editor<'_, FaultyBank>,
+    order: &'a Order,
+    failing: [u64; 2],
+) -> Result<InPlace<'a>, Fail> {
+    let list = read_list(rt.alloc(), LIST.as_bytes())?;
+    let bank = bank(rt, rt.alloc(), 4, failing)?;
+    let method = Method::Compiled(order);
+    let slot = SlotWidth { bits: 144 };
+    made(Editor::in_place(rt.alloc(), list, method, slot, LIMIT, bank))
+}
+
+/// Does the commands of the text, and answers how many there are.
+fn run<R: Abort + AllocGlobal, T: Replaced>(
+    rt: &R,
+    editor: &mut Editor<'_, FaultyBank, T>,
     text: &str,
-    one: &str,
-    other: &str,
+    out: &mut MemSink,
+) -> Result<u64, Fail> {
+    assert!(rt; editor.names().count() < 1000);
+    assert!(rt; text.len() < 4000);
+    let session = read_session(rt.alloc(), text.as_bytes())?;
+    Ok(session_on(rt.alloc(), &session, editor, out)?)
+}
+
+/// Does the commands, and compares the lines and the number of rules.
+fn check<R: Abort + AllocGlobal, T: Replaced>(
+    rt: &R,
+    script: &Script,
+    editor: &mut Editor<'_, FaultyBank, T>,
 ) -> Result<(), Fail> {
-    let mut out = MemSink::new(rt.alloc(), 100)?;
-    let ran = run(rt, editor, text, &mut out)?;
-    assert!(rt; ran == Some(1));
-    assert!(rt; out.bytes() == one.as_bytes() || out.bytes() == other.as_bytes());
+    let mut out = MemSink::new(rt.alloc(), 1000)?;
+    let ran = run(rt, editor, script.text, &mut out)?;
+    assert!(rt; ran == script.commands);
+    assert!(rt; out.bytes() == script.lines.as_bytes());
+    let rules = editor.rules(rt.alloc())?;
+    assert!(rt; rules.len() == script.rules);
     Ok(())
 }
 
-/// Does the command, and compares its line.
-fn turn<R: Abort + AllocGlobal>(
-    rt: &R,
-    editor: &mut Editor<'_, FaultyBank>,
-    lists: &mut Lists,
-    edit: Edit,
-) -> Result<(), Fail> {
-    let (one, other) = lists.take(edit, compiled(rt.alloc(), editor)?);
-    let text = edit.text(rt.alloc())?;
-    let one = one.text(rt.alloc())?;
-    let other = other.text(rt.alloc())?;
-    check(rt, editor, &text, &one, &other)
-}
-
-/// Looks at the eight headers: each is decided as by the list of the settled table, or by that of the pending one.
-fn compare(rt: &impl Abort, editor: &Editor<'_, FaultyBank>, lists: &Lists) {
-    for header in 0..8 {
-        let (settled, pending) = lists.both(header);
-        let values = [0, destination(header), 0, 0, header % 4];
-        let found = editor.look(&Header { values });
-        assert!(rt; found == word(settled) || found == word(pending));
-    }
-}
-
-/// Fifty random commands over the session, of whose writes these fail.
-fn play<R: Abort + AllocGlobal>(
-    rt: &R,
-    draw: &mut Draw,
-    editor: &mut Editor<'_, FaultyBank>,
-    failing: [u64; 4],
-) -> Result<(), Fail> {
-    let mut lists = Lists::new(failing);
-    for _ in 0..50 {
-        let edit = drawn(draw, lists.list.count);
-        turn(rt, editor, &mut lists, edit)?;
-        compare(rt, editor, &lists);
-    }
-    Ok(())
-}
-
-/// A random session.
-fn trial<R: Abort + AllocGlobal>(rt: &R, draw: &mut Draw) -> Result<(), Fail> {
-    let writes = failing(draw);
+/// Compares a session whose tables are written whole.
+fn check_whole<R: Abort + AllocGlobal>(rt: &R, script: &Script) -> Result<(), Fail> {
     let order = Order::stated();
-    let mut editor = editor(rt, &order, SLOTS, LIMIT, writes, "")?;
-    let played = play(rt, draw, &mut editor, writes);
-    drop(editor);
-    played
+    let mut editor = editor(rt, &order, script.failing)?;
+    check(rt, script, &mut editor)
+}
+
+/// Compares a session whose tables are written in place.
+fn check_in_place<R: Abort + AllocGlobal>(rt: &R, script: &Script) -> Result<(), Fail> {
+    let order = Order::stated();
+    let mut editor = in_place(rt, &order, script.failing)?;
+    check(rt, script, &mut editor)
 }
 
 #[test]
-fn random_sessions_look_as_lists_decide(rt: HostRuntime) -> Result<(), Fail> {
-    let mut draw = Draw(20);
-    for _ in 0..60 {
-        trial(&rt, &mut draw)?;
+fn a_session_goes_on_past_device_faults(rt: HostRuntime) -> Result<(), Fail> {
+    for script in &SCRIPTS {
+        check_whole(&rt, script)?;
+    }
+    for script in &IN_PLACE {
+        check_in_place(&rt, script)?;
     }
     Ok(())
 }

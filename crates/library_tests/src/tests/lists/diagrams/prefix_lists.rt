@@ -63,11 +63,7 @@ fn weights_decide(rt: HostRuntime) -> Result<(), Fail> {
         8,
         7,
         &[(64, 2, 1), (192, 2, 1), (0, 0, 0)],
-    )
-}
-
-#[test]
-fn rows_stand_between_the_field_and_its_constant_parts(rt: HostRuntime) -> Result<(), Fail> {
+    )?;
     // Sixteenths: A, seven B, seven A, B. Rows at constant parts and at the field alone would cost 5.
     expect(
         &rt,
@@ -82,11 +78,8 @@ fn rows_stand_between_the_field_and_its_constant_parts(rt: HostRuntime) -> Resul
         8,
         4,
         &[(0, 4, 0), (240, 4, 1), (0, 1, 1), (0, 0, 0)],
-    )
-}
-
-#[test]
-fn one_label_needs_one_row(rt: HostRuntime) -> Result<(), Fail> {
+    )?;
+    // One label needs one row.
     expect(
         &rt,
         rt.alloc(),

@@ -26,19 +26,15 @@ fn joined_node(
     Ok(second)
 }
 
-/// What the store has of that node.
-fn expect_joined(rt: &impl Abort, store: &Store, [low, high]: [NodeId; 2], node: NodeId) {
+/// What the store has of that node, and of the leaf of the decision 0.
+fn expect_made(rt: &impl Abort, store: &Store, [low, high]: [NodeId; 2], node: NodeId) {
     expect_level(rt, store, node, &[4]);
     let merged = [Edge { hi: 9, to: low }, Edge { hi: 255, to: high }];
     assert_eq!(rt; store.edges(node), merged.as_slice());
     assert_eq!(rt; store.decision(node), None);
-}
-
-/// What the store has of the leaf of the decision 0.
-fn expect_leaf(rt: &impl Abort, store: &Store, leaf: NodeId) {
-    expect_level(rt, store, leaf, &[]);
-    assert_eq!(rt; store.edges(leaf).len(), 0);
-    assert_eq!(rt; store.decision(leaf), Some(0));
+    expect_level(rt, store, low, &[]);
+    assert_eq!(rt; store.edges(low).len(), 0);
+    assert_eq!(rt; store.decision(low), Some(0));
 }
 
 #[test]
@@ -46,7 +42,6 @@ fn leaves_and_nodes_have_one_number(rt: HostRuntime) -> Result<(), Fail> {
     let mut store = Store::new(rt.alloc());
     let leaves = leaves(&rt, &mut store)?;
     let node = joined_node(&rt, &mut store, leaves)?;
-    expect_joined(&rt, &store, leaves, node);
-    expect_leaf(&rt, &store, leaves[0]);
+    expect_made(&rt, &store, leaves, node);
     Ok(())
 }

@@ -7,38 +7,6 @@ use partition_check::{NotPrefix, Stop, Why, Wrong};
 use std::test::Fail;
 use table_compose::ComposeError;
 
-/// Why a line of a list is bad, in words.
-const REASONS: [(Reason, &str); 15] = [
-    (Reason::NoAt, "no @"),
-    (Reason::Address, "address"),
-    (Reason::Length, "length"),
-    (Reason::PortForm, "port form"),
-    (Reason::PortOrder, "port order"),
-    (Reason::PortRange, "port range"),
-    (Reason::ProtocolForm, "protocol form"),
-    (Reason::ProtocolMask, "protocol mask"),
-    (Reason::FlagsForm, "flags form"),
-    (Reason::DecisionForm, "decision form"),
-    (Reason::Reserved, "reserved word"),
-    (Reason::Extra, "extra column"),
-    (Reason::TooManyRules, "one rule too many"),
-    (Reason::NotAscii, "byte not ASCII"),
-    (Reason::TooManyRanges, "too many ranges"),
-];
-
-#[test]
-fn errors_of_lists_name_the_line_and_its_reason(rt: HostRuntime) -> Result<(), Fail> {
-    for (reason, words) in REASONS {
-        check(&rt, &reason, words)?;
-    }
-    let bad = ListError::BadLine {
-        line: 7,
-        reason: Reason::PortOrder,
-    };
-    check(&rt, &bad, "line 7: port order")?;
-    check(&rt, &ListError::Memory, "memory was refused")
-}
-
 /// Why a certificate is wrong, in words.
 const WHYS: [(Why, &str); 7] = [
     (Why::Form, "wrong row 4: form"),
@@ -60,46 +28,40 @@ const WHYS: [(Why, &str); 7] = [
 ];
 
 #[test]
-fn what_stops_a_check_is_said(rt: HostRuntime) -> Result<(), Fail> {
-    for (why, words) in WHYS {
-        check(&rt, &Stop::Wrong(Wrong { row: 4, why }), words)?;
-    }
-    check(&rt, &Stop::ReadFault, "a read failed")?;
-    check(
-        &rt,
-        &Stop::TooLong,
-        "the certificate is longer than the limit",
-    )
-}
-
-#[test]
-fn errors_of_certificates_say_why_there_is_none(rt: HostRuntime) -> Result<(), Fail> {
-    let Some(header) = Header::new([10, 20, 30, 40, 50]) else {
-        panic!(rt);
+fn errors_of_lists_say_what_is_wrong(rt: HostRuntime) -> Result<(), Fail> {
+    let bad = ListError::BadLine {
+        line: 7,
+        reason: Reason::PortOrder,
     };
-    let differs = CertError::Differs {
-        header,
-        left: 1,
-        right: 2,
-    };
-    let words = "the word of entry 3, counted from 0, is not a prefix in each field";
-    check(
-        &rt,
-        &differs,
-        "list and table differ on the header [10, 20, 30, 40, 50]",
-    )?;
-    check(&rt, &NotPrefix { entry: 3 }, words)?;
-    check(&rt, &CertError::NotPrefix { entry: 3 }, words)?;
-    check(&rt, &CertError::Fault, "a write failed")?;
-    check(&rt, &CertError::Memory, "memory was refused")
-}
-
-#[test]
-fn a_table_that_is_too_large_says_what_it_needs(rt: HostRuntime) -> Result<(), Fail> {
+    check(&rt, &bad, "line 7: port order")?;
+    check(&rt, &ListError::Memory, "memory was refused")?;
     let many = ComposeError::TooMany {
         needed: 262_145,
         limit: 262_144,
     };
     check(&rt, &many, "262145 entries needed, limit 262144")?;
     check(&rt, &ComposeError::Memory, "memory was refused")
+}
+
+#[test]
+fn errors_of_certificates_say_what_is_wrong(rt: HostRuntime) -> Result<(), Fail> {
+    for (why, words) in WHYS {
+        check(&rt, &Stop::Wrong(Wrong { row: 4, why }), words)?;
+    }
+    check(&rt, &Stop::ReadFault, "a read failed")?;
+    let long = "the certificate is longer than the limit";
+    check(&rt, &Stop::TooLong, long)?;
+    let header = Header::new([10, 20, 30, 40, 50]).ok_or("no header")?;
+    let differs = CertError::Differs {
+        header,
+        left: 1,
+        right: 2,
+    };
+    let apart = "list and table differ on the header [10, 20, 30, 40, 50]";
+    let other = "the word of entry 3, counted from 0, is not a prefix in each field";
+    check(&rt, &differs, apart)?;
+    check(&rt, &NotPrefix { entry: 3 }, other)?;
+    check(&rt, &CertError::NotPrefix { entry: 3 }, other)?;
+    check(&rt, &CertError::Fault, "a write failed")?;
+    check(&rt, &CertError::Memory, "memory was refused")
 }

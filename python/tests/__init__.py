@@ -1,0 +1,1 @@
+"""Tests of the package, by unittest: `cd python && python3 -B -m unittest`."""
