@@ -118,11 +118,7 @@ ghost use Rattle.bit_merge.specs.Index.{same_word};
 ghost use Rattle.bit_merge.specs.Slots.{numbered_entries};
 
 /// Has the word lead to the place, or nowhere.
-fn lead_to(
-    least: &mut HashMap<Word, usize>,
-    word: Word,
-    place: Option<usize>,
-) -> Result<(), Memory>
+fn lead_to(least: &mut HashMap<Word, usize>, word: Word, place: Option<usize>) -> Result<(), Memory>
     ensures leads { OnOk result ((q : LedWord) → get same_word least.new q ≡ cond (same_word word q) place (get same_word least.old q)) }
     ensures err { OnErr result (IsUnchanged least.old least.new) }
 {
