@@ -32,7 +32,7 @@ ensures headline {clause}
 - `(x : A) → P` says that P holds for every x, `(x : A) × P` that there is an x for which P holds, `P × Q` that both hold, `a ≡ b` that both are the same and `a ≢ b` that they aren't; `⊥` never holds, and `Unit` always does. A `record` is its fields together: data, and what holds of them. It is met where there are such fields. `Type 0` is the type of types and of statements; `{{A : Type 0}}` says that A may be any of them, and is left out in use.
 - A block of `do` takes the steps in order; `x ← e` calls x what the step e gives, and the first that gives nothing, or a reason, is what it comes to.
 
-The words of the library mean what one expects:
+The library's words:
 
 {library}"""
 
