@@ -30,6 +30,12 @@ impl FieldPlace {
         ensures low { result.low ≡ low_bit field }
         ensures width { result.width ≡ width field }
     {
-        FIELD_PLACES[field]
+        match field {
+            0 => FIELD_PLACES[0],
+            1 => FIELD_PLACES[1],
+            2 => FIELD_PLACES[2],
+            3 => FIELD_PLACES[3],
+            _ => FIELD_PLACES[4],
+        }
     }
 }

@@ -29,16 +29,31 @@ pub fn key(values: [u32; 5]) -> u128
     joined(with_ports, 8, protocol)
 }
 
+/// The bits of the field in a key, as a number.
+fn part(key: u128, field: usize) -> u32
+    requires { field < 5 }
+    ensures part { result ≡ field_part field key }
+    ensures small { result < 2 ^ width field }
+{
+    match field {
+        0 => ((key >> 72) % (1 << 32)) as u32,
+        1 => ((key >> 40) % (1 << 32)) as u32,
+        2 => ((key >> 24) % (1 << 16)) as u32,
+        3 => ((key >> 8) % (1 << 16)) as u32,
+        _ => (key % (1 << 8)) as u32,
+    }
+}
+
 /// The five values whose bits are the lowest 104 of the number.
 pub fn values_of(key: u128) -> [u32; 5]
     ensures parts { (k : ℕ) → k < 5 → slice_index result k ≡ field_part k key }
     ensures small { (k : ℕ) → k < 5 → slice_index result k < 2 ^ width k }
 {
     [
-        ((key >> 72) % (1 << 32)) as u32,
-        ((key >> 40) % (1 << 32)) as u32,
-        ((key >> 24) % (1 << 16)) as u32,
-        ((key >> 8) % (1 << 16)) as u32,
-        (key % (1 << 8)) as u32,
+        part(key, 0),
+        part(key, 1),
+        part(key, 2),
+        part(key, 3),
+        part(key, 4),
     ]
 }
