@@ -20,10 +20,20 @@ import sys
 
 sys.path[0] = str(pathlib.Path(__file__).resolve().parent.parent / "{sources}")
 
-from tcam_razor import {name}
+from tcam_razor import {module}
 
-{name}.call()
+{module}.call()
 """
+
+# The commands, and the modules that they call.
+COMMANDS = {
+    "razor-export": "exporting",
+    "razor-flows": "flows",
+    "razor-import": "importing",
+    "razor-lines": "lines",
+    "razor-report": "report",
+    "razor-show": "show",
+}
 
 DOCUMENTS = (".md", ".svg", ".png")
 
@@ -55,8 +65,8 @@ def examples():
 
 def scripts():
     """The scripts that want nothing but Python, and their sources, below a prefix."""
-    sources = below(ROOT / "python", lambda path: path.suffix in (".py", ".css") and "tcam_razor" in path.parts)
-    commands = {f"bin/razor-{name}": SCRIPT.format(sources=SOURCES, name=name).encode() for name in ("show", "flows", "report")}
+    sources = below(ROOT / "python", lambda path: path.suffix in (".py", ".css", ".typed") and "tcam_razor" in path.parts)
+    commands = {f"bin/{command}": SCRIPT.format(sources=SOURCES, module=module).encode() for command, module in COMMANDS.items()}
     return {**commands, **under(SOURCES, sources)}
 
 

@@ -25,31 +25,37 @@ class Header(typing.NamedTuple):
     destination_port: int
     protocol: int
 
-    def __str__(self):
+    def __str__(self) -> str:
+        """A line of a trace."""
+        return " ".join(map(str, self))
+
+    @property
+    def shown(self) -> str:
+        """The header as an engineer writes it."""
         source, destination = map(ipaddress.IPv4Address, self[:2])
         return f"{source}:{self.source_port} > {destination}:{self.destination_port} {protocol_name(self.protocol)}"
 
 
-def protocol_name(number):
+def protocol_name(number: int) -> str:
     return PROTOCOLS.get(number, f"protocol {number}")
 
 
-def address(word):
+def address(word: str) -> int:
     """The number of an address, with points or decimal."""
     return int(word) if word.isdigit() else int(ipaddress.IPv4Address(without_zeros(word)))
 
 
-def without_zeros(word):
+def without_zeros(word: str) -> str:
     """An address without leading zeros, which a list may have."""
     return re.sub(r"\b0+(?=\d)", "", word)
 
 
-def protocol(word):
+def protocol(word: str) -> int:
     """The number of a protocol, by its name or decimal."""
     return int(word) if word.isdigit() else socket.getprotobyname(word)
 
 
-def header(words):
+def header(words: typing.Iterable[str]) -> Header:
     """The header of five words; a ValueError or OSError where they are none."""
     source, destination, source_port, destination_port, last = words
     values = Header(address(source), address(destination), int(source_port), int(destination_port), protocol(last))

@@ -2,12 +2,14 @@
 import argparse
 import contextlib
 import errno
+import io
 import os
 import pathlib
 import re
 import signal
 import subprocess
 import sys
+from typing import Any, Callable, Iterator, NoReturn, TextIO, cast
 
 UNSEEN = re.compile(r"[\x00-\x1f\x7f-\x9f\u2028-\u202e\u2066-\u2069\udc80-\udcff]")
 
@@ -15,12 +17,12 @@ UNSEEN = re.compile(r"[\x00-\x1f\x7f-\x9f\u2028-\u202e\u2066-\u2069\udc80-\udcff
 STOPPING = (signal.SIGTERM, signal.SIGHUP)
 
 
-def shown(name):
+def shown(name: object) -> str:
     """A name as it may stand in a line: what isn't seen in it, or turns what is seen around, is escaped."""
     return UNSEEN.sub(lambda found: escape(ord(found[0])), str(name))
 
 
-def escape(code):
+def escape(code: int) -> str:
     if code >= 0xDC80:
         # A byte of a file's name that isn't text.
         code -= 0xDC00
@@ -30,14 +32,14 @@ def escape(code):
 class Words(argparse.ArgumentParser):
     """A parser of words, which says of one that is none what is seen of it, and doesn't hide that its help wasn't written."""
 
-    def error(self, message):
+    def error(self, message: str) -> NoReturn:
         super().error(shown(message))
 
-    def print_help(self, file=None):
+    def print_help(self, file: Any = None) -> None:
         print(self.format_help(), end="", file=file)
 
 
-def words(says):
+def words(says: str | None) -> Words:
     """A parser of the script's words, which shows what the script says of itself."""
     return Words(description=says, formatter_class=argparse.RawDescriptionHelpFormatter)
 
@@ -46,11 +48,11 @@ class Stopped(BaseException):
     """A signal came that ends the script, behind what is to be done at its end."""
 
 
-def stop(number, _frame):
+def stop(number: int, _frame: Any) -> NoReturn:
     raise Stopped(number)
 
 
-def run(main):
+def run(main: Callable[[], object]) -> None:
     """Runs the script. It ends quietly where nobody reads it any more, and says in a line what it couldn't do."""
     for number in STOPPING:
         # A call behind `nohup` goes on.
@@ -80,7 +82,7 @@ def run(main):
 
 
 @contextlib.contextmanager
-def unstopped():
+def unstopped() -> Iterator[None]:
     """Lets signals that would end the script wait until what is done here is done."""
     before = signal.pthread_sigmask(signal.SIG_BLOCK, (*STOPPING, signal.SIGINT))
     try:
@@ -89,19 +91,19 @@ def unstopped():
         signal.pthread_sigmask(signal.SIG_SETMASK, before)
 
 
-def given():
+def given() -> TextIO:
     """The standard input, as text."""
     expect_open(sys.stdin, "standard input")
-    sys.stdin.reconfigure(encoding="ascii", errors="replace")
+    cast(io.TextIOWrapper, sys.stdin).reconfigure(encoding="ascii", errors="replace")
     return sys.stdin
 
 
-def expect_open(stream, name):
+def expect_open(stream: TextIO | None, name: str) -> None:
     if stream is None:
         raise OSError(errno.EBADF, os.strerror(errno.EBADF), name)
 
 
-def said(fault):
+def said(fault: BaseException) -> str:
     """What a fault says: what the system couldn't do, and with which file."""
     if isinstance(fault, OSError) and fault.strerror:
         names = [fault.filename] if fault.filename is not None else []
@@ -109,25 +111,25 @@ def said(fault):
     return str(fault)
 
 
-def fail(why):
+def fail(why: str) -> NoReturn:
     """Ends the script, which says why."""
     raise SystemExit(why)
 
 
-def end(why):
+def end(why: str) -> NoReturn:
     """Ends with what is wrong, of which nothing is obeyed by a terminal."""
     drop_output()
     lines = map(shown, f"{pathlib.Path(sys.argv[0]).name}: {why}".rstrip("\n").split("\n"))
     sys.exit("\n".join(lines))
 
 
-def end_by(number):
+def end_by(number: int) -> None:
     """Ends as a program does that doesn't catch the signal."""
     drop_output()
     signal.signal(number, signal.SIG_DFL)
     os.kill(os.getpid(), number)
 
 
-def drop_output():
+def drop_output() -> None:
     """Gives up what wasn't written yet: it can't be."""
     os.dup2(os.open(os.devnull, os.O_WRONLY), 1)

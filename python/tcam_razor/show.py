@@ -67,7 +67,7 @@ def show_matches(list_path, table_path, words):
     header = headers.header(words)
     rule = next((it for it in lists.rules(list_path) if it.holds(header)), None)
     entry = next((it for it in tables.entries(table_path) if it.matches(header)), None)
-    print(header)
+    print(header.shown)
     print(f"{shown(list_path)}: {f'rule {rule.number}, line {rule.line}: {shown(rule.text)}' if rule else 'no rule'}")
     print(f"{shown(table_path)}: {f'entry {entry.number}, line {entry.number + 1}: ' + '  '.join(entry.columns()) if entry else 'no entry'}")
     decided = [shown(it.decision) if it else "miss" for it in (rule, entry)]

@@ -52,7 +52,7 @@ def seen(line):
 
 def with_header(front, numbers, rest):
     try:
-        return f"{front}{headers.header(numbers.split())}{rest}"
+        return f"{front}{headers.header(numbers.split()).shown}{rest}"
     except ValueError:
         return None
 

@@ -11,7 +11,10 @@ class Headers(unittest.TestCase):
             self.assertEqual(headers.header(words.split()), Header(169085445, 169083146, 4000, 445, 6))
 
     def test_a_header_is_shown_with_points_and_the_name_of_its_protocol(self):
-        self.assertEqual(str(Header(167772161, 0, 1, 65535, 17)), "10.0.0.1:1 > 0.0.0.0:65535 udp")
+        self.assertEqual(Header(167772161, 0, 1, 65535, 17).shown, "10.0.0.1:1 > 0.0.0.0:65535 udp")
+
+    def test_a_header_is_written_as_a_line_of_a_trace(self):
+        self.assertEqual(str(Header(167772161, 0, 1, 65535, 17)), "167772161 0 1 65535 17")
 
     def test_a_protocol_without_a_name_is_a_number(self):
         self.assertEqual(headers.protocol_name(253), "protocol 253")

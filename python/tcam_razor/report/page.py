@@ -202,7 +202,7 @@ def turned(change):
 
 def because(it):
     if it.now.header:
-        return f"first match of {it.now.header}, which later rules decide alike"
+        return f"first match of {it.now.header.shown}, which later rules decide alike"
     return f"line {it.hider.line} matches all that it matches" if it.hider else "earlier rules together match all that it matches"
 
 
