@@ -64,6 +64,6 @@ mod removal;
 mod sets;
 mod sifting;
 
-pub use entry_table::{are_prefixes, remove, remove_in};
+pub use entry_table::{remove, remove_in};
 pub use removal::Removal;
 pub use ternary_words::are_prefixes;
