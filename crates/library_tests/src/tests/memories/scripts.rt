@@ -6,7 +6,7 @@ use std::process::Abort;
 use std::test::Fail;
 use tcam_sim::FaultyBank;
 use ternary_words::Table;
-use ternary_words::text::read_table;
+use table_text::read_table;
 
 /// Protocol 6 is accepted.
 const FIRST: &str = "table 2 slot 144 composed 2 entries 1\n\
