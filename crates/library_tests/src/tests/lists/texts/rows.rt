@@ -1,6 +1,6 @@
 //! Rows of certificates as they are written, and the checker of tables whose words are prefixes.
-use field_boxes::RuleList;
 use crate::tests::lists::boxes::protocols;
+use field_boxes::RuleList;
 use filter_reader::read_list;
 use partition_check::{Checker, Row, write_row};
 use razor_base::MemSink;
