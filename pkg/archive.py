@@ -23,10 +23,10 @@ def installed():
     return {"bin/razor": contents.program(), **contents.scripts(), **pages, **completions}
 
 
-def files(version):
+def files(version, proved):
     """All files of the archive; the last one has the checksums of the others."""
     found = {
-        "README.md": contents.readme(),
+        "README.md": contents.readme(proved),
         **{name: (ROOT / name).read_bytes() for name in ("LICENSE", "CHANGELOG.md")},
         "KIT": version.encode(),
         **installed(),

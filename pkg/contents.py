@@ -43,15 +43,24 @@ DOCUMENTS = (".md", ".svg", ".png")
 # What is of use beside the sources alone.
 OF_SOURCES = ("PROVING.md",)
 
+# What the README of a program says first that isn't proved.
+UNPROVED = "**This program isn't proved.** It is built of the sources of a verified compiler, but nobody has proved it as it was built: what is said below of a verified one doesn't hold of it."
+
 
 def program():
-    """The program that the variable RAZOR names, or the one that is proved and built of the sources here."""
+    """The program that the variable RAZOR names, or the one that is there or built."""
     return pathlib.Path(path_of_program()).read_bytes()
 
 
 @functools.cache
 def path_of_program():
     return programs.program("razor_cli")
+
+
+@functools.cache
+def is_proved():
+    """Whether the program is known to be proved, of the sources here."""
+    return programs.is_proved("razor_cli", path_of_program())
 
 
 def manual():
@@ -84,9 +93,10 @@ def scripts():
     return {**commands, **under(SOURCES, sources)}
 
 
-def readme():
+def readme(proved):
     """The README of an installed program."""
-    return (ROOT / "pkg/README.md").read_bytes()
+    title, text = (ROOT / "pkg/README.md").read_text().split("\n\n", 1)
+    return "\n\n".join([title, *([] if proved else [UNPROVED]), text]).encode()
 
 
 def below(folder, is_wanted):

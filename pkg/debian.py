@@ -11,23 +11,38 @@ from contents import mode, under
 NAME = "tcam-razor"
 
 CONTROL = """Package: {name}
-Version: {version}
+{relations}Version: {version}
 Architecture: {architecture}
 Maintainer: {maintainer}
 Installed-Size: {size}
 Depends: libc6 (>= {libc})
 Recommends: python3
-Suggests: openvswitch-switch
+Suggests: nftables, openvswitch-switch
 Section: net
 Priority: optional
-Description: verified compiler of packet classifiers into short TCAM tables
+Description: {title}
  Turns filter lists in the ClassBench form into short tables for ternary
- memories. The compiler is verified: every table that it writes decides each
- packet header as its list.
+ memories. {promise}
  razor-show shows lists and tables with addresses in points, razor-flows
  writes a table as flows of OpenFlow, and razor-report writes a page on
- what a change of a list does.
+ what a change of a list does. razor-import makes lists of access lists of
+ IOS and EOS, and of chains of nftables and iptables; razor-export makes
+ configurations of lists.
 """
+
+PROVED = {
+    "relations": "",
+    "title": "verified compiler of packet classifiers into short TCAM tables",
+    "promise": """The compiler is verified: every table that it writes decides each
+ packet header as its list.""",
+}
+
+UNPROVED = {
+    "relations": f"Provides: {NAME}\nConflicts: {NAME}\nReplaces: {NAME}\n",
+    "title": "compiler of packet classifiers into short TCAM tables, not proved",
+    "promise": """This program is not proved: it is built of the sources of a
+ verified compiler, and nobody has proved it as it was built.""",
+}
 
 COPYRIGHT = """Format: https://www.debian.org/doc/packaging-manuals/copyright-format/1.0/
 Upstream-Name: TCAM Razor
@@ -44,15 +59,20 @@ SHELLS = {
 }
 
 
-def files(changes):
+def name_of(proved):
+    """The name of the package: one of a program that isn't proved has another."""
+    return NAME if proved else f"{NAME}-unproved"
+
+
+def files(changes, proved):
     """All files of the package; the manual and the changes are packed, as Debian wants them."""
-    texts = f"usr/share/doc/{NAME}"
+    texts = f"usr/share/doc/{name_of(proved)}"
     return {
         "usr/bin/razor": contents.program(),
         **under("usr", contents.scripts()),
         **{f"usr/share/man/man{name[-1]}/{name}.gz": zipped(data) for name, data in contents.manual().items()},
         **{SHELLS[shell]: text for shell, text in contents.completions().items()},
-        f"{texts}/README.md": contents.readme(),
+        f"{texts}/README.md": contents.readme(proved),
         f"{texts}/copyright": COPYRIGHT.encode() + licence(),
         f"{texts}/changelog.gz": zipped(changes),
         **under(f"{texts}/docs", contents.documents()),
@@ -76,9 +96,9 @@ def newest_libc(program):
     return ".".join(map(str, max(found, default=(2, 17))))
 
 
-def build(room, to, version, maintainer, moment):
+def build(room, to, version, maintainer, moment, proved):
     """Builds the package in an empty folder, and puts it into another one; gives its path. The same files give the same bytes."""
-    found = files((ROOT / "CHANGELOG.md").read_bytes())
+    found = files((ROOT / "CHANGELOG.md").read_bytes(), proved)
     for path, data in found.items():
         place = room / path
         place.parent.mkdir(parents=True, exist_ok=True)
@@ -90,9 +110,12 @@ def build(room, to, version, maintainer, moment):
     size = sum(map(len, found.values())) // 1024 + 1
     (room / "DEBIAN").mkdir()
     (room / "DEBIAN/control").write_text(
-        CONTROL.format(name=NAME, version=version, architecture=architecture, maintainer=maintainer, size=size, libc=newest_libc(found["usr/bin/razor"]))
+        CONTROL.format(
+            name=name_of(proved), version=version, architecture=architecture, maintainer=maintainer, size=size,
+            libc=newest_libc(found["usr/bin/razor"]), **(PROVED if proved else UNPROVED)
+        )
     )
-    package = to / f"{NAME}_{version}_{architecture}.deb"
+    package = to / f"{name_of(proved)}_{version}_{architecture}.deb"
     words = ["dpkg-deb", "--root-owner-group", "-Zxz", "--build", room, package]
     subprocess.run(words, check=True, capture_output=True, text=True, env={**os.environ, "SOURCE_DATE_EPOCH": str(moment)})
     return package

@@ -5,6 +5,8 @@ import struct
 import subprocess
 import zlib
 
+from model import cases
+
 NAMES = ("chromium", "chromium-browser", "google-chrome")
 
 SECONDS = 120
@@ -22,7 +24,10 @@ def screenshot(page, picture, size=(1200, 2400), dark=False):
     words = ["--headless=new", "--no-sandbox", "--disable-gpu", "--hide-scrollbars", "--enable-logging=stderr", "--v=0"]
     words += [f"--user-data-dir={picture.parent}/browser", f"--window-size={size[0]},{size[1]}", f"--screenshot={picture}"]
     words += ["--force-dark-mode"] if dark else []
-    ended = subprocess.run([found(), *words, page.as_uri()], capture_output=True, text=True, errors="replace", timeout=SECONDS)
+    try:
+        ended = subprocess.run([found(), *words, page.as_uri()], capture_output=True, text=True, errors="replace", timeout=SECONDS)
+    except subprocess.TimeoutExpired:
+        raise cases.Skipped(f"Chromium drew no page in {SECONDS} seconds") from None
     return [line for line in ended.stderr.splitlines() if SAID.search(line)]
 
 

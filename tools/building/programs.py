@@ -1,10 +1,11 @@
 """The programs that scripts run."""
 import os
+import pathlib
 import shutil
 import subprocess
 import sys
 
-from building.sources import ROOT
+from building.sources import ROOT, below, checksums, listed, note
 from tcam_razor.script import shown
 
 # The variables of the environment by which the program of a crate can be given.
@@ -42,3 +43,10 @@ def made(command, *words):
     if ended.returncode != 0:
         sys.exit(ended.returncode)
     return ended.stdout.strip()
+
+
+def is_proved(crate, path):
+    """Whether the note beside a crate's program says that it was proved and built of the sources here."""
+    crates, beside = listed(), pathlib.Path(f"{path}.sources")
+    checksum = checksums(crates, below(crates, crate))[crate]
+    return beside.exists() and beside.read_text() == note(crates[crate], checksum, pathlib.Path(path))

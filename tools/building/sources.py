@@ -86,9 +86,9 @@ def checksums(crates, names):
     return found
 
 
-def note(crate, checksum):
-    """What is noted of a crate that was built of these sources: for a program with a checksum of its own."""
-    return f"{checksum} {hashlib.sha256(crate.program.read_bytes()).hexdigest()}\n" if crate.is_program else f"{checksum}\n"
+def note(crate, checksum, program=None):
+    """What is noted of a crate that was proved and built of these sources: for a program, here or elsewhere, with a checksum of its own."""
+    return f"{checksum} {hashlib.sha256((program or crate.program).read_bytes()).hexdigest()}\n" if crate.is_program else f"{checksum}\n"
 
 
 def is_current(crate, checksum):

@@ -29,7 +29,8 @@ ensures headline {clause}
 
 - A definition has its type and then its clauses; the first clause that fits holds. The words `abbrev`, `unfoldable` and `pub`, which say who may see into it, are left out here.
 - A byte is a number, and a text is a list of them. `[]` is the empty list, and `x ∷ xs` is x in front of xs. `(a, b)` is a pair, with the parts `.0` and `.1`. `λ x. e` is a function. A header is the list of its five values.
-- `(x : A) → P` says that P holds for every x, `(x : A) × P` that there is an x for which P holds, `P × Q` that both hold, `a ≡ b` that both are the same and `a ≢ b` that they aren't; `⊥` never holds, and `Unit` always does. A `record` is its fields together: data, and what holds of them. It is met where there are such fields. `Type 0` is the type of types and of statements; `{{A : Type 0}}` says that A may be any of them, and is left out in use.
+- `(x : A) → P` says that P holds for every x, `(x : A) × P` that there is an x for which P holds, `P × Q` that both hold, `a ≡ b` that both are the same and `a ≢ b` that they aren't; `⊥` never holds, and `Unit` always does.
+- A `record` is its fields together: data, and what holds of them. It is met where there are such fields. `Type 0` is the type of types and of statements; `{{A : Type 0}}` says that A may be any of them, and is left out in use.
 - A block of `do` takes the steps in order; `x ← e` calls x what the step e gives, and the first that gives nothing, or a reason, is what it comes to.
 
 The words of the library mean what one expects:
