@@ -21,19 +21,19 @@ ensures headline {clause}
 
 `Appends`, of the library, says: where the output tells its bytes, they are those of before and then `written`. Beside it stand `arranged` and `shortened`, for `arrange -- FILE` and `shorten -- FILE`, and `promise`, for every command, status and spelling ([THEOREMS.md](THEOREMS.md)); their definitions aren't here.
 
-**Assumed:** the toolchain (prover, compiler, C library), and that the desk and the output tell their bytes. Real files don't, so of them the clause says nothing; THEOREMS has the argument that takes its place. **Proved:** the clause, over every desk and output, of the code that runs over real files. **Tested:** the program over real files.
+**Assumed:** the toolchain (prover, compiler, C library), and that the desk and the output tell their bytes. Real files don't, so of them the clause says nothing; THEOREMS has the argument in its place. **Proved:** the clause, over every desk and output, of the code that runs over real files. **Tested:** the program over real files.
 
 ## What has to be read
 
 {count} definitions, {types} of them types and constants of the code; {lines} lines, each before its use, in files of `crates/`. The language is that of the specifications, antt:
 
-- A definition has its type and then its clauses; the first clause that fits holds. The words `abbrev`, `unfoldable` and `pub`, which say who may see into it, are left out here.
+- A definition has its type and then its clauses; the first clause that fits holds. The words `abbrev`, `unfoldable` and `pub` are left out here.
 - A byte is a number, and a text is a list of them. `[]` is the empty list, and `x ∷ xs` is x in front of xs. `(a, b)` is a pair, with the parts `.0` and `.1`. `λ x. e` is a function. A header is the list of its five values.
 - `(x : A) → P` says that P holds for every x, `(x : A) × P` that there is an x for which P holds, `P × Q` that both hold, `a ≡ b` that both are the same and `a ≢ b` that they aren't; `⊥` never holds, and `Unit` always does.
 - A `record` is its fields together: data, and what holds of them. It is met where there are such fields. `Type 0` is the type of types and of statements; `{{A : Type 0}}` says that A may be any of them, and is left out in use.
 - A block of `do` takes the steps in order; `x ← e` calls x what the step e gives, and the first that gives nothing, or a reason, is what it comes to.
 
-The words of the library mean what one expects:
+The library's words:
 
 {library}"""
 
@@ -75,7 +75,7 @@ SECTIONS = [
             ("text_lines", "Headline.Numbers"),
             ("text_lines", "Headline.Lines"),
             ("text_lines", "Headline.Reading"),
-            ("razor_base", "limits"),
+            ("razor_limits", "limits"),
             ("field_boxes", "Headline.Names"),
             ("filter_reader", "reason"),
             ("filter_reader", "Headline.Tokens"),
@@ -84,13 +84,14 @@ SECTIONS = [
             ("filter_reader", "Headline.Masks"),
             ("filter_reader", "Headline.Columns"),
             ("filter_reader", "Headline.RuleLine"),
+            ("field_boxes", "Headline.FilterList"),
             ("filter_reader", "Headline.FilterList"),
         ],
     ),
     (
         "The text of a table",
         "A line that states the sizes, and a line an entry: for each field a value and a mask in hexadecimal, then the decision.",
-        [("ternary_words", "Headline.Hexadecimal"), ("ternary_words", "Headline.TableText")],
+        [("table_text", "Headline.Hexadecimal"), ("table_text", "Headline.TableText")],
     ),
     (
         "The field-by-field least cost",

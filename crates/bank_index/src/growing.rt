@@ -4,7 +4,7 @@ ghost use Rattle.bank_index.specs.Tree.{IsGrown};
 
 use crate::node::Node;
 use crate::parting::{Parts, part};
-use razor_base::Memory;
+use razor_limits::Memory;
 use std::alloc::Global;
 use ternary_words::Entry;
 

@@ -8,12 +8,11 @@ ghost use Rattle.bank_index.specs.declared.index.TheConstants.{STEPS};
 
 use crate::bit::has_bit;
 use crate::growing::grow;
-use crate::key::key_of;
 use crate::node::Node;
 use field_boxes::Header;
-use razor_base::Memory;
+use razor_limits::Memory;
 use std::alloc::Global;
-use ternary_words::Entry;
+use ternary_words::{Entry, key};
 
 /// The most nodes on a way down.
 const STEPS: u32 = 48;
@@ -52,7 +51,7 @@ fn next(key: u128, bit: u32, zero: u32, one: u32) -> u32
 
 impl Index {
     ghost use Rattle.std.specs.Prelude.{◌≡◌, ◌≤◌, IfOk, IfSome, Some, length, slice_get};
-    ghost use Rattle.razor_base.specs.declared.limits.TheConstants.{MOST_ENTRIES};
+    ghost use Rattle.razor_limits.specs.declared.limits.TheConstants.{MOST_ENTRIES};
     ghost use Rattle.ternary_words.specs.Headline.Word.{header_bits};
     ghost use Rattle.bank_index.specs.Hits.{all_slots, decision_at, first_of, hits};
 
@@ -87,7 +86,7 @@ impl Index {
         ensures { IfSome result (λ slots. first_of self.now.entries.items (header_bits header.now.values) slots.now
             ≡ first_of self.now.entries.items (header_bits header.now.values) (all_slots self.now.entries.items)) }
     {
-        let key = key_of(header);
+        let key = key(header.values);
         let mut place = self.root;
         for _step in 0..STEPS {
             match self.node(place) {

@@ -6,7 +6,7 @@ ghost use Rattle.tcam_sim.specs.Slots.{filled};
 
 use crate::index::Index;
 use field_boxes::Header;
-use razor_base::{Failed, Memory};
+use razor_limits::{Failed, Memory};
 use std::alloc::Global;
 use tcam_sim::{Bank, Device, loaded};
 use ternary_words::{Entry, Table};
@@ -47,8 +47,7 @@ impl IndexedBank {
 
 impl Device for IndexedBank {
     ghost use Rattle.std.specs.Prelude.{◌≡◌, ◌≤◌, ◌<◌, length, Ok, option_map, slice_set, OnOk, OnErr};
-    ghost use Rattle.razor_base.specs.FaultPlan.{counted};
-    ghost use Rattle.razor_base.specs.Faults.{Rose};
+    ghost use Rattle.razor_limits.specs.Counts.{counted, Rose};
     ghost use Rattle.tcam_sim.specs.Slots.{look_up, stored};
     ghost use Rattle.bank_index.specs.IndexedBank.{indexed_sets, indexed_slots};
 

@@ -22,13 +22,13 @@
 //! a node's slots well, the whole bank is looked through, eight slots at once. A table of fewer than 256 entries gets
 //! no index, and a `set` gives the index up.
 //!
-//! | Room | Holds |
+//! | Module | Holds |
 //! |---|---|
 //! | `indexed_bank` | a bank with its index, as a device |
 //! | `index`, `node` | the entries and the tree over them, and the way down |
 //! | `growing`, `parting`, `sides` | the tree grown, and its slots parted by a bit |
 //! | `choosing`, `tally` | the choice of bits, of which no proof speaks |
-//! | `bit`, `key` | the bits of a header and of a word |
+//! | `bit` | the bits of a header and of a word |
 #![tactic(auto)]
 
 mod bit;
@@ -36,7 +36,6 @@ mod choosing;
 mod growing;
 mod index;
 mod indexed_bank;
-mod key;
 mod node;
 mod parting;
 mod sides;

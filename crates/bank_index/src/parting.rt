@@ -4,7 +4,7 @@ ghost use Rattle.bank_index.specs.Parts.{AreParts};
 
 use crate::choosing::choose;
 use crate::sides::side;
-use razor_base::Memory;
+use razor_limits::Memory;
 use std::alloc::Global;
 use ternary_words::Entry;
 

@@ -2,8 +2,7 @@
 use Rattle.std.proofs.Common.{◌≡◌, ℕ, ◌≤◌, true, false, List, length, Option, Some, None, Result, Ok, Err, inl, inr, refl, sym, ap, subst, ◌∙◌, arith}
 use Rattle.std.specs.Result.{result_ok}
 use Rattle.std.specs.Prelude.{◌↔◌, ok_or, IfOk, IfErr, OnOk, OnErr, is_some, option_map, if◌then◌else◌}
-use Rattle.razor_base.specs.FaultPlan.{counted}
-use Rattle.razor_base.specs.Faults.{Rose}
+use Rattle.razor_limits.specs.Counts.{counted, Rose}
 use Rattle.razor_base.specs.Output.{Writes}
 use Rattle.razor_base.proofs.Writing.{writes-is}
 use Rattle.tcam_sim.specs.Tries.{counted_times}

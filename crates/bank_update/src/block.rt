@@ -61,7 +61,7 @@ impl Model for Block {
 
 impl Block {
     ghost use Rattle.std.specs.Prelude.{◌≡◌, ◌+◌, ◌≤◌, ◌<◌, ◌^◌, length};
-    ghost use Rattle.razor_base.specs.declared.limits.TheConstants.{MOST_ENTRIES};
+    ghost use Rattle.razor_limits.specs.declared.limits.TheConstants.{MOST_ENTRIES};
     ghost use Rattle.bank_update.specs.Standing.{entries_in};
     ghost use Rattle.bank_update.specs.Whole.{IsRoomFor, IsTogether, room_for, start_of, unsettled};
 

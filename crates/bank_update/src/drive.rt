@@ -1,7 +1,7 @@
 //! Running a script: each command takes its turn, and its line is written.
 ghost use Rattle.std.specs.Prelude.{◌≡◌, ◌≤◌, [], length, All, IfOk, IsErrOf, OnErr};
 ghost use Rattle.std.specs.Io.KnownBytes.{Appends};
-ghost use Rattle.razor_base.specs.Faults.{Rose};
+ghost use Rattle.razor_limits.specs.Counts.{Rose};
 ghost use Rattle.bank_update.specs.Commands.{event_of};
 ghost use Rattle.bank_update.specs.Driven.{Outcome, UnlessWriteFault};
 ghost use Rattle.bank_update.specs.Runs.{IsTriedRun};

@@ -22,7 +22,7 @@
 //!   for a whole swap as both tables have entries; that a step back leaves the slots that stood before the write it
 //!   undoes; and that over a device that counts no fault the lines are those of the machine with no fault.
 //!
-//! | Room | Holds |
+//! | Module | Holds |
 //! |---|---|
 //! | `updater`, `progress`, `underway`, `standing_table`, `write`, `stage`, `refusal` | a device whose table is replaced write by write |
 //! | `swapper`, `block` | whole swaps |

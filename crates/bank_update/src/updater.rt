@@ -31,8 +31,7 @@ impl<V: Device, T: StandingTable> Model for Updater<V, T> {
 
 impl<V: Device, T: StandingTable> Updater<V, T> {
     ghost use Rattle.std.specs.Prelude.{◌≡◌, ◌≢◌, ◌≤◌, ◌↔◌, ℕ, List, None, Some, Err, length, ok_or, IfOk, OnOk, OnErr};
-    ghost use Rattle.razor_base.specs.FaultPlan.{counted};
-    ghost use Rattle.razor_base.specs.Faults.{Rose};
+    ghost use Rattle.razor_limits.specs.Counts.{counted, Rose};
     ghost use Rattle.field_boxes.specs.Headline.Names.{text_of};
     ghost use Rattle.ternary_words.specs.Limits.{AreNumbered};
     ghost use Rattle.bank_update.specs.Machine.{abort_answer, aborted, begun_by, held, looked, old_or_new, stage, step_answer, stepped};

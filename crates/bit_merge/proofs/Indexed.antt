@@ -3,12 +3,8 @@ use Rattle.std.proofs.Common.{◌≡◌, ◌⊎◌, ℕ, ◌<◌, ◌≤◌, Lis
 use Rattle.std.proofs.lemmas.Bool.{cases_eq, eqb-true, true≢false, and_parts}
 use Rattle.ternary_words.specs.declared.word.Word.{Word}
 use Rattle.bit_merge.specs.Slots.{Slots, at, IsLeast, IsWord, IsFirstOfItsWord}
-use Rattle.bit_merge.specs.Index.{same_key, IsLeastFrom, IsIndexed}
-use Rattle.bit_merge.specs.declared.key.Key.{Key}
+use Rattle.bit_merge.specs.Index.{same_word, IsLeastFrom, IsIndexed}
 use Rattle.bit_merge.proofs.Held.{at-without}
-
-abbrev key_of : Word → Key
-key_of w = record { mask = w.mask; value = w.value }
 
 -- from the first place on
 pub least-from : (slots : Slots) (Fits : Word → Type 0) (found : Option ℕ) → IsLeastFrom slots 0 Fits found → IsLeast slots Fits found
@@ -58,25 +54,24 @@ unseen_from slots p from v Fits found within was is h = unseen slots p from from
 turn_word : (b c : Word) → IsWord b.mask b.value c → IsWord c.mask c.value b
 turn_word b c h = (sym h.0, sym h.1)
 
-same_parts : (p q : Key) → same_key p q ≡ true → (p.mask ≡ q.mask) × (p.value ≡ q.value)
-same_parts p q h = let r = and_parts (nat_eq p.mask q.mask) (nat_eq p.value q.value) h in (eqb-true p.mask q.mask r.0, eqb-true p.value q.value r.1)
+same_parts : (p q : Word) → same_word p q ≡ true → (p.mask ≡ q.mask) × (p.value ≡ q.value)
+same_parts p q h = let r = and_parts (nat_eq p.value q.value) (nat_eq p.mask q.mask) h in (eqb-true p.mask q.mask r.1, eqb-true p.value q.value r.0)
 
-is_same : (p q : Key) → p.mask ≡ q.mask → p.value ≡ q.value → same_key p q ≡ true
-is_same p q e f = ap (λ t. t && nat_eq p.value q.value) (eq-eqb p.mask q.mask e) ∙ eq-eqb p.value q.value f
+is_same : (p q : Word) → p.mask ≡ q.mask → p.value ≡ q.value → same_word p q ≡ true
+is_same p q e f = ap (λ t. t && nat_eq p.mask q.mask) (eq-eqb p.value q.value f) ∙ eq-eqb p.mask q.mask e
 
--- the key of w leads to this place, and each other key where it led before
-head_step : (slots : Slots) (w : Word) (key : Key) (first found : Option ℕ) (t : Bool) → same_key (key_of w) key ≡ t → IsLeastFrom slots 0 (IsWord w.mask w.value) first →
-    ((IsWord key.mask key.value w → ⊥) → IsLeastFrom slots 0 (IsWord key.mask key.value) found) → IsLeastFrom slots 0 (IsWord key.mask key.value) (cond t first found)
-head_step slots w key first found true e h f =
-    let same = same_parts (key_of w) key e in
-    subst (λ m. IsLeastFrom slots 0 (IsWord m key.value) first) same.0 (subst (λ v. IsLeastFrom slots 0 (IsWord w.mask v) first) same.1 h)
-head_step slots w key first found false e h f = f (λ is. true≢false (sym (is_same (key_of w) key is.0 is.1) ∙ e))
+-- w leads to this place, and each other word where it led before
+head_step : (slots : Slots) (w q : Word) (first found : Option ℕ) (t : Bool) → same_word w q ≡ t → IsLeastFrom slots 0 (IsWord w.mask w.value) first →
+    ((IsWord q.mask q.value w → ⊥) → IsLeastFrom slots 0 (IsWord q.mask q.value) found) → IsLeastFrom slots 0 (IsWord q.mask q.value) (cond t first found)
+head_step slots w q first found true e h f =
+    let same = same_parts w q e in
+    subst (λ m. IsLeastFrom slots 0 (IsWord m q.value) first) same.0 (subst (λ v. IsLeastFrom slots 0 (IsWord w.mask v) first) same.1 h)
+head_step slots w q first found false e h f = f (λ is. true≢false (sym (is_same w q is.0 is.1) ∙ e))
 
 -- the word at p is taken: the next one of its like is the first
-pub indexed-taken : (slots : Slots) (least new : Key → Option ℕ) (next : List (Option ℕ)) (p : ℕ) (w : Word) (key : Key) → p < length slots → at slots p ≡ Some w →
-    IsFirstOfItsWord slots p → key ≡ record { mask = w.mask; value = w.value } →
-    ((q : Key) → new q ≡ cond (same_key key q) (slice_index_or next p None) (least q)) → IsIndexed slots least next → IsIndexed (set slots p None) new next
-indexed-taken slots least new next p w key within here first is put h =
+pub indexed-taken : (slots : Slots) (least new : Word → Option ℕ) (next : List (Option ℕ)) (p : ℕ) (w : Word) → p < length slots → at slots p ≡ Some w →
+    IsFirstOfItsWord slots p → ((q : Word) → new q ≡ cond (same_word w q) (slice_index_or next p None) (least q)) → IsIndexed slots least next → IsIndexed (set slots p None) new next
+indexed-taken slots least new next p w within here first put h =
     let now = set slots p None in
     let link = slice_index_or next p None in
     let fits = λ (Fits : Word → Type 0) (b : Word) (e : at slots p ≡ Some b) (fit : Fits b). (let same : b ≡ w = cc (e, here) in subst Fits same fit) in
@@ -87,8 +82,8 @@ indexed-taken slots least new next p w key within here first is put h =
       count = h.count ∙ sym (length-set slots p None);
       heads = λ q.
           let Fits = IsWord q.mask q.value in
-          subst (IsLeastFrom now 0 Fits) (sym (put q ∙ ap (λ c. cond (same_key c q) link (least q)) is))
-          (head_step now w q link (least q) (same_key (key_of w) q) refl head
+          subst (IsLeastFrom now 0 Fits) (sym (put q))
+          (head_step now w q link (least q) (same_word w q) refl head
           (λ n. unseen_from slots p 0 None Fits (least q) within (λ b le e fit. n (fits Fits b e fit)) (λ b le e fit. cc e) (h.heads q)));
       links = λ k x e.
           let Fits = IsWord x.mask x.value in
@@ -101,39 +96,38 @@ abbrev pub InFront : Slots → ℕ → Word → Type 0
 InFront slots p w = (k : ℕ) (b : Word) → at slots k ≡ Some b → IsWord w.mask w.value b → p < k
 
 -- a word is put at an empty place, in front of its like
-pub indexed-put : (slots : Slots) (least new : Key → Option ℕ) (next : List (Option ℕ)) (p : ℕ) (w : Word) (key : Key) → p < length slots → at slots p ≡ None → InFront slots p w →
-    key ≡ record { mask = w.mask; value = w.value } →
-    ((q : Key) → new q ≡ cond (same_key key q) (Some p) (least q)) → IsIndexed slots least next → IsIndexed (set slots p (Some w)) new (set next p (least key))
-indexed-put slots least new next p w key within empty front is put h =
+pub indexed-put : (slots : Slots) (least new : Word → Option ℕ) (next : List (Option ℕ)) (p : ℕ) (w : Word) → p < length slots → at slots p ≡ None → InFront slots p w →
+    ((q : Word) → new q ≡ cond (same_word w q) (Some p) (least q)) → IsIndexed slots least next → IsIndexed (set slots p (Some w)) new (set next p (least w))
+indexed-put slots least new next p w within empty front put h =
     let now = set slots p (Some w) in
-    let links = set next p (least key) in
+    let links = set next p (least w) in
     let fits = λ (Fits : Word → Type 0) (b : Word) (e : Some w ≡ Some b) (fit : Fits b). (let same : b ≡ w = cc e in subst Fits same fit) in
     let head : IsLeastFrom now 0 (IsWord w.mask w.value) (Some p) = (
       omega arith,
       (w, get_or-set_same slots p (Some w) None within, (refl, refl)),
       λ k b le e fit. elim (changed slots p k (Some w) within) [ inl r ↦ omega (arith, r.0) | inr r ↦ let f = front k b (sym r.1 ∙ e) fit in omega (arith, f) ],
     ) in
-    let behind : IsLeastFrom now (suc p) (IsWord w.mask w.value) (least key) =
-    unseen slots p 0 (suc p) (Some w) (IsWord w.mask w.value) (least key) within (λ b le e fit. cc (e, empty)) (λ b le e fit. omega (arith, le))
+    let behind : IsLeastFrom now (suc p) (IsWord w.mask w.value) (least w) =
+    unseen slots p 0 (suc p) (Some w) (IsWord w.mask w.value) (least w) within (λ b le e fit. cc (e, empty)) (λ b le e fit. omega (arith, le))
     (λ k b other e fit. (λ le. let f = front k b e fit in omega (arith, f), λ le. omega arith))
-    (subst (λ (c : Key). IsLeastFrom slots 0 (IsWord w.mask w.value) (least c)) (sym is) (h.heads (key_of w))) in
+    (h.heads w) in
     record {
-      count = length-set next p (least key) ∙ h.count ∙ sym (length-set slots p (Some w));
+      count = length-set next p (least w) ∙ h.count ∙ sym (length-set slots p (Some w));
       heads = λ q.
           let Fits = IsWord q.mask q.value in
-          subst (IsLeastFrom now 0 Fits) (sym (put q ∙ ap (λ c. cond (same_key c q) (Some p) (least q)) is))
-          (head_step now w q (Some p) (least q) (same_key (key_of w) q) refl head
+          subst (IsLeastFrom now 0 Fits) (sym (put q))
+          (head_step now w q (Some p) (least q) (same_word w q) refl head
           (λ n. unseen_from slots p 0 (Some w) Fits (least q) within (λ b le e fit. cc (e, empty)) (λ b le e fit. n (fits Fits b e fit)) (h.heads q)));
       links = λ k x e. elim (changed slots p k (Some w) within) [
         | inl r ↦
             let same : w ≡ x = cc (r.1, e) in
             subst (λ j. IsLeastFrom now (suc j) (IsWord x.mask x.value) (slice_index_or links j None)) (sym r.0)
             (subst (λ (v : Word). IsLeastFrom now (suc p) (IsWord v.mask v.value) (slice_index_or links p None)) same
-            (subst (IsLeastFrom now (suc p) (IsWord w.mask w.value)) (sym (get_or-set_same next p (least key) None (omega (arith, within, h.count)))) behind))
+            (subst (IsLeastFrom now (suc p) (IsWord w.mask w.value)) (sym (get_or-set_same next p (least w) None (omega (arith, within, h.count)))) behind))
         | inr r ↦
             let Fits = IsWord x.mask x.value in
             let old = sym r.1 ∙ e in
-            subst (IsLeastFrom now (suc k) Fits) (sym (get_or-set_other next p k (least key) None r.0))
+            subst (IsLeastFrom now (suc k) Fits) (sym (get_or-set_other next p k (least w) None r.0))
             (unseen_from slots p (suc k) (Some w) Fits (slice_index_or next k None) within (λ b le f fit. cc (f, empty))
             (λ b le f fit. let g = front k x old (turn_word x w (fits Fits b f fit)) in omega (arith, g, le)) (h.links k x old))
       ];

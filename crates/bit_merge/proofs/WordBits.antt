@@ -53,6 +53,17 @@ without-number (suc n) m u h =
     let e = without_bit (bit_at m n) (bit_at u n) (bit_at-lt m n) (bit_at-lt u n) within ∙ ap (λ x. nat_eq x 1) (sym (bit_at_xor m u n)) in
     ap (λ t. t ∷ without_bits (bits n m) (bits n u)) e ∙ ap (λ l. nat_eq (bit_at (bit_xor m u) n) 1 ∷ l) (without-number n m u h)
 
+within_bit : (a b m : ℕ) → a < 2 → b < 2 → m < 2 → min a m ≡ a → min b m ≡ b → min ((a + b) % 2) m ≡ (a + b) % 2
+within_bit a b m ha hb hm e f = grind (arith, nat_tests)
+
+-- two numbers within a mask
+pub xor_within : (a b m : ℕ) → bit_and a m ≡ a → bit_and b m ≡ b → bit_and (bit_xor a b) m ≡ bit_xor a b
+xor_within a b m e f = same_from_bits (bit_and (bit_xor a b) m) (bit_xor a b) (λ i.
+    let one : min (bit_at a i) (bit_at m i) ≡ bit_at a i = sym (bit_at_and a m i) ∙ ap (λ x. bit_at x i) e in
+    let other : min (bit_at b i) (bit_at m i) ≡ bit_at b i = sym (bit_at_and b m i) ∙ ap (λ x. bit_at x i) f in
+    bit_at_and (bit_xor a b) m i ∙ ap (λ x. min x (bit_at m i)) (bit_at_xor a b i)
+    ∙ within_bit (bit_at a i) (bit_at b i) (bit_at m i) (bit_at-lt a i) (bit_at-lt b i) (bit_at-lt m i) one other ∙ sym (bit_at_xor a b i))
+
 -- numbers of no one or of one one
 split_top : (n x : ℕ) → x % 2 ^ suc n ≡ bit_at x n * 2 ^ n + x % 2 ^ n
 split_top n x = ap (λ m. x % 2 ^ m) (sym (one-add n)) ∙ mod-pow-add x 1 n

@@ -9,15 +9,14 @@
 //! has the answer that it had, no two entries can be joined any more, there are at most as many entries, and the table
 //! is irredundant where it was. [`laws`]: no table has two merged ones.
 //!
-//! | Room | Holds |
+//! | Module | Holds |
 //! |---|---|
 //! | `table`, `runs` | the call, and the runs of a table |
-//! | `merging`, `places`, `partner`, `joining`, `key` | the words of a run, their least partners, and their joins |
+//! | `merging`, `places`, `partner`, `joining` | the words of a run, their least partners, and their joins |
 //! | `laws` | laws of the definitions |
 #![tactic(auto)]
 
 mod joining;
-mod key;
 pub mod laws;
 mod merging;
 mod partner;

@@ -14,7 +14,7 @@ ghost use Rattle.bit_merge.specs.Slots.{AreDone, IsJoined, LeadTo, at};
 use crate::joining::joined;
 use crate::partner::least_partner;
 use crate::places::Places;
-use razor_base::Memory;
+use razor_limits::Memory;
 use ternary_words::Word;
 
 /// Joins the words as long as two of them can be joined.

@@ -1,7 +1,7 @@
 //! The least partner of a word: the words that it can be joined with are itself, and itself with another
 //! value of one bit of its mask, so there are at most 105 to be looked up.
 
-ghost use Rattle.std.specs.Prelude.{◌≡◌, ◌<◌, ◌+◌, ◌^◌};
+ghost use Rattle.std.specs.Prelude.{◌≡◌, ◌<◌, ◌+◌, ◌^◌, bit_and, bit_xor};
 ghost use Rattle.bit_merge.specs.Near.{IsNear};
 ghost use Rattle.bit_merge.specs.Slots.{IsLeast, IsPartner, lesser_of};
 
@@ -12,7 +12,7 @@ use ternary_words::Word;
 pub(crate) fn least_partner(places: &Places, word: &Word) -> Option<usize>
     ensures { IsLeast places.now (IsPartner word.now) result }
 {
-    let mut found = places.least_place(word.mask, word.value);
+    let mut found = places.least_place(word);
     for bit in 0..104 {
         found = nearer(places, word, bit, found);
     }
@@ -30,7 +30,19 @@ fn nearer(places: &Places, word: &Word, bit: u8, found: Option<usize>) -> Option
     if word.mask & one == 0 {
         return found;
     }
-    lesser(found, places.least_place(word.mask, word.value ^ one))
+    lesser(found, places.least_place(&turned(word, one)))
+}
+
+/// The word with another value of this bit of its mask.
+fn turned(word: &Word, one: u128) -> Word
+    requires { bit_and one word.now.mask ≡ one }
+    ensures value { result.value ≡ bit_xor word.now.value one }
+    ensures mask { result.mask ≡ word.now.mask }
+{
+    Word {
+        value: word.value ^ one,
+        mask: word.mask,
+    }
 }
 
 /// The number of which only this bit is 1.

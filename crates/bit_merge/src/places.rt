@@ -1,7 +1,6 @@
 //! The words of a run at their places, with the least place of each word.
 
-use crate::key::Key;
-use razor_base::Memory;
+use razor_limits::Memory;
 use std::alloc::Global;
 use std::collections::HashMap;
 use std::marker::Model;
@@ -13,20 +12,20 @@ use ternary_words::{Entry, Word};
 #[derive(Drop)]
 pub(crate) struct Places {
     words: Vec<Option<Word>>,
-    least: HashMap<Key, usize>,
+    least: HashMap<Word, usize>,
     next: Vec<Option<usize>>,
 }
 
 impl Model for Places {
     ghost use Rattle.std.specs.HashMap.{get};
     ghost use Rattle.bit_merge.specs.Slots.{Slots};
-    ghost use Rattle.bit_merge.specs.Index.{IsIndexed, same_key};
+    ghost use Rattle.bit_merge.specs.Index.{IsIndexed, same_word};
 
     ghost Value = { Slots };
 
     ghost view = { λ p. p.words.items };
 
-    ghost invariant = { λ p. IsIndexed p.words.items (get same_key p.least) p.next.items };
+    ghost invariant = { λ p. IsIndexed p.words.items (get same_word p.least) p.next.items };
 }
 
 impl Places {
@@ -86,7 +85,7 @@ impl Places {
         let Some(word) = self.words[place] else {
             return Ok(None);
         };
-        lead_to(&mut self.least, Key::of(&word), self.next[place])?;
+        lead_to(&mut self.least, word, self.next[place])?;
         self.words[place] = None;
         Ok(Some(word))
     }
@@ -98,37 +97,37 @@ impl Places {
         requires front { (k : ℕ) (b : SeenWord) → at self.old k ≡ Some b → IsWord word.mask word.value b → place < k }
         ensures { OnOk result (self.new ≡ slice_set self.old place (Some word)) }
     {
-        let behind = self.least.insert(Key::of(&word), place)?;
+        let behind = self.least.insert(word, place)?;
         self.next[place] = behind;
         self.words[place] = Some(word);
         Ok(())
     }
 
-    /// The least place of the word with this mask and this value, if it stands somewhere.
-    pub fn least_place(&self, mask: u128, value: u128) -> Option<usize>
-        ensures { IsLeast self.now (IsWord mask value) result }
+    /// The least place of the word, if it stands somewhere.
+    pub fn least_place(&self, word: &Word) -> Option<usize>
+        ensures { IsLeast self.now (IsWord word.now.mask word.now.value) result }
     {
-        self.least.get(&Key { mask, value }).copied()
+        self.least.get(word).copied()
     }
 }
 
 ghost use Rattle.std.specs.Prelude.{◌≡◌, ◌++◌, ◌∷◌, [], OnOk, OnErr, cond};
 ghost use Rattle.std.specs.HashMap.{get, IsUnchanged};
-ghost use Rattle.bit_merge.specs.Index.{same_key};
+ghost use Rattle.ternary_words.specs.declared.word.Word.{Word as LedWord};
+ghost use Rattle.bit_merge.specs.Index.{same_word};
 ghost use Rattle.bit_merge.specs.Slots.{numbered_entries};
-ghost use Rattle.bit_merge.specs.declared.key.Key.{Key as SeenKey};
 
-/// Has the key lead to the place, or nowhere.
-fn lead_to(least: &mut HashMap<Key, usize>, key: Key, place: Option<usize>) -> Result<(), Memory>
-    ensures leads { OnOk result ((q : SeenKey) → get same_key least.new q ≡ cond (same_key key q) place (get same_key least.old q)) }
+/// Has the word lead to the place, or nowhere.
+fn lead_to(least: &mut HashMap<Word, usize>, word: Word, place: Option<usize>) -> Result<(), Memory>
+    ensures leads { OnOk result ((q : LedWord) → get same_word least.new q ≡ cond (same_word word q) place (get same_word least.old q)) }
     ensures err { OnErr result (IsUnchanged least.old least.new) }
 {
     match place {
         Some(place) => {
-            least.insert(key, place)?;
+            least.insert(word, place)?;
         }
         None => {
-            least.remove(&key);
+            least.remove(&word);
         }
     }
     Ok(())

@@ -5,7 +5,7 @@ ghost use Rattle.bit_merge.specs.Runs.{AllHave, IsMergedRun, IsMergedTable, IsRu
 
 use crate::merging::merge_words;
 use crate::places::Places;
-use razor_base::Memory;
+use razor_limits::Memory;
 use std::alloc::Global;
 use ternary_words::Entry;
 

@@ -8,7 +8,7 @@ ghost use Rattle.bit_merge.specs.Merge.{IsClosed, IsMerged};
 ghost use Rattle.bit_merge.specs.Table.{UnderNames};
 
 use crate::runs::merge_runs;
-use razor_base::Memory;
+use razor_limits::Memory;
 use std::alloc::Global;
 use ternary_words::Entry;
 

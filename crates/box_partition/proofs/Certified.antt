@@ -6,11 +6,11 @@ use Rattle.field_boxes.specs.Headline.Classifier.{Interval}
 use Rattle.field_boxes.specs.Headline.Fields.{IsHeader}
 use Rattle.field_boxes.specs.Names.{name_at}
 use Rattle.field_boxes.specs.Rules as rules
-use Rattle.filter_reader.specs.declared.list.RuleList.{RuleList}
+use Rattle.field_boxes.specs.declared.rule_list.RuleList.{RuleList}
 use Rattle.ternary_words.specs.declared.table.Table.{Table}
 use Rattle.ternary_words.specs.Views as words
 use Rattle.node_store.specs.Diagram.{Node, answer}
-use Rattle.filter_reader.specs.Lists.{name_decided}
+use Rattle.field_boxes.specs.Lists.{name_decided}
 use Rattle.partition_check.specs.Agreement.{name_answered, Agree}
 use Rattle.partition_check.specs.Boxes.{ends, IsBox}
 use Rattle.field_boxes.specs.Boxes.{LiesIn}

@@ -3,7 +3,7 @@ use Rattle.std.proofs.Common.{◌≡◌, ℕ, List, [], Bool, Option, Result, Ok
 use Rattle.field_boxes.specs.declared.rule.Rule.{Rule}
 use Rattle.field_boxes.specs.Headline.Fields.{stated, IsHeader}
 use Rattle.field_boxes.specs.Rules as rules
-use Rattle.filter_reader.specs.declared.list.RuleList.{RuleList}
+use Rattle.field_boxes.specs.declared.rule_list.RuleList.{RuleList}
 use Rattle.ternary_words.specs.declared.table.Table.{Table}
 use Rattle.ternary_words.specs.Views as words
 use Rattle.node_store.specs.Diagram.{Node, answer}

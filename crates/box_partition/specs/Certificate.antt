@@ -1,6 +1,6 @@
 -- The certificate of a list and a table: there is one exactly where they agree, and only one.
 use Rattle.std.specs.Prelude.{List}
-use Rattle.filter_reader.specs.declared.list.RuleList.{RuleList}
+use Rattle.field_boxes.specs.declared.rule_list.RuleList.{RuleList}
 use Rattle.ternary_words.specs.declared.table.Table.{Table}
 use Rattle.partition_check.specs.Boxes.{ends}
 use Rattle.partition_check.specs.Checking.{Statement}

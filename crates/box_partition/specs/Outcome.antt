@@ -2,8 +2,8 @@
 use Rattle.std.specs.Prelude.{◌≡◌, ◌⊎◌, ℕ, List, [], Option, Result, IfOk, length}
 use Rattle.std.specs.Io.KnownBytes.{Appends, Keeps}
 use Rattle.razor_base.specs.Output.{AppendsFront}
-use Rattle.filter_reader.specs.declared.list.RuleList.{RuleList}
-use Rattle.filter_reader.specs.Lists.{name_decided}
+use Rattle.field_boxes.specs.declared.rule_list.RuleList.{RuleList}
+use Rattle.field_boxes.specs.Lists.{name_decided}
 use Rattle.ternary_words.specs.declared.table.Table.{Table}
 use Rattle.list_equiv.specs.Verdict.{Differs}
 use Rattle.partition_check.specs.Agreement.{name_answered}

@@ -1,6 +1,6 @@
 -- What stands of a text that is put in parts, until a write fails or memory is refused.
 use Rattle.std.specs.Prelude.{◌≡◌, ◌≤◌, ℕ, List, ◌++◌, Option, Result, OnOk, OnErr, IfErr}
-use Rattle.razor_base.specs.Faults.{Rose}
+use Rattle.razor_limits.specs.Counts.{Rose}
 use Rattle.razor_base.specs.Output.{LeavesOut, AppendsFront}
 use Rattle.box_partition.specs.declared.stop.Stop.{Stop}
 use Rattle.box_partition.specs.declared.stop.Stop.TheVariants.{Fault, Memory}

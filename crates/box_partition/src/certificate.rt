@@ -1,6 +1,6 @@
 //! The certificate of a list and a table.
 ghost use Rattle.std.specs.Prelude.{◌≡◌, ◌≤◌, List, [], ◌∷◌, ◌++◌, length, IfOk, IfErr, OnOk, IsErrOf};
-ghost use Rattle.razor_base.specs.Faults.{Rose};
+ghost use Rattle.razor_limits.specs.Counts.{Rose};
 ghost use Rattle.razor_base.specs.Output.{Puts};
 ghost use Rattle.field_boxes.specs.Headline.Fields.{stated};
 ghost use Rattle.node_store.specs.Diagram.{level_of};
@@ -19,8 +19,7 @@ use crate::standing::{entries_by_place, rules_by_place};
 use crate::stop::Stop;
 use crate::walk::Walk;
 use fdd_build::build;
-use field_boxes::Span;
-use filter_reader::RuleList;
+use field_boxes::{RuleList, Span};
 use list_equiv::Verdict;
 use node_store::{NodeId, Store, stated_order};
 use partition_check::laws::first_matches_decide;

@@ -1,12 +1,12 @@
 //! Where a list and a table first differ, by the names that they give.
 ghost use Rattle.std.specs.Prelude.{IfOk};
-ghost use Rattle.filter_reader.specs.Lists.{name_decided};
+ghost use Rattle.field_boxes.specs.Lists.{name_decided};
 ghost use Rattle.partition_check.specs.Agreement.{name_answered};
 ghost use Rattle.partition_check.specs.PrefixWords.{ArePrefixes};
 ghost use Rattle.list_equiv.specs.Verdict.{IsVerdict};
 
 use crate::standing::entries_by_number;
-use filter_reader::RuleList;
+use field_boxes::RuleList;
 use list_equiv::{Verdict, compare};
 use partition_check::laws::first_matches_decide;
 use razor_base::Memory;

@@ -1,7 +1,7 @@
 //! Laws of the certificate, for whoever relies on it. The functions do nothing.
 ghost use Rattle.std.specs.Prelude.{◌≡◌, ◌≤◌, List, length};
-ghost use Rattle.razor_base.specs.declared.limits.TheConstants.{MOST_CERTIFICATE_BYTES};
-ghost use Rattle.filter_reader.specs.declared.list.RuleList.{RuleList};
+ghost use Rattle.razor_limits.specs.declared.limits.TheConstants.{MOST_CERTIFICATE_BYTES};
+ghost use Rattle.field_boxes.specs.declared.rule_list.RuleList.{RuleList};
 ghost use Rattle.ternary_words.specs.declared.table.Table.{Table};
 ghost use Rattle.partition_check.specs.Agreement.{Agree};
 ghost use Rattle.partition_check.specs.Checking.{Statement, begun};

@@ -29,7 +29,7 @@
 //!
 //! `specs/Certificate.antt` says what the certificate is, and `specs/Outcome.antt` how a call ends.
 //!
-//! | Room | Holds |
+//! | Module | Holds |
 //! |---|---|
 //! | `certificate`, `error`, `stop` | the call, and how it may end |
 //! | `standing`, `difference` | rules that stand for rules and entries, and where a list and a table first differ |

@@ -1,6 +1,6 @@
 //! Rules that stand for the rules of a list and for the entries of a table.
 ghost use Rattle.std.specs.Prelude.{◌≡◌, ◌≤◌, ℕ, [], ◌∷◌, ◌++◌, length, IfOk};
-ghost use Rattle.razor_base.specs.declared.limits.TheConstants.{GREATEST_PORT, MOST_ENTRIES, MOST_RULES};
+ghost use Rattle.razor_limits.specs.declared.limits.TheConstants.{GREATEST_PORT, MOST_ENTRIES, MOST_RULES};
 ghost use Rattle.field_boxes.specs.Headline.Classifier.{union_holds};
 ghost use Rattle.field_boxes.specs.Rules.{sets_of};
 ghost use Rattle.field_boxes.specs.Spans.{interval_of};

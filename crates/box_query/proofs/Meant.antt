@@ -10,8 +10,8 @@ use Rattle.field_boxes.specs.Headline.Fields.{stated, IsHeader}
 use Rattle.field_boxes.specs.NamedRules.{IsNumberedBy}
 use Rattle.field_boxes.specs.Names.{name_at, AreNames}
 use Rattle.field_boxes.specs.Spans.{interval_of, intervals_of}
-use Rattle.filter_reader.specs.declared.list.RuleList.{RuleList}
-use Rattle.filter_reader.specs.Lists.{filter_list}
+use Rattle.field_boxes.specs.declared.rule_list.RuleList.{RuleList}
+use Rattle.field_boxes.specs.Lists.{filter_list}
 use Rattle.node_store.specs.Diagram.{Node, level_of, answer}
 use Rattle.node_store.specs.Store.{IsStore}
 use Rattle.node_store.proofs.Values.{count}

@@ -1,7 +1,7 @@
 -- Rules cut to a box.
 use Rattle.std.specs.Prelude.{ℕ, Bool, false, ◌&&◌, nat_le, List, [], ◌∷◌, ◌++◌, Option, Some, None, IsTrue}
 use Rattle.std.specs.List.{list_all}
-use Rattle.razor_base.specs.declared.limits.TheConstants.{GREATEST_PORT}
+use Rattle.razor_limits.specs.declared.limits.TheConstants.{GREATEST_PORT}
 use Rattle.field_boxes.specs.declared.span.Span.{Span}
 use Rattle.field_boxes.specs.declared.rule.Rule as code
 use Rattle.field_boxes.specs.Headline.Classifier.{Interval, union_holds, matches}

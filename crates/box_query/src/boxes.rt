@@ -1,11 +1,11 @@
 //! The boxes in which a list decides as asked.
 ghost use Rattle.std.specs.Prelude.{◌≡◌, ◌≤◌, length, IfOk, IfErr, OnOk, IsErrOf};
-ghost use Rattle.razor_base.specs.Faults.{Rose};
+ghost use Rattle.razor_limits.specs.Counts.{Rose};
 ghost use Rattle.razor_base.specs.Output.{Writes};
 ghost use Rattle.field_boxes.specs.Headline.Fields.{stated};
 ghost use Rattle.field_boxes.specs.Names.{name_at};
 ghost use Rattle.field_boxes.specs.Spans.{AreInside, intervals_of};
-ghost use Rattle.filter_reader.specs.Lists.{filter_list};
+ghost use Rattle.field_boxes.specs.Lists.{filter_list};
 ghost use Rattle.node_store.specs.Diagram.{level_of};
 ghost use Rattle.box_query.specs.BoxText.{boxes_text};
 ghost use Rattle.box_query.specs.NodeBoxes.{node_boxes};
@@ -16,8 +16,7 @@ use crate::diagram::wanted;
 use crate::error::QueryError;
 use crate::line::Line;
 use crate::walk::Walk;
-use field_boxes::Span;
-use filter_reader::RuleList;
+use field_boxes::{RuleList, Span};
 use node_store::{NodeId, Store, stated_order};
 use razor_base::{Failed, Pending, Sink};
 use std::alloc::Global;

@@ -1,6 +1,6 @@
 //! Rules cut to a box.
 ghost use Rattle.std.specs.Prelude.{◌≡◌, ◌≤◌, ◌+◌, ◌&&◌, ◌||◌, ℕ, List, ◌++◌, ◌∷◌, [], length, IfOk, IfSome};
-ghost use Rattle.razor_base.specs.declared.limits.TheConstants.{GREATEST_PORT, GREATEST_PROTOCOL};
+ghost use Rattle.razor_limits.specs.declared.limits.TheConstants.{GREATEST_PORT, GREATEST_PROTOCOL};
 ghost use Rattle.field_boxes.specs.Boxes.{box_of, box_holds};
 ghost use Rattle.field_boxes.specs.Headline.Classifier.{union_holds, matches};
 ghost use Rattle.field_boxes.specs.Headline.Fields.{stated, IsHeader};

@@ -25,7 +25,7 @@
 //!
 //! `specs/Boxes.antt` says what the boxes are, and `specs/Outcome.antt` how a call ends.
 //!
-//! | Room | Holds |
+//! | Module | Holds |
 //! |---|---|
 //! | `boxes`, `error` | the call, and why not all boxes were written |
 //! | `cut`, `asked`, `diagram` | rules cut to a box, and the diagram of two answers |

@@ -1,6 +1,6 @@
 -- Number words.
 use Rattle.std.specs.Prelude.{ℕ, List, [], ◌∷◌, nat_le, Option, Some, None, if◌then◌else◌}
-use Rattle.razor_base.specs.declared.limits.TheConstants.{MOST_RULES}
+use Rattle.razor_limits.specs.declared.limits.TheConstants.{MOST_RULES}
 use Rattle.text_lines.specs.Headline.Numbers.{short_number}
 use Rattle.text_lines.specs.Headline.Steps.{◌>>=◌}
 

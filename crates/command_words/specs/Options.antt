@@ -1,6 +1,6 @@
 -- The options: how they are written, which values they take, and which of them a command takes.
 use Rattle.std.specs.Prelude.{ℕ, Bool, true, false, ◌||◌, ◌==◌, List, find, Option, Some, None, option_map, codes, if◌then◌else◌}
-use Rattle.razor_base.specs.declared.limits.TheConstants.{MOST_ENTRIES}
+use Rattle.razor_limits.specs.declared.limits.TheConstants.{MOST_ENTRIES}
 use Rattle.command_words.specs.declared.option.OptionName.{OptionName}
 use Rattle.command_words.specs.declared.option.OptionName.TheVariants.{Limit, Slot, Slots, Order, Swap, By}
 use Rattle.command_words.specs.declared.option.Need.{Need}

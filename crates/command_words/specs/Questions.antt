@@ -2,7 +2,7 @@
 use Rattle.std.specs.Prelude.{ℕ, ◌+◌, ◌==◌, Bool, false, not, ◌&&◌, ◌||◌, List, [], ◌∷◌, codes, Option, Some, None, if◌then◌else◌}
 use Rattle.std.specs.Option.{is_some}
 use Rattle.std.specs.Str.{bytes_eq}
-use Rattle.razor_base.specs.declared.limits.TheConstants.{MOST_RULES}
+use Rattle.razor_limits.specs.declared.limits.TheConstants.{MOST_RULES}
 use Rattle.field_boxes.specs.Headline.Classifier.{Interval}
 use Rattle.field_boxes.specs.Fields.{greatest_of}
 use Rattle.field_boxes.specs.Headline.Names.{miss}

@@ -1,7 +1,7 @@
 -- The command that words spell.
 use Rattle.std.specs.Prelude.{ℕ, List, [], ◌∷◌, length, nat_le, find, Option, Some, None, if◌then◌else◌}
 use Rattle.std.specs.Str.{bytes_eq}
-use Rattle.razor_base.specs.declared.limits.TheConstants.{MOST_ENTRIES}
+use Rattle.razor_limits.specs.declared.limits.TheConstants.{MOST_ENTRIES}
 use Rattle.command_words.specs.declared.option.OptionName.TheVariants.{Limit, Slot, Slots, Order, Swap, By}
 use Rattle.command_words.specs.Commands.{Command, command_named, forms}
 use Rattle.command_words.specs.Forms.{Form}

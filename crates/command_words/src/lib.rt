@@ -24,7 +24,7 @@
 //! option, the form takes the values or doesn't, and the name makes a command of them and the plain words. The code
 //! reads the words once, from left to right, and takes no memory.
 //!
-//! | Room | Holds |
+//! | Module | Holds |
 //! |---|---|
 //! | `spelling` | the call |
 //! | `commands`, `form` | the row and the command of each name |

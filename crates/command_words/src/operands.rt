@@ -1,7 +1,7 @@
 //! What the words of a command that are no options come to.
 ghost use Rattle.std.specs.Prelude.{◌≢◌, ◌≤◌, IsTrue};
 ghost use Rattle.field_boxes.specs.Spans.{AreInside};
-ghost use Rattle.razor_base.specs.declared.limits.TheConstants.{MOST_RULES};
+ghost use Rattle.razor_limits.specs.declared.limits.TheConstants.{MOST_RULES};
 ghost use Rattle.command_words.specs.Files.{is_script_run};
 ghost use Rattle.command_words.specs.PlainWords.{plain_seen};
 

@@ -1,7 +1,7 @@
 //! What the options of a command come to.
 ghost use Rattle.std.specs.Prelude.{◌≡◌, ◌≤◌, Some, IfSome, option_and_then};
 ghost use Rattle.std.specs.Option.{option_map};
-ghost use Rattle.razor_base.specs.declared.limits.TheConstants.{MOST_ENTRIES};
+ghost use Rattle.razor_limits.specs.declared.limits.TheConstants.{MOST_ENTRIES};
 ghost use Rattle.ternary_words.specs.Limits.{IsSlotWidth};
 ghost use Rattle.command_words.specs.Forms.{form_seen};
 ghost use Rattle.command_words.specs.Options.{given, optional, or_usual, size_in, width_in};

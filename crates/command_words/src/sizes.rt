@@ -1,6 +1,6 @@
 //! The sizes of tables and memories.
 ghost use Rattle.std.specs.Prelude.{◌≤◌};
-ghost use Rattle.razor_base.specs.declared.limits.TheConstants.{MOST_ENTRIES};
+ghost use Rattle.razor_limits.specs.declared.limits.TheConstants.{MOST_ENTRIES};
 
 use ternary_words::{Limit, SlotWidth};
 

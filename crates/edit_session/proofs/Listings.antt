@@ -10,9 +10,9 @@ use Rattle.field_boxes.specs.NamedRules.{IsNumberedBy, named_rule, named_rules}
 use Rattle.field_boxes.specs.Names.{with_name}
 use Rattle.field_boxes.specs.Rules.{sets_of}
 use Rattle.field_boxes.specs.Ports.{ArePorts}
-use Rattle.filter_reader.specs.FilterRules.{IsFilterRule}
-use Rattle.filter_reader.specs.Prefixes.{IsPrefix}
-use Rattle.filter_reader.specs.Protocols.{IsProtocol}
+use Rattle.field_boxes.specs.FilterRules.{IsFilterRule}
+use Rattle.field_boxes.specs.Prefixes.{IsPrefix}
+use Rattle.field_boxes.specs.Protocols.{IsProtocol}
 use Rattle.edit_session.specs.declared.listing.Listing.TheInside.{Inside}
 use Rattle.edit_session.specs.declared.refusal.PlaceRefusal.{PlaceRefusal}
 use Rattle.edit_session.specs.declared.refusal.PlaceRefusal.TheVariants as places

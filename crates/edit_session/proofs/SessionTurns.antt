@@ -1,8 +1,7 @@
 -- A command of a session takes its turn, or is left where memory is refused.
 use Rattle.std.proofs.Common.{◌≡◌, ℕ, ◌≤◌, true, false, List, Option, Some, None, Result, Ok, Err, inl, inr, refl, sym, ap, subst, ◌∙◌, arith}
 use Rattle.std.specs.Prelude.{◌↔◌, ◌⊎◌, IfOk, IfErr, OnOk, OnErr, option_map, if◌then◌else◌}
-use Rattle.razor_base.specs.FaultPlan.{counted}
-use Rattle.razor_base.specs.Faults.{Rose}
+use Rattle.razor_limits.specs.Counts.{counted, Rose}
 use Rattle.razor_base.specs.Output.{Writes}
 use Rattle.tcam_sim.specs.Tries.{counted_times}
 use Rattle.field_boxes.specs.Headline.Classifier.{Rule}

@@ -1,10 +1,10 @@
 -- Lists as the code keeps them.
 use Rattle.std.specs.Prelude.{◌≡◌, ◌≤◌, ℕ, List, length, insert, All}
-use Rattle.razor_base.specs.declared.limits.TheConstants.{MOST_RULES}
+use Rattle.razor_limits.specs.declared.limits.TheConstants.{MOST_RULES}
 use Rattle.field_boxes.specs.declared.rule.Rule.{Rule}
 use Rattle.field_boxes.specs.NamedRules.{IsNumberedBy, named_rules}
 use Rattle.field_boxes.specs.Rules.{sets_of}
-use Rattle.filter_reader.specs.FilterRules.{IsFilterRule}
+use Rattle.field_boxes.specs.FilterRules.{IsFilterRule}
 use Rattle.edit_session.specs.Lists.{Listed}
 use Rattle.edit_session.specs.declared.listing.Listing.TheInside.{Inside}
 

@@ -1,12 +1,12 @@
 -- Rule lists that are edited, and what the edits answer and do.
 use Rattle.std.specs.Prelude.{ℕ, ◌+◌, ◌-◌, ◌==◌, Bool, ◌&&◌, nat_le, List, length, insert, remove, Result, Ok, Err, if◌then◌else◌}
-use Rattle.razor_base.specs.declared.limits.TheConstants.{MOST_RULES}
+use Rattle.razor_limits.specs.declared.limits.TheConstants.{MOST_RULES}
 use Rattle.field_boxes.specs.declared.rule.Rule as code
 use Rattle.field_boxes.specs.Headline.Classifier.{Rule}
 use Rattle.field_boxes.specs.Names.{with_name}
 use Rattle.field_boxes.specs.Rules.{sets_of}
-use Rattle.filter_reader.specs.Prefixes.{IsPrefix}
-use Rattle.filter_reader.specs.Protocols.{IsProtocol}
+use Rattle.field_boxes.specs.Prefixes.{IsPrefix}
+use Rattle.field_boxes.specs.Protocols.{IsProtocol}
 use Rattle.edit_session.specs.declared.refusal.NoPlace.{NoPlace}
 use Rattle.edit_session.specs.declared.refusal.PlaceRefusal.{PlaceRefusal}
 use Rattle.edit_session.specs.declared.refusal.PlaceRefusal.TheVariants as places

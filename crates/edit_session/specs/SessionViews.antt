@@ -4,7 +4,7 @@ use Rattle.std.specs.String.{string_bytes}
 use Rattle.field_boxes.specs.declared.rule.Rule.{Rule}
 use Rattle.field_boxes.specs.Names.{is_decision_word}
 use Rattle.field_boxes.specs.Rules.{sets_of}
-use Rattle.filter_reader.specs.FilterRules.{IsFilterRule}
+use Rattle.field_boxes.specs.FilterRules.{IsFilterRule}
 use Rattle.edit_session.specs.SessionText.{SessionEvent, Add, TakeOut, Commit, Step, Abort, Look, Stage}
 use Rattle.edit_session.specs.declared.session.SessionCommand.{SessionCommand}
 use Rattle.edit_session.specs.declared.session.SessionCommand.TheVariants as commands

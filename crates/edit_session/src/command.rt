@@ -1,7 +1,7 @@
 //! The command of a line of a session.
 ghost use Rattle.std.specs.Prelude.{◌≡◌, IfOk, IfSome, MatchResult, Ok, ok_or, option_map};
 ghost use Rattle.field_boxes.specs.Rules.{sets_of};
-ghost use Rattle.filter_reader.specs.FilterRules.{IsFilterRule};
+ghost use Rattle.field_boxes.specs.FilterRules.{IsFilterRule};
 ghost use Rattle.filter_reader.specs.LineRules.{IsLineRule, spelled_rule};
 ghost use Rattle.text_lines.specs.Columns.{behind_column, columns};
 ghost use Rattle.text_lines.specs.Reading.{IsLineRefused};

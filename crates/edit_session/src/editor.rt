@@ -1,5 +1,5 @@
 //! The editing session over a memory: its events, one call each.
-ghost use Rattle.razor_base.specs.declared.limits.TheConstants.{MOST_ENTRIES, MOST_RULES};
+ghost use Rattle.razor_limits.specs.declared.limits.TheConstants.{MOST_ENTRIES, MOST_RULES};
 
 use crate::list_swapper::ListSwapper;
 use crate::listing::Listing;
@@ -7,8 +7,7 @@ use crate::maker::{Maker, Method};
 use crate::refusal::{CommitRefusal, NoPlace, PlaceRefusal};
 use crate::way::Replaced;
 use bank_update::{Block, Idle, Stage, StepRefusal, Swapper, Updater};
-use field_boxes::{Decisions, Header, Rule};
-use filter_reader::RuleList;
+use field_boxes::{Decisions, Header, Rule, RuleList};
 use razor_base::Memory;
 use slot_patch::{SlotTable, new_patcher};
 use std::alloc::Global;
@@ -98,12 +97,11 @@ impl<'a, V: Device> Editor<'a, V, SlotTable> {
 
 impl<'a, V: Device, T: Replaced> Editor<'a, V, T> {
     ghost use Rattle.std.specs.Prelude.{◌≡◌, ◌≢◌, ◌≤◌, ◌<◌, ◌↔◌, ℕ, List, None, Some, Ok, Err, All, length, replicate, ok_or, IfOk, IfErr, IsTrue, OnOk, OnErr};
-    ghost use Rattle.razor_base.specs.FaultPlan.{counted};
-    ghost use Rattle.razor_base.specs.Faults.{Rose};
+    ghost use Rattle.razor_limits.specs.Counts.{counted, Rose};
     ghost use Rattle.field_boxes.specs.NamedRules.{IsNumberedBy, named_rules};
     ghost use Rattle.field_boxes.specs.Headline.Names.{text_of};
     ghost use Rattle.field_boxes.specs.Names.{is_decision_word};
-    ghost use Rattle.filter_reader.specs.FilterRules.{IsFilterRule};
+    ghost use Rattle.field_boxes.specs.FilterRules.{IsFilterRule};
     ghost use Rattle.bank_update.specs.Machine.{abort_answer, held, looked, stage, step_answer};
     ghost use Rattle.bank_update.specs.Sound.{IsSound};
     ghost use Rattle.bank_update.specs.Swapping.{KeepsNew};

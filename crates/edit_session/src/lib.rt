@@ -36,7 +36,7 @@
 //! `specs/Machine.antt` says what the editor does; it stands on rules, headers and tables. `specs/SessionText.antt`
 //! says what a text spells, and `specs/SessionRuns.antt` what its commands do and print.
 //!
-//! | Room | Holds |
+//! | Module | Holds |
 //! |---|---|
 //! | `editor`, `refusal` | the session over a memory, and why an edit or a commit is refused |
 //! | `listing`, `ordered` | a list with its edits, and its rules in their order |

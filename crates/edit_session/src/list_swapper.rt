@@ -34,8 +34,7 @@ impl<V: Device, T: Replaced> Model for ListSwapper<V, T> {
 
 impl<V: Device, T: Replaced> ListSwapper<V, T> {
     ghost use Rattle.std.specs.Prelude.{◌≡◌, ◌≢◌, ◌≤◌, ◌↔◌, ℕ, List, None, Some, Ok, Err, length, replicate, ok_or, IfOk, IfErr, OnOk, OnErr};
-    ghost use Rattle.razor_base.specs.FaultPlan.{counted};
-    ghost use Rattle.razor_base.specs.Faults.{Rose};
+    ghost use Rattle.razor_limits.specs.Counts.{counted, Rose};
     ghost use Rattle.field_boxes.specs.Headline.Names.{text_of};
     ghost use Rattle.bank_update.specs.Machine.{abort_answer, aborted, held, looked, stage, step_answer, stepped};
     ghost use Rattle.bank_update.specs.Whole.{unsettled};

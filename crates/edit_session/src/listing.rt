@@ -1,14 +1,13 @@
 //! Rules with the names of their decisions, and their edits.
 ghost use Rattle.std.specs.Prelude.{◌≡◌, ◌≤◌, length, OnOk, OnErr};
-ghost use Rattle.razor_base.specs.declared.limits.TheConstants.{MOST_RULES, MOST_ENTRIES};
-ghost use Rattle.filter_reader.specs.FilterRules.{IsFilterRule};
+ghost use Rattle.razor_limits.specs.declared.limits.TheConstants.{MOST_RULES, MOST_ENTRIES};
+ghost use Rattle.field_boxes.specs.FilterRules.{IsFilterRule};
 ghost use Rattle.edit_session.specs.Kept.{IsPut};
 ghost use Rattle.edit_session.specs.Lists.{IsEditable, is_within};
 
 use crate::ordered::Ordered;
 use crate::refusal::{NoPlace, PlaceRefusal};
-use field_boxes::{Decisions, Ports, Rule};
-use filter_reader::RuleList;
+use field_boxes::{Decisions, Ports, Rule, RuleList};
 use razor_base::Memory;
 use razor_base::limits::MOST_RULES;
 use std::alloc::Global;
@@ -37,7 +36,7 @@ impl Listing {
     ghost use Rattle.std.specs.Prelude.{◌≡◌, ◌≤◌, ◌<◌, [], length, All, IfOk, IfErr, IsTrue, OnOk};
     ghost use Rattle.field_boxes.specs.NamedRules.{IsNumberedBy, named_rules};
     ghost use Rattle.field_boxes.specs.Names.{AreNames, is_decision_word};
-    ghost use Rattle.filter_reader.specs.FilterRules.{IsFilterRule};
+    ghost use Rattle.field_boxes.specs.FilterRules.{IsFilterRule};
     ghost use Rattle.edit_session.specs.Editing.{IsAddRefused};
     ghost use Rattle.edit_session.specs.Lists.{IsEditable, add_answer, rule_named, take_out_answer, taken_out, with_rule};
 

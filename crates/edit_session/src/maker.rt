@@ -1,7 +1,7 @@
 //! The makers of the tables that commits hand over.
 ghost use Rattle.std.specs.Prelude.{◌≡◌, ◌≤◌, length, All, IfOk, IfErr, MatchResult};
 ghost use Rattle.field_boxes.specs.NamedRules.{IsNumberedBy, named_rules};
-ghost use Rattle.razor_base.specs.declared.limits.TheConstants.{MOST_RULES};
+ghost use Rattle.razor_limits.specs.declared.limits.TheConstants.{MOST_RULES};
 ghost use Rattle.ternary_words.specs.Views.{table_of};
 ghost use Rattle.edit_session.specs.Machine.{IsTableFor};
 ghost use Rattle.edit_session.specs.Methods.{IsMade, IsUnmade, method_of, method_seen};

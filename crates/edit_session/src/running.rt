@@ -2,10 +2,10 @@
 ghost use Rattle.std.specs.Prelude.{◌≡◌, ◌≤◌, ◌<◌, ◌+◌, [], length, All, IfOk, IsErrOf, IsTrue, OnErr};
 ghost use Rattle.std.specs.Io.KnownBytes.{Appends};
 ghost use Rattle.std.specs.String.{string_bytes};
-ghost use Rattle.razor_base.specs.Faults.{Rose};
-ghost use Rattle.razor_base.specs.declared.limits.TheConstants.{MOST_ENTRIES};
+ghost use Rattle.razor_limits.specs.Counts.{Rose};
+ghost use Rattle.razor_limits.specs.declared.limits.TheConstants.{MOST_ENTRIES};
 ghost use Rattle.field_boxes.specs.Names.{is_decision_word};
-ghost use Rattle.filter_reader.specs.FilterRules.{IsFilterRule};
+ghost use Rattle.field_boxes.specs.FilterRules.{IsFilterRule};
 ghost use Rattle.bank_update.specs.Driven.{UnlessWriteFault};
 ghost use Rattle.bank_update.specs.declared.drive.DriveError.TheVariants as errors;
 ghost use Rattle.edit_session.specs.Lists.{rule_named};

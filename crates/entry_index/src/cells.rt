@@ -2,7 +2,7 @@
 
 use crate::fields::Lead;
 use crate::sets::Sets;
-use razor_base::Memory;
+use razor_limits::Memory;
 use std::alloc::Global;
 
 /// The prefixes into which one field is parted, from the whole field down, each in front of those inside of

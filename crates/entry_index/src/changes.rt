@@ -4,7 +4,7 @@ use crate::cube::Cube;
 use crate::fields::leads;
 use crate::row::Row;
 use crate::slots::{GAP, NOTHING, STEP, Slot, Slots};
-use razor_base::Memory;
+use razor_limits::Memory;
 use std::alloc::Global;
 
 impl Slots {

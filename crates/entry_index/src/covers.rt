@@ -5,7 +5,7 @@ ghost use Rattle.std.specs.Prelude.{◌≤◌};
 use crate::cube::Cube;
 use crate::fields::highest;
 use crate::row::Row;
-use razor_base::Memory;
+use razor_limits::Memory;
 
 /// Splits that one question may cost; past that the answer is no.
 const SPLITS: u32 = 2000;

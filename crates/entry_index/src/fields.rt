@@ -1,9 +1,7 @@
 //! The five fields of a header.
 
 use crate::cube::Cube;
-
-/// Lowest bit and width of the fields: source and destination address, their ports, protocol.
-pub(crate) const FIELDS: [(u32, u32); 5] = [(72, 32), (40, 32), (24, 16), (8, 16), (0, 8)];
+use ternary_words::FIELD_PLACES;
 
 /// The bits of the fields.
 pub(crate) const FIELD_BITS: [u128; 5] = [
@@ -21,7 +19,10 @@ pub fn field(f: usize) -> u128 {
 
 /// Lowest bit and width of the field with this number.
 pub(crate) fn place_of(f: usize) -> (u32, u32) {
-    FIELDS.get(f).copied().unwrap_or((0, 0))
+    match FIELD_PLACES.get(f) {
+        Some(place) => (u32::from(place.low), u32::from(place.width)),
+        None => (0, 0),
+    }
 }
 
 /// The cube without what the lost bits bring down: in each field the highest lost bit and all below it.

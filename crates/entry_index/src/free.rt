@@ -3,7 +3,7 @@
 use crate::covers::covered_at;
 use crate::cube::Cube;
 use crate::row::Row;
-use razor_base::Memory;
+use razor_limits::Memory;
 
 /// What is asked of a table: whether a cube may stand in front of the row at a place with a decision.
 #[derive(Clone, Copy)]

@@ -9,7 +9,7 @@
 //! What is promised: that every call is safe and returns, whatever it is given. Nothing is promised of any answer: who
 //! uses what comes out of a search checks it. That the moves keep what the table answers is only tested.
 //!
-//! | Room | Holds |
+//! | Module | Holds |
 //! |---|---|
 //! | `table`, `row`, `slots`, `links`, `marks` | tables that are searched: rows and their order |
 //! | `view`, `sets`, `cells`, `fields` | the rows that meet a cube, found by prefixes of each field |

@@ -1,6 +1,6 @@
 //! The order of slots.
 
-use razor_base::Memory;
+use razor_limits::Memory;
 use std::alloc::Global;
 
 /// Each slot's neighbours in the order of the rows. Slot 0 stands before the first and behind the last one.

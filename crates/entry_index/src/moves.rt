@@ -1,10 +1,11 @@
 //! Moves of single rows that keep what a table answers.
 
 use crate::cube::Cube;
-use crate::fields::{FIELDS, field, lowest, place_of, up_to_highest};
+use crate::fields::{field, lowest, place_of, up_to_highest};
 use crate::free::{free_for, passes};
 use crate::table::Table;
-use razor_base::Memory;
+use razor_limits::Memory;
+use ternary_words::FIELD_PLACES;
 
 impl Table {
     /// Whether the table answers the same without the row; false too where that is too hard to see.
@@ -88,7 +89,7 @@ impl Table {
             return Ok(());
         }
         let mut cube = row.cube;
-        for f in (0..FIELDS.len()).rev() {
+        for f in (0..FIELD_PLACES.len()).rev() {
             cube = self.narrowed(cube, row.decision, f)?;
         }
         self.slots.set(id, cube);

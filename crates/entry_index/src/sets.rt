@@ -1,6 +1,6 @@
 //! Sets of slots.
 
-use razor_base::Memory;
+use razor_limits::Memory;
 use std::alloc::Global;
 
 /// Sets of slots, each a row of bits.

@@ -2,7 +2,7 @@
 
 use crate::cube::Cube;
 use crate::fields::highest;
-use razor_base::Memory;
+use razor_limits::Memory;
 use std::alloc::Global;
 use std::mem;
 

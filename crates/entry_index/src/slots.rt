@@ -6,7 +6,7 @@ use crate::fields::leads;
 use crate::links::Links;
 use crate::row::Row;
 use crate::sets::Sets;
-use razor_base::Memory;
+use razor_limits::Memory;
 use std::alloc::Global;
 
 /// Decisions are told apart by this many sets of slots.

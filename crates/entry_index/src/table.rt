@@ -5,7 +5,7 @@ use crate::marks::Mark;
 use crate::row::Row;
 use crate::slots::Slots;
 use crate::view::View;
-use razor_base::Memory;
+use razor_limits::Memory;
 use std::alloc::Global;
 
 /// A table of rows in order, each known by an id that stays with it: the rows that it is made of have ids

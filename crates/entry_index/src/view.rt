@@ -5,7 +5,7 @@ use crate::fields::{FIELD_BITS, leads};
 use crate::row::Row;
 use crate::sets::{Block, count, keep};
 use crate::slots::{Slot, Slots, kind};
-use razor_base::Memory;
+use razor_limits::Memory;
 use std::alloc::Global;
 
 /// The rows of a table that meet a cube, in order, without the one that they are looked at for.

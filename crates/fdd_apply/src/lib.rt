@@ -19,7 +19,7 @@
 //! - The store only gains nodes: a number that was handed out before keeps what it answers, also where the walk runs
 //!   out of memory.
 //!
-//! | Room | Holds |
+//! | Module | Holds |
 //! |---|---|
 //! | `walk`, `pair` | the walk over pairs of nodes |
 //! | `operation` | what is made of the answers of two diagrams |

@@ -3,7 +3,7 @@
 use crate::pair::Pair;
 use crate::rooms::Rooms;
 use node_store::NodeId;
-use razor_base::Memory;
+use razor_limits::Memory;
 use std::alloc::Global;
 use std::collections::HashMap;
 

@@ -2,7 +2,7 @@
 ghost use Rattle.std.specs.Prelude.{◌≡◌, []};
 
 use node_store::{Edge, Part};
-use razor_base::Memory;
+use razor_limits::Memory;
 use std::alloc::Global;
 
 /// Room for the parts of a pair, and for the edges that come of them.

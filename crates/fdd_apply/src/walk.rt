@@ -14,7 +14,7 @@ use crate::pair::Pair;
 use crate::results::Results;
 use crate::rooms::Room;
 use node_store::{Edge, NodeId, Part, Store};
-use razor_base::Memory;
+use razor_limits::Memory;
 use std::alloc::Global;
 
 /// The node of the level that answers, for all values of its fields, what comes of the answers of two nodes.

@@ -13,7 +13,7 @@ ghost use Rattle.fdd_build.specs.Sets.{sets_seen, box_rule};
 use crate::fork::forked;
 use field_boxes::Span;
 use node_store::{NodeId, Store};
-use razor_base::Memory;
+use razor_limits::Memory;
 use std::alloc::Global;
 use std::slice::from_ref;
 

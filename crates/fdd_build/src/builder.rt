@@ -7,7 +7,7 @@ use crate::overlay::Overlay;
 use fdd_apply::{Results, apply};
 use field_boxes::Rule;
 use node_store::{NodeId, Store};
-use razor_base::Memory;
+use razor_limits::Memory;
 use std::alloc::Global;
 
 /// A builder of the diagrams of rule lists, over one order and in one store.

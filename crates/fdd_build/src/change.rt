@@ -16,7 +16,7 @@ use crate::nothing::nothing_from;
 use crate::overlay::Overlay;
 use field_boxes::{Rule, Span};
 use node_store::{NodeId, Store, stated_order};
-use razor_base::Memory;
+use razor_limits::Memory;
 use std::alloc::Global;
 
 /// The decision where the diagram answers 0 and the box holds the header, elsewhere its own answer.

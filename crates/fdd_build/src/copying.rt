@@ -6,7 +6,7 @@ ghost use Rattle.node_store.specs.Store.{Grows};
 ghost use Rattle.fdd_build.specs.Copies.{IsCopy, AreCopies};
 
 use node_store::{Edge, NodeId, Store};
-use razor_base::Memory;
+use razor_limits::Memory;
 use std::alloc::Global;
 
 /// The diagram under a node of one store, in another: it answers alike, for all values of its level's fields.

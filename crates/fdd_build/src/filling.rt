@@ -2,7 +2,7 @@
 
 use field_boxes::Span;
 use node_store::{Edge, NodeId, laws};
-use razor_base::Memory;
+use razor_limits::Memory;
 use smallvec::SmallVec;
 use std::alloc::Global;
 

@@ -12,7 +12,7 @@ ghost use Rattle.node_store.specs.Store.{Grows, LeadTo};
 use crate::filling::{Edges, Filling};
 use field_boxes::{Span, greatest};
 use node_store::{NodeId, Store};
-use razor_base::Memory;
+use razor_limits::Memory;
 use std::alloc::Global;
 
 /// The node of the level that leads inside in the set and outside elsewhere.

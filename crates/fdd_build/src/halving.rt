@@ -15,7 +15,7 @@ use crate::change::over_sets;
 use crate::copying::copied;
 use field_boxes::Rule;
 use node_store::{NodeId, Store};
-use razor_base::Memory;
+use razor_limits::Memory;
 use std::alloc::Global;
 
 /// A half of so many rules, or more, is built in a store of its own.

@@ -4,7 +4,7 @@ use crate::nothing::Nodes;
 use crate::overlay::Overlay;
 use fdd_apply::{Operation, Pair, Results, apply};
 use node_store::{NodeId, Store};
-use razor_base::Memory;
+use razor_limits::Memory;
 use std::alloc::Global;
 
 /// How diagrams are laid, with the node of each level that answers 0 everywhere: the one with most fields first.

@@ -30,7 +30,7 @@
 //! - The store only gains nodes: a number that was handed out before keeps what it answers, also where a call runs out
 //!   of memory.
 //!
-//! | Room | Holds |
+//! | Module | Holds |
 //! |---|---|
 //! | `halving`, `builder` | the diagram of a list, once, and of one list after another |
 //! | `change`, `boxes`, `fork` | a diagram changed in one box |

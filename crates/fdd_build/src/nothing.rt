@@ -5,7 +5,7 @@ ghost use Rattle.node_store.specs.Store.{Grows};
 ghost use Rattle.fdd_build.specs.Nothing.{AreNothing};
 
 use node_store::{NodeId, Store};
-use razor_base::Memory;
+use razor_limits::Memory;
 use smallvec::SmallVec;
 use std::alloc::Global;
 

@@ -1,7 +1,7 @@
 //! What a walk over pairs of nodes has found.
 
 use crate::pair::Pair;
-use razor_base::Memory;
+use razor_limits::Memory;
 use std::alloc::Global;
 use std::collections::HashSet;
 

@@ -11,7 +11,7 @@ use crate::pair::Pair;
 use crate::question::Question;
 use field_boxes::Span;
 use node_store::{NodeId, Part, Store, stated_order};
-use razor_base::Memory;
+use razor_limits::Memory;
 use std::alloc::Global;
 
 /// Whether every header of the box at which `which` answers `index` has the answer `decision` at `answers`.

@@ -7,7 +7,7 @@ ghost use Rattle.node_store.specs.Store.{LeadTo};
 ghost use Rattle.fdd_ops.specs.Joint.{IsCoarsest};
 
 use node_store::{NodeId, Part, Store};
-use razor_base::Memory;
+use razor_limits::Memory;
 use std::alloc::Global;
 
 /// Some values of a field, from past the edge before it up to `hi`, and the children to which they lead

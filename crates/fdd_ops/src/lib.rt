@@ -33,7 +33,7 @@
 //!
 //! `specs/Alike.antt` of `field_boxes` says what a least difference is.
 //!
-//! | Room | Holds |
+//! | Module | Holds |
 //! |---|---|
 //! | `difference`, `parting` | the least header on which two diagrams differ |
 //! | `agreement`, `agreed`, `question`, `pair` | whether one diagram decides as asked where another answers an index |

@@ -4,3 +4,4 @@ pub mod Classifier
 pub mod Names
 pub mod Bits
 pub mod Prefix
+pub mod FilterList

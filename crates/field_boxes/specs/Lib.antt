@@ -12,3 +12,7 @@ pub mod Ports
 pub mod Boxes
 pub mod Rules
 pub mod NamedRules
+pub mod Prefixes
+pub mod Protocols
+pub mod FilterRules
+pub mod Lists

@@ -3,7 +3,7 @@ use Rattle.std.specs.Prelude.{◌≡◌, ◌≢◌, ℕ, zero, suc, ◌≤◌, B
 use Rattle.std.specs.List.{list_any}
 use Rattle.std.specs.Str.{bytes_eq}
 use Rattle.field_boxes.specs.Headline.Names.{miss, has_word_form}
-use Rattle.razor_base.specs.declared.limits.TheConstants.{MOST_ENTRIES}
+use Rattle.razor_limits.specs.declared.limits.TheConstants.{MOST_ENTRIES}
 
 -- a decision word: of that form, and not the word for no decision
 abbrev pub is_decision_word : List ℕ → Bool

@@ -1,7 +1,7 @@
 -- Sets of ports: a port column of a filter, as the union of its ranges.
 use Rattle.std.specs.Prelude.{◌≤◌, Bool, ◌&&◌, nat_le, List, length}
 use Rattle.std.specs.List.{list_all}
-use Rattle.razor_base.specs.declared.limits.TheConstants.{GREATEST_PORT, MOST_RANGES}
+use Rattle.razor_limits.specs.declared.limits.TheConstants.{GREATEST_PORT, MOST_RANGES}
 use Rattle.field_boxes.specs.declared.span.Span.{Span}
 use Rattle.field_boxes.specs.Headline.Classifier.{Interval}
 use Rattle.field_boxes.specs.Unions.{RiseApart}

@@ -4,7 +4,7 @@ use Rattle.std.proofs.Common.{ap, subst, refl, sym, ◌∙◌}
 use Rattle.std.proofs.Math.Nat.{le_refl, le-max_left, max-eq_right}
 use Rattle.std.proofs.lemmas.List.{length-map, length-take-le, take-append-drop}
 use Rattle.std.specs.Coded.{le_prop}
-use Rattle.razor_base.specs.declared.limits.TheConstants.{MOST_RANGES}
+use Rattle.razor_limits.specs.declared.limits.TheConstants.{MOST_RANGES}
 use Rattle.field_boxes.specs.Headline.Classifier.{Interval}
 use Rattle.field_boxes.specs.Spans.{interval_of, intervals_of}
 use Rattle.field_boxes.specs.declared.span.Span.{Span}

@@ -10,7 +10,7 @@ ghost use Rattle.field_boxes.specs.Unions.{RiseApart};
 ghost use Rattle.field_boxes.specs.Boxes.{EachValue, SomeValue};
 
 use crate::span::Span;
-use razor_base::limits::{GREATEST_PORT, GREATEST_PROTOCOL};
+use razor_limits::limits::{GREATEST_PORT, GREATEST_PROTOCOL};
 
 /// Whether the set has all values of the span up to the greatest.
 pub(crate) fn has_all(set: &[Span], span: Span, greatest: u32) -> bool

@@ -1,11 +1,11 @@
 //! The names of decisions and their numbers.
 ghost use Rattle.std.specs.Prelude.{◌≡◌, ◌≢◌, ◌≤◌, ◌<◌, ◌↔◌, ℕ, false, List, [], length, Some, IfOk, IfSome, IsNone, OnOk, OnErr};
-ghost use Rattle.razor_base.specs.declared.limits.TheConstants.{MOST_ENTRIES};
+ghost use Rattle.razor_limits.specs.declared.limits.TheConstants.{MOST_ENTRIES};
 ghost use Rattle.field_boxes.specs.Headline.Names.{miss, text_of};
 ghost use Rattle.field_boxes.specs.Names.{AreNames, is_known, name_at, number_of, with_name};
 
 use indexmap::IndexSet;
-use razor_base::Memory;
+use razor_limits::Memory;
 use std::alloc::Global;
 use std::marker::Model;
 

@@ -3,7 +3,7 @@ ghost use Rattle.std.specs.Prelude.{◌≡◌, ◌<◌};
 ghost use Rattle.field_boxes.specs.Headline.Fields.{width};
 ghost use Rattle.field_boxes.specs.Fields.{greatest_of};
 
-use razor_base::limits::{GREATEST_PORT, GREATEST_PROTOCOL};
+use razor_limits::limits::{GREATEST_PORT, GREATEST_PROTOCOL};
 
 /// The greatest value of the field.
 pub fn greatest(field: usize) -> u32

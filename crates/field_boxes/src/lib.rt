@@ -1,4 +1,4 @@
-//! Headers, intervals, sets of ports, prefixes, rules and the names of decisions.
+//! Headers, intervals, sets of ports, prefixes, rules, lists of rules and the names of decisions.
 //!
 //! A classifier is a list of rules, each with a set of values for each of five fields and a decision: an interval for
 //! an address and for the protocol, a union of intervals for a port. A header gets the decision of the first rule whose
@@ -20,9 +20,9 @@
 //! `specs/Headline/Classifier.antt` says what the first match means over any list of fields; a restriction is called `residue`
 //! there.
 //!
-//! | Room | Holds |
+//! | Module | Holds |
 //! |---|---|
-//! | `classifier`, `rule`, `boxes` | lists of rules, rules, and rules against boxes |
+//! | `classifier`, `rule`, `rule_list`, `boxes` | lists of rules, rules, and rules against boxes |
 //! | `header`, `fields`, `field_order` | headers, the five fields, and orders of them |
 //! | `span`, `span_list`, `uniting`, `ports`, `prefix` | sets of values of one field |
 //! | `decisions`, `names` | names of decisions and their numbers |
@@ -40,6 +40,7 @@ mod names;
 mod ports;
 mod prefix;
 mod rule;
+mod rule_list;
 mod span;
 mod span_list;
 mod uniting;
@@ -53,4 +54,5 @@ pub use names::decision_word;
 pub use ports::Ports;
 pub use prefix::Prefix;
 pub use rule::Rule;
+pub use rule_list::RuleList;
 pub use span::Span;

@@ -3,7 +3,7 @@
 use crate::span::Span;
 use crate::span_list::SpanList;
 use crate::uniting::united;
-use razor_base::limits::{GREATEST_PORT, MOST_RANGES};
+use razor_limits::limits::{GREATEST_PORT, MOST_RANGES};
 use std::marker::Model;
 
 /// A set of ports: the union of one to sixteen spans, which lie in the value itself.
@@ -76,7 +76,7 @@ impl Ports {
 
 ghost use Rattle.std.specs.Prelude.{◌≡◌, nat_le};
 ghost use Rattle.std.specs.List.{list_any, list_all};
-ghost use Rattle.razor_base.specs.declared.limits.TheConstants.{GREATEST_PORT};
+ghost use Rattle.razor_limits.specs.declared.limits.TheConstants.{GREATEST_PORT};
 ghost use Rattle.field_boxes.specs.Headline.Classifier.{interval_holds};
 ghost use Rattle.field_boxes.specs.Spans.{interval_of};
 ghost use Rattle.field_boxes.specs.Ports.{are_port_spans};

@@ -1,6 +1,6 @@
 //! Rules: a set of values for each field, and a decision.
 ghost use Rattle.std.specs.Prelude.{◌≡◌, ◌≤◌, true, ℕ, [], ◌∷◌};
-ghost use Rattle.razor_base.specs.declared.limits.TheConstants.{GREATEST_ADDRESS, GREATEST_PORT, GREATEST_PROTOCOL, MOST_RANGES};
+ghost use Rattle.razor_limits.specs.declared.limits.TheConstants.{GREATEST_ADDRESS, GREATEST_PORT, GREATEST_PROTOCOL, MOST_RANGES};
 ghost use Rattle.field_boxes.specs.Headline.Classifier.{union_holds};
 ghost use Rattle.field_boxes.specs.Spans.{interval_of, intervals_of};
 ghost use Rattle.field_boxes.specs.Unions.{RiseApart};
@@ -10,7 +10,7 @@ use crate::fields::greatest;
 use crate::header::Header;
 use crate::ports::Ports;
 use crate::span::Span;
-use razor_base::limits::{GREATEST_PORT, GREATEST_PROTOCOL};
+use razor_limits::limits::{GREATEST_PORT, GREATEST_PROTOCOL};
 use std::slice::from_ref;
 
 /// A set of values for each of the five fields, and the number of the decision.

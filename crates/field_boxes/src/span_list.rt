@@ -1,8 +1,8 @@
 //! A few spans in place.
-ghost use Rattle.razor_base.specs.declared.limits.TheConstants.{MOST_RANGES};
+ghost use Rattle.razor_limits.specs.declared.limits.TheConstants.{MOST_RANGES};
 
 use crate::span::Span;
-use razor_base::limits::MOST_RANGES;
+use razor_limits::limits::MOST_RANGES;
 use std::marker::Model;
 
 /// Up to sixteen spans, which take no memory of their own.

@@ -1,6 +1,6 @@
 //! Unions of spans, one span after another.
 ghost use Rattle.std.specs.Prelude.{◌≡◌, ◌≤◌, ◌<◌, ◌+◌, ℕ, ◌||◌, List, [], ◌∷◌, ◌++◌, length};
-ghost use Rattle.razor_base.specs.declared.limits.TheConstants.{GREATEST_PORT, MOST_RANGES};
+ghost use Rattle.razor_limits.specs.declared.limits.TheConstants.{GREATEST_PORT, MOST_RANGES};
 ghost use Rattle.field_boxes.specs.Headline.Classifier.{Interval, interval_holds, union_holds};
 ghost use Rattle.field_boxes.specs.Spans.{interval_of};
 ghost use Rattle.field_boxes.specs.Unions.{RiseApart};

@@ -19,7 +19,7 @@ use fdd_build::build;
 use field_boxes::{Order, Rule};
 use node_store::{NodeId, Store};
 use prefix_min::Costing;
-use razor_base::Memory;
+use razor_limits::Memory;
 use std::alloc::Global;
 use table_compose::cost;
 

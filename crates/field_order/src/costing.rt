@@ -11,7 +11,7 @@ use fdd_build::build;
 use field_boxes::{Order, Rule};
 use node_store::Store;
 use node_store::laws::levels;
-use razor_base::Memory;
+use razor_limits::Memory;
 use std::alloc::Global;
 use table_compose::Costs;
 

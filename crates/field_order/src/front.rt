@@ -11,7 +11,7 @@ use crate::fronts::{Asked, Fronts};
 use crate::row::Edges;
 use crate::turning::rows;
 use node_store::{Edge, NodeId, Store};
-use razor_base::Memory;
+use razor_limits::Memory;
 use smallvec::SmallVec;
 use std::alloc::Global;
 

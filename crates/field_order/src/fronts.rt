@@ -1,7 +1,7 @@
 //! Nodes with another field in front, each made once.
 
 use node_store::NodeId;
-use razor_base::Memory;
+use razor_limits::Memory;
 use std::alloc::Global;
 use std::collections::HashMap;
 

@@ -5,7 +5,7 @@ ghost use Rattle.table_compose.specs.Labels.{children_of, ArePieces};
 use indexmap::IndexSet;
 use node_store::{Edge, NodeId};
 use prefix_min::Piece;
-use razor_base::Memory;
+use razor_limits::Memory;
 use std::alloc::Global;
 
 /// The children of a node, each once, and its edges as pieces whose labels are places of children.

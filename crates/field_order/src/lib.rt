@@ -16,7 +16,7 @@
 //!
 //! `field_boxes/specs/Orders.antt` says what an order is, and `specs/Best.antt` which one is the best.
 //!
-//! | Room | Holds |
+//! | Module | Holds |
 //! |---|---|
 //! | `best`, `costing` | the best order, and the cost in one |
 //! | `search`, `worth` | what nodes cost in any order of their fields |

@@ -10,7 +10,7 @@ ghost use Rattle.field_order.specs.Fronts.{ArePassed, ArePlaces, IsCell, IsEdgeA
 
 use field_boxes::greatest;
 use node_store::{Edge, Store, edge_at};
-use razor_base::Memory;
+use razor_limits::Memory;
 use smallvec::SmallVec;
 
 /// The edges of most nodes are few.

@@ -19,7 +19,7 @@ use crate::worth::{Valued, Worth, Worths};
 use field_boxes::{greatest, width};
 use node_store::{Edge, NodeId, Store};
 use prefix_min::Costing;
-use razor_base::Memory;
+use razor_limits::Memory;
 use std::alloc::Global;
 
 /// How many values of a field are tried before many of them are.

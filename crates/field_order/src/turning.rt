@@ -11,7 +11,7 @@ use crate::front::before;
 use crate::row::{Edges, fill_row, greatest_in, splice_row};
 use field_boxes::greatest;
 use node_store::{Edge, NodeId, Store, edge_at};
-use razor_base::Memory;
+use razor_limits::Memory;
 use smallvec::SmallVec;
 use std::alloc::Global;
 

@@ -1,7 +1,7 @@
 //! What is known of the costs of nodes.
 
 use node_store::NodeId;
-use razor_base::Memory;
+use razor_limits::Memory;
 use std::alloc::Global;
 use std::collections::HashMap;
 

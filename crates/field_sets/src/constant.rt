@@ -5,7 +5,7 @@ ghost use Rattle.node_store.specs.Store.{Grows};
 ghost use Rattle.field_sets.specs.Constant.{AnswersAlways, AnswersOnly};
 
 use node_store::{NodeId, Store};
-use razor_base::Memory;
+use razor_limits::Memory;
 
 /// The node of the level that answers the number for all values, which the store gains where it isn't there.
 pub(crate) fn answering(store: &mut Store, level: &[u8], decision: u32) -> Result<NodeId, Memory>

@@ -10,7 +10,7 @@ ghost use Rattle.field_sets.specs.Laying.{IsBeside, IsNext, left_past};
 use crate::placed::Placed;
 use crate::reaching::past;
 use node_store::{Edge, NodeId, Store};
-use razor_base::Memory;
+use razor_limits::Memory;
 use smallvec::SmallVec;
 use std::alloc::Global;
 

@@ -25,7 +25,7 @@
 //! [`laws`] has what callers need of parts and spans taken one at a time. No clause says what a call costs: `laid` is
 //! one pass over the edges of a node, and `put_parts` looks at no edge outside of the span but for two binary searches.
 //!
-//! | Room | Holds |
+//! | Module | Holds |
 //! |---|---|
 //! | `laying`, `placed` | a node changed inside spans |
 //! | `parting`, `reaching` | the parts of a span |

@@ -10,7 +10,7 @@ ghost use Rattle.field_sets.specs.Parting.{IsSplitWithin, IsFirstWithin};
 use crate::reaching::{past, reaching};
 use field_boxes::Span;
 use node_store::{Edge, NodeId, Part, Parts, Store};
-use razor_base::Memory;
+use razor_limits::Memory;
 
 /// Puts into the list the parts of the span on which each of two inner nodes of one level leads to one child, in rising
 /// order. What was in the list is lost, and its room is used again.

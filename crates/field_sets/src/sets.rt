@@ -6,7 +6,7 @@ use crate::placed::Placed;
 use crate::uniting::Uniting;
 use fdd_apply::{Results, apply};
 use node_store::{NodeId, Store};
-use razor_base::Memory;
+use razor_limits::Memory;
 use std::alloc::Global;
 use std::marker::Model;
 

@@ -10,7 +10,7 @@ use Rattle.field_boxes.specs.declared.prefix.Prefix.{Prefix}
 use Rattle.field_boxes.specs.declared.span.Span.{Span}
 use Rattle.field_boxes.specs.Headline.Classifier.{Interval}
 use Rattle.field_boxes.specs.Spans.{interval_of}
-use Rattle.filter_reader.specs.Prefixes.{IsPrefix}
+use Rattle.field_boxes.specs.Prefixes.{IsPrefix}
 use Rattle.std.proofs.Math.Logic.{∥∥₁_elim}
 use Rattle.field_boxes.specs.Headline.Prefix.{FitsWidth}
 use Rattle.field_boxes.specs.Prefix.{prefix_interval}
@@ -18,9 +18,8 @@ use Rattle.filter_reader.specs.Headline.Addresses.{address_of, length_of, agreei
 use Rattle.filter_reader.specs.Headline.Columns.{prefix_set}
 use Rattle.filter_reader.specs.ListText.{address_text, prefix_text}
 use Rattle.text_lines.specs.Headline.Cuts.{parts_at}
-use Rattle.text_lines.proofs.Decimals.{decimal-all, decimal-other, digit_other, is_digit, short_number-decimal}
+use Rattle.text_lines.proofs.Decimals.{decimal-all, decimal-other, digit_other, is_digit, short_number-decimal, digit_number, is_number_byte}
 use Rattle.text_lines.proofs.Joins.{all_joined, split_once-joined, is_other}
-use Rattle.filter_reader.proofs.Bytes.{digit_number, is_number_byte}
 
 in_parts : (a b c d : List ℕ) → a ++ 46 ∷ b ++ 46 ∷ c ++ 46 ∷ d ≡ a ++ 46 ∷ (b ++ 46 ∷ (c ++ 46 ∷ d))
 in_parts a b c d = simp append_assoc

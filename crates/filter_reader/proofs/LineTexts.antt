@@ -5,16 +5,16 @@ use Rattle.std.proofs.lemmas.Bool.{and_parts, and_from, or_parts, not-true}
 use Rattle.field_boxes.specs.Headline.Classifier.{Interval}
 use Rattle.filter_reader.specs.Headline.Columns.{behind_at, source_column, destination_column, port_column, protocol_column}
 use Rattle.text_lines.specs.Headline.Lines.{is_blank}
-use Rattle.text_lines.proofs.Decimals.{decimal-all, is_digit}
+use Rattle.text_lines.proofs.Decimals.{decimal-all, is_digit, digit_number, is_number_byte}
 use Rattle.text_lines.proofs.Joins.{all_joined, all_wider}
 use Rattle.filter_reader.specs.ListText.{prefix_text, range_text, ports_text, protocol_text, columns_text}
-use Rattle.filter_reader.specs.Protocols.{is_protocol}
+use Rattle.field_boxes.specs.Protocols.{is_protocol}
 use Rattle.filter_reader.specs.Ranges.{behind_comma}
 use Rattle.filter_reader.specs.Headline.RuleLine.{rule_of_tokens}
 use Rattle.filter_reader.specs.Headline.Tokens.{tokens, goes_on, is_mark}
 use Rattle.field_boxes.specs.Unions.{RiseApart}
 use Rattle.filter_reader.proofs.AddressTexts.{ArePrefixTexts}
-use Rattle.filter_reader.proofs.Bytes.{digit_number, is_line_byte, is_number_byte, number_line, number_plain}
+use Rattle.filter_reader.proofs.Bytes.{is_line_byte, number_line, number_plain}
 use Rattle.filter_reader.proofs.PortTexts.{ports_of-same, ranges_of-text, range_tokens, digit_plain}
 use Rattle.filter_reader.proofs.ProtocolTexts.{masked_as, protocol_line, protocol_plain, protocol_some}
 use Rattle.filter_reader.proofs.Spelling.{is_plain, tokens-word, tokens-text}

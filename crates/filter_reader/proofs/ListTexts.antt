@@ -18,10 +18,11 @@ use Rattle.field_boxes.specs.Ports.{ArePorts}
 use Rattle.field_boxes.specs.Rules.{sets_of}
 use Rattle.field_boxes.specs.Spans.{interval_of}
 use Rattle.field_boxes.specs.Unions.{RiseApart}
-use Rattle.filter_reader.specs.FilterRules.{IsFilterRule}
+use Rattle.field_boxes.specs.FilterRules.{IsFilterRule}
 use Rattle.filter_reader.proofs.AddressTexts.{prefix_texts}
 use Rattle.filter_reader.specs.declared.reason.Reason.{Reason}
-use Rattle.filter_reader.specs.Headline.FilterList.{FilterList, list_of, own_name, with_line}
+use Rattle.field_boxes.specs.Headline.FilterList.{FilterList}
+use Rattle.filter_reader.specs.Headline.FilterList.{list_of, own_name, with_line}
 use Rattle.text_lines.specs.Headline.Fallible.{◌>>=◌}
 use Rattle.text_lines.specs.Headline.Lines.{text_lines, without_return}
 use Rattle.text_lines.specs.Headline.Reading.{BadLine, at_line, read_from}

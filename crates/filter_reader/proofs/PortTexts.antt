@@ -9,8 +9,8 @@ use Rattle.filter_reader.specs.Ranges.{first_range, behind_comma, is_above, is_r
 use Rattle.filter_reader.specs.Headline.Tokens.{tokens, goes_on}
 use Rattle.filter_reader.specs.ListText.{range_text, ports_text}
 use Rattle.field_boxes.specs.Unions.{RiseApart}
-use Rattle.filter_reader.proofs.Bytes.{digit_number, number_plain}
-use Rattle.text_lines.proofs.Decimals.{decimal-all, is_number-decimal, number_of-decimal, is_digit}
+use Rattle.text_lines.proofs.Decimals.{digit_number, decimal-all, is_number-decimal, number_of-decimal, is_digit}
+use Rattle.filter_reader.proofs.Bytes.{number_plain}
 use Rattle.filter_reader.proofs.RangeLists.{ranges_by_first, by_comma, by_first}
 use Rattle.filter_reader.proofs.Spelling.{tokens-text, is_plain}
 

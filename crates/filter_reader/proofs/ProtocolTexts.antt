@@ -7,7 +7,7 @@ use Rattle.std.proofs.lemmas.Bool.{agree_below_at, eqb-true, leb-true, lt-ltb, l
 use Rattle.field_boxes.specs.Headline.Classifier.{Interval}
 use Rattle.filter_reader.specs.Headline.Columns.{under_mask}
 use Rattle.filter_reader.specs.ListText.{protocol_text}
-use Rattle.filter_reader.specs.Protocols.{is_protocol}
+use Rattle.field_boxes.specs.Protocols.{is_protocol}
 use Rattle.filter_reader.specs.Headline.Masks.{hex_number, value_and_mask}
 use Rattle.text_lines.specs.Headline.Numbers.{is_number, number_of, number_within, short_number}
 use Rattle.text_lines.proofs.Joins.{split_once-joined, is_other}

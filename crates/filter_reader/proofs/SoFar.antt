@@ -16,13 +16,13 @@ use Rattle.field_boxes.specs.Names.{is_decision_word, is_known, name_at, with_na
 use Rattle.field_boxes.specs.Rules.{sets_of}
 use Rattle.filter_reader.specs.declared.line.LineRule.{LineRule}
 use Rattle.filter_reader.specs.Headline.FilterList.{named, own_name}
-use Rattle.filter_reader.specs.FilterRules.{IsFilterRule}
+use Rattle.field_boxes.specs.FilterRules.{IsFilterRule}
 use Rattle.filter_reader.specs.FirstSeen.{first_seen}
 use Rattle.filter_reader.specs.Growing.{IsListSoFar}
 use Rattle.filter_reader.specs.LineRules.{IsLineRule, spelled_rule}
 use Rattle.filter_reader.specs.OwnNames.{IsNameOf, HaveNames}
-use Rattle.filter_reader.specs.Prefixes.{IsPrefix}
-use Rattle.filter_reader.specs.Protocols.{IsProtocol}
+use Rattle.field_boxes.specs.Prefixes.{IsPrefix}
+use Rattle.field_boxes.specs.Protocols.{IsProtocol}
 use Rattle.filter_reader.specs.Reading.{flags_of, read_so_far, with_rule}
 
 -- the first names keep their numbers

@@ -1,8 +1,8 @@
 -- What stays true of a list while it is read.
 use Rattle.std.specs.Prelude.{◌≡◌, ◌≤◌, ℕ, List, length, All}
-use Rattle.razor_base.specs.declared.limits.TheConstants.{MOST_RULES}
+use Rattle.razor_limits.specs.declared.limits.TheConstants.{MOST_RULES}
 use Rattle.field_boxes.specs.declared.rule.Rule as code
-use Rattle.filter_reader.specs.FilterRules.{IsFilterRule}
+use Rattle.field_boxes.specs.FilterRules.{IsFilterRule}
 use Rattle.field_boxes.specs.NamedRules.{IsNumberedBy, named_rules}
 use Rattle.filter_reader.specs.FirstSeen.{first_seen}
 use Rattle.filter_reader.specs.OwnNames.{HaveNames}

@@ -1,14 +1,10 @@
 pub mod Headline
 pub mod Views
-pub mod Prefixes
-pub mod Protocols
 pub mod Ranges
 pub mod Rows
 pub mod ListText
 pub mod OwnNames
-pub mod FilterRules
 pub mod FirstSeen
-pub mod Lists
 pub mod LineRules
 pub mod Reading
 pub mod Reasons

@@ -5,8 +5,8 @@ use Rattle.field_boxes.specs.Ports.{ArePorts}
 use Rattle.field_boxes.specs.Spans.{interval_of}
 use Rattle.filter_reader.specs.declared.line.LineRule.{LineRule}
 use Rattle.filter_reader.specs.declared.reason.Reason.{Reason}
-use Rattle.filter_reader.specs.Prefixes.{IsPrefix}
-use Rattle.filter_reader.specs.Protocols.{IsProtocol}
+use Rattle.field_boxes.specs.Prefixes.{IsPrefix}
+use Rattle.field_boxes.specs.Protocols.{IsProtocol}
 use Rattle.filter_reader.specs.Headline.RuleLine.{SpelledRule}
 
 -- the rule, without where its word lies

@@ -3,7 +3,7 @@ use Rattle.std.specs.Prelude.{◌≡◌, ℕ, ◌≤◌, nat_lt, min, max, Bool,
 use Rattle.std.specs.List.{list_any}
 use Rattle.std.specs.Str.{bytes_eq}
 use Rattle.std.specs.Borrow.{Bor}
-use Rattle.razor_base.specs.declared.limits.TheConstants.{GREATEST_PORT}
+use Rattle.razor_limits.specs.declared.limits.TheConstants.{GREATEST_PORT}
 use Rattle.field_boxes.specs.Headline.Classifier.{Interval}
 use Rattle.field_boxes.specs.Spans.{interval_of}
 use Rattle.filter_reader.specs.declared.range.Range.{Range}

@@ -2,7 +2,8 @@
 use Rattle.std.specs.Prelude.{ℕ, ◌+◌, List, [], ◌∷◌, ◌++◌, length, if◌then◌else◌}
 use Rattle.field_boxes.specs.declared.rule.Rule as code
 use Rattle.field_boxes.specs.NamedRules.{named_rules}
-use Rattle.filter_reader.specs.Headline.FilterList.{FilterList, named}
+use Rattle.field_boxes.specs.Headline.FilterList.{FilterList}
+use Rattle.filter_reader.specs.Headline.FilterList.{named}
 use Rattle.filter_reader.specs.Headline.RuleLine.{SpelledRule}
 
 -- the list that was read so far

@@ -5,7 +5,7 @@ use Rattle.field_boxes.specs.Headline.Classifier.{Interval}
 use Rattle.filter_reader.specs.declared.reason.Reason.{Reason}
 use Rattle.filter_reader.specs.declared.reason.Reason.TheVariants.{NoAt, Address, Length, PortForm, PortOrder, PortRange, ProtocolForm, ProtocolMask, FlagsForm, DecisionForm, Reserved, Extra, NotAscii, TooManyRanges}
 use Rattle.filter_reader.specs.Headline.RuleLine.{SpelledRule, rule_line}
-use Rattle.filter_reader.specs.Headline.FilterList.{FilterList}
+use Rattle.field_boxes.specs.Headline.FilterList.{FilterList}
 use Rattle.text_lines.specs.Headline.Reading.{BadLine}
 
 abbrev pub one : ℕ → ℕ → List Interval

@@ -1,18 +1,18 @@
 //! Laws of the definitions, for whoever relies on them. The functions do nothing.
 ghost use Rattle.std.specs.Prelude.{◌≡◌, ◌≤◌, ℕ, List, All, Ok, length, map};
-ghost use Rattle.razor_base.specs.declared.limits.TheConstants.{GREATEST_PORT, MOST_RULES};
+ghost use Rattle.razor_limits.specs.declared.limits.TheConstants.{GREATEST_PORT, MOST_RULES};
 ghost use Rattle.field_boxes.specs.Headline.Classifier.{Interval, union_holds};
 ghost use Rattle.field_boxes.specs.NamedRules.{named_rules};
 ghost use Rattle.field_boxes.specs.Unions.{RiseApart};
 ghost use Rattle.field_boxes.specs.declared.rule.Rule.{Rule};
 ghost use Rattle.filter_reader.specs.Headline.FilterList.{list_of};
-ghost use Rattle.filter_reader.specs.FilterRules.{IsFilterRule};
+ghost use Rattle.field_boxes.specs.FilterRules.{IsFilterRule};
 ghost use Rattle.filter_reader.specs.FirstSeen.{first_seen};
 ghost use Rattle.filter_reader.specs.ListText.{list_text};
-ghost use Rattle.filter_reader.specs.Lists.{filter_list};
+ghost use Rattle.field_boxes.specs.Lists.{filter_list};
 ghost use Rattle.filter_reader.specs.OwnNames.{HaveNames};
 ghost use Rattle.filter_reader.specs.Headline.Ports.{ports_of};
-ghost use Rattle.filter_reader.specs.declared.list.RuleList.{RuleList};
+ghost use Rattle.field_boxes.specs.declared.rule_list.RuleList.{RuleList};
 
 /// The ports that ranges come to are those in one of the ranges, as intervals between which ports are
 /// missing.

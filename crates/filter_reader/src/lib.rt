@@ -16,9 +16,9 @@
 //!
 //! `specs/Headline/FilterList.antt` says what a text spells, and `specs/Headline/RuleLine.antt` what a line does.
 //!
-//! | Room | Holds |
+//! | Module | Holds |
 //! |---|---|
-//! | `reading`, `take`, `list`, `reason` | a list read whole, and why one is refused |
+//! | `reading`, `take`, `reason` | a list read whole, and why one is refused |
 //! | `line`, `token` | the rule of a line, token by token |
 //! | `address`, `port`, `range`, `ranges`, `protocol`, `flags`, `hexadecimal`, `decision` | the columns of a line |
 //! | `write`, `rule_text`, `port_text`, `protocol_text` | a list written back |
@@ -31,7 +31,6 @@ mod flags;
 mod hexadecimal;
 pub mod laws;
 mod line;
-mod list;
 mod port;
 mod port_text;
 mod protocol;
@@ -46,8 +45,8 @@ mod take;
 mod token;
 mod write;
 
+pub use field_boxes::RuleList;
 pub use line::{LineRule, rule_of_line};
-pub use list::{ListError, RuleList};
 pub use reading::read_list;
-pub use reason::Reason;
+pub use reason::{ListError, Reason};
 pub use write::write_list;

@@ -1,6 +1,6 @@
 //! The rule of a line.
 ghost use Rattle.std.specs.Prelude.{◌≡◌, ◌≢◌, IfOk, OnOk};
-ghost use Rattle.razor_base.specs.declared.limits.TheConstants.{MOST_RULES};
+ghost use Rattle.razor_limits.specs.declared.limits.TheConstants.{MOST_RULES};
 ghost use Rattle.filter_reader.specs.LineRules.{IsLineRule, spelled_line};
 ghost use Rattle.filter_reader.specs.Headline.RuleLine.{rule_line, rule_of_tokens};
 ghost use Rattle.filter_reader.specs.Headline.Tokens.{tokens};

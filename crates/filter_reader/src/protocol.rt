@@ -3,7 +3,7 @@ ghost use Rattle.std.specs.Prelude.{◌≡◌, ◌≤◌, IfOk};
 ghost use Rattle.std.specs.Result.{result_map_both};
 ghost use Rattle.field_boxes.specs.Spans.{interval_of};
 ghost use Rattle.filter_reader.specs.Headline.Columns.{protocol_column, under_mask};
-ghost use Rattle.filter_reader.specs.Protocols.{IsProtocol};
+ghost use Rattle.field_boxes.specs.Protocols.{IsProtocol};
 ghost use Rattle.filter_reader.specs.Headline.Tokens.{tokens};
 ghost use Rattle.filter_reader.specs.Views.{column_by};
 

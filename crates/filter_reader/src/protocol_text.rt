@@ -1,7 +1,7 @@
 //! The text of a rule's protocols.
 ghost use Rattle.std.specs.Prelude.{◌≡◌, ◌<◌, ◌≤◌, ◌∷◌, true};
 ghost use Rattle.std.specs.Fmt.{digit_glyph};
-ghost use Rattle.razor_base.specs.declared.limits.TheConstants.{GREATEST_PROTOCOL};
+ghost use Rattle.razor_limits.specs.declared.limits.TheConstants.{GREATEST_PROTOCOL};
 ghost use Rattle.razor_base.specs.Output.{Puts};
 ghost use Rattle.field_boxes.specs.Spans.{interval_of};
 ghost use Rattle.filter_reader.specs.ListText.{protocol_text};

@@ -3,12 +3,12 @@ ghost use Rattle.std.specs.Prelude.{◌≡◌, IfOk, MatchResult, Ok};
 ghost use Rattle.text_lines.specs.Reading.{IsTextRefused};
 ghost use Rattle.filter_reader.specs.Headline.FilterList.{list_of};
 ghost use Rattle.filter_reader.specs.FirstSeen.{first_seen};
-ghost use Rattle.filter_reader.specs.Lists.{filter_list};
+ghost use Rattle.field_boxes.specs.Lists.{filter_list};
 ghost use Rattle.filter_reader.specs.OwnNames.{HaveNames};
 
-use crate::list::{ListError, RuleList};
+use crate::reason::ListError;
 use crate::take::ListLines;
-use field_boxes::Decisions;
+use field_boxes::{Decisions, RuleList};
 use std::alloc::Global;
 use text_lines::take_lines;
 

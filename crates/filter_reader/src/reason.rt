@@ -2,6 +2,7 @@
 ghost use Rattle.std.specs.Prelude.{◌≡◌};
 ghost use Rattle.filter_reader.specs.Reasons.{reason_text};
 
+use text_lines::TextError;
 use thiserror::Error;
 
 /// Why a line of a list is bad.
@@ -65,3 +66,6 @@ impl Reason {
         }
     }
 }
+
+/// Why the text of a list was refused.
+pub type ListError = TextError<Reason>;

@@ -1,6 +1,6 @@
 //! Taking the next line of a list.
 ghost use Rattle.std.specs.Prelude.{◌≡◌, ◌≤◌, ◌<◌, ◌+◌, ℕ, length, vec_len, IfOk, IfSome, IsTrue, OnOk, OnErr, Some, option_copied, unwrap_or};
-ghost use Rattle.razor_base.specs.declared.limits.TheConstants.{MOST_RULES, MOST_ENTRIES};
+ghost use Rattle.razor_limits.specs.declared.limits.TheConstants.{MOST_RULES, MOST_ENTRIES};
 ghost use Rattle.field_boxes.specs.Names.{is_decision_word, name_at, with_name};
 ghost use Rattle.filter_reader.specs.Headline.FilterList.{own_name};
 ghost use Rattle.filter_reader.specs.Growing.{IsListSoFar};
@@ -78,7 +78,8 @@ pub(crate) struct ListLines {
 impl TakeLine for ListLines {
     type Reason = Reason;
 
-    ghost use Rattle.filter_reader.specs.Headline.FilterList.{FilterList, with_line};
+    ghost use Rattle.field_boxes.specs.Headline.FilterList.{FilterList};
+    ghost use Rattle.filter_reader.specs.Headline.FilterList.{with_line};
     ghost use Rattle.filter_reader.specs.Growing.{IsListSoFar};
     ghost use Rattle.filter_reader.specs.Reading.{read_so_far};
 

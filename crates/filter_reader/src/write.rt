@@ -4,12 +4,11 @@ ghost use Rattle.razor_base.specs.Output.{Puts, Writes};
 ghost use Rattle.field_boxes.specs.NamedRules.{IsNumberedBy, named_rules};
 ghost use Rattle.filter_reader.specs.Headline.FilterList.{list_of};
 ghost use Rattle.filter_reader.specs.ListText.{list_text};
-ghost use Rattle.filter_reader.specs.Lists.{filter_list};
+ghost use Rattle.field_boxes.specs.Lists.{filter_list};
 ghost use Rattle.filter_reader.specs.OwnNames.{HaveNames};
 
-use crate::list::RuleList;
 use crate::rule_text::put_rule;
-use field_boxes::{Decisions, Rule};
+use field_boxes::{Decisions, Rule, RuleList};
 use razor_base::{Failed, Pending, Sink};
 
 /// Writes the list as a text, one line a rule, in large pieces and without taking memory.

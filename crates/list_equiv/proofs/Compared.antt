@@ -6,8 +6,8 @@ use Rattle.field_boxes.specs.declared.rule.Rule as code
 use Rattle.field_boxes.specs.Headline.Fields.{stated, AreValues, IsHeader}
 use Rattle.field_boxes.specs.NamedRules.{IsNumberedBy}
 use Rattle.field_boxes.specs.Names.{name_at, AreNames}
-use Rattle.filter_reader.specs.declared.list.RuleList.{RuleList}
-use Rattle.filter_reader.specs.Lists.{name_decided}
+use Rattle.field_boxes.specs.declared.rule_list.RuleList.{RuleList}
+use Rattle.field_boxes.specs.Lists.{name_decided}
 use Rattle.node_store.specs.Diagram.{Node, answer}
 use Rattle.fdd_build.specs.Rules.{decided}
 use Rattle.fdd_build.proofs.Decided.{named}

@@ -2,8 +2,8 @@
 use Rattle.std.specs.Prelude.{◌≡◌, ◌≤◌, ℕ, List, Option, length}
 use Rattle.field_boxes.specs.Names.{name_at}
 use Rattle.field_boxes.specs.Alike.{AreAlike, IsFirstDifference}
-use Rattle.filter_reader.specs.declared.list.RuleList.{RuleList}
-use Rattle.filter_reader.specs.Lists.{name_decided}
+use Rattle.field_boxes.specs.declared.rule_list.RuleList.{RuleList}
+use Rattle.field_boxes.specs.Lists.{name_decided}
 use Rattle.list_equiv.specs.declared.verdict.Verdict.{Verdict}
 use Rattle.list_equiv.specs.declared.verdict.Verdict.TheVariants.{Equal, Differ}
 

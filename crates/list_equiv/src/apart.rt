@@ -8,7 +8,7 @@ use fdd_build::build;
 use fdd_ops::least_difference;
 use field_boxes::{Decisions, Header, Rule};
 use node_store::{Store, stated_order};
-use razor_base::Memory;
+use razor_limits::Memory;
 use std::alloc::Global;
 
 /// The first header on which the rules decide different names, none where they decide all headers alike.

@@ -18,7 +18,7 @@
 //! number, 0 for none. [`compare`] does the same of rules and names that are given one by one. `specs/Verdict.antt`
 //! says what each verdict means.
 //!
-//! | Room | Holds |
+//! | Module | Holds |
 //! |---|---|
 //! | `verdict`, `apart` | the comparison, and the first header on which two sides differ |
 //! | `renumbering`, `decision` | common numbers for the names, and what rules decide on one header |

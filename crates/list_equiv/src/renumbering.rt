@@ -6,7 +6,7 @@ ghost use Rattle.fdd_build.specs.Rules.{decided};
 ghost use Rattle.list_equiv.specs.Names.{AreWithin, common_number, common_rule};
 
 use field_boxes::{Decisions, Rule};
-use razor_base::Memory;
+use razor_limits::Memory;
 use std::alloc::Global;
 
 /// The common number of no name.

@@ -5,9 +5,8 @@ ghost use Rattle.list_equiv.specs.Verdict.{IsListVerdict, IsVerdict};
 
 use crate::apart::first_apart;
 use crate::decision::decision;
-use field_boxes::{Decisions, Header, Rule};
-use filter_reader::RuleList;
-use razor_base::Memory;
+use field_boxes::{Decisions, Header, Rule, RuleList};
+use razor_limits::Memory;
 use std::alloc::Global;
 
 /// What the comparison of two sides comes to.

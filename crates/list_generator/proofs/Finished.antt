@@ -6,9 +6,10 @@ use Rattle.std.proofs.lemmas.Bool.{or_left}
 use Rattle.field_boxes.specs.NamedRules.{named_rules}
 use Rattle.field_boxes.specs.declared.rule.Rule.{Rule}
 use Rattle.field_boxes.specs.Names.{is_decision_word}
-use Rattle.filter_reader.specs.Headline.FilterList.{FilterList, own_name}
+use Rattle.field_boxes.specs.Headline.FilterList.{FilterList}
+use Rattle.filter_reader.specs.Headline.FilterList.{own_name}
 use Rattle.filter_reader.specs.OwnNames.{HaveNames}
-use Rattle.filter_reader.specs.declared.list.RuleList.{RuleList}
+use Rattle.field_boxes.specs.declared.rule_list.RuleList.{RuleList}
 use Rattle.list_generator.specs.Draws.{drawn, state_after}
 use Rattle.list_generator.specs.DrawnSets.{decision}
 use Rattle.list_generator.specs.DrawnHeaders.{state_behind}

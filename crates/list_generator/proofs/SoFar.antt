@@ -9,7 +9,7 @@ use Rattle.field_boxes.specs.NamedRules.{IsNumberedBy, named_rule, named_rules}
 use Rattle.field_boxes.specs.Headline.Names.{text_of}
 use Rattle.field_boxes.specs.Names.{name_at, with_name}
 use Rattle.field_boxes.specs.Rules.{sets_of}
-use Rattle.filter_reader.specs.FilterRules.{IsFilterRule}
+use Rattle.field_boxes.specs.FilterRules.{IsFilterRule}
 use Rattle.filter_reader.specs.FirstSeen.{first_seen}
 use Rattle.list_generator.specs.Draws.{state_after}
 use Rattle.list_generator.specs.DrawnHeaders.{state_behind}

@@ -1,6 +1,6 @@
 -- Headers that are drawn: each takes five draws, one for each field.
 use Rattle.std.specs.Prelude.{ℕ, zero, suc, ◌+◌, ◌/◌, ◌%◌, ◌==◌, List, [], ◌∷◌, if◌then◌else◌}
-use Rattle.razor_base.specs.declared.limits.TheConstants.{GREATEST_PORT}
+use Rattle.razor_limits.specs.declared.limits.TheConstants.{GREATEST_PORT}
 use Rattle.list_generator.specs.Draws.{drawn, state_after}
 use Rattle.list_generator.specs.DrawnSets.{ten}
 

@@ -1,7 +1,7 @@
 -- Rules that are drawn: each takes six draws, for its five sets and its decision.
 use Rattle.std.specs.Prelude.{ℕ, zero, suc, List, [], ◌∷◌, map}
 use Rattle.field_boxes.specs.Headline.Classifier.{Interval, Rule}
-use Rattle.filter_reader.specs.Headline.FilterList.{FilterList}
+use Rattle.field_boxes.specs.Headline.FilterList.{FilterList}
 use Rattle.list_generator.specs.Draws.{drawn, state_after}
 use Rattle.list_generator.specs.DrawnSets.{addresses, decision, destination_ports, protocols, source_ports}
 

@@ -1,6 +1,6 @@
 -- What a number that is drawn stands for in each column of a rule.
 use Rattle.std.specs.Prelude.{ℕ, ◌+◌, ◌*◌, ◌/◌, ◌%◌, ◌^◌, ◌==◌, List, codes, if◌then◌else◌}
-use Rattle.razor_base.specs.declared.limits.TheConstants.{GREATEST_PORT}
+use Rattle.razor_limits.specs.declared.limits.TheConstants.{GREATEST_PORT}
 use Rattle.field_boxes.specs.Headline.Classifier.{Interval}
 use Rattle.field_boxes.specs.Prefix.{prefix_interval}
 use Rattle.field_boxes.specs.declared.prefix.Prefix.{Prefix}

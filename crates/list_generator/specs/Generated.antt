@@ -1,9 +1,9 @@
 -- The list of the code that a seed gives.
 use Rattle.std.specs.Prelude.{◌≡◌, ℕ}
 use Rattle.filter_reader.specs.FirstSeen.{first_seen}
-use Rattle.filter_reader.specs.Lists.{filter_list}
+use Rattle.field_boxes.specs.Lists.{filter_list}
 use Rattle.filter_reader.specs.OwnNames.{HaveNames}
-use Rattle.filter_reader.specs.declared.list.RuleList.{RuleList}
+use Rattle.field_boxes.specs.declared.rule_list.RuleList.{RuleList}
 use Rattle.list_generator.specs.DrawnRules.{generated}
 
 -- the sets, the names and no flags of that list, its names numbered as they are first seen

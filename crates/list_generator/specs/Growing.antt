@@ -3,7 +3,7 @@ use Rattle.std.specs.Prelude.{◌≡◌, ℕ, ◌<◌, ◌≤◌, ◌++◌, ◌�
 use Rattle.field_boxes.specs.Names.{name_at, with_name}
 use Rattle.field_boxes.specs.Rules.{sets_of}
 use Rattle.field_boxes.specs.declared.rule.Rule as code
-use Rattle.filter_reader.specs.FilterRules.{IsFilterRule}
+use Rattle.field_boxes.specs.FilterRules.{IsFilterRule}
 use Rattle.list_generator.specs.Draws.{state_after}
 use Rattle.list_generator.specs.DrawnRules.{drawn_rule}
 

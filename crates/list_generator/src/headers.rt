@@ -1,13 +1,13 @@
 //! Headers that are drawn.
 ghost use Rattle.std.specs.Prelude.{◌≡◌, ◌≤◌, IfOk, map};
-ghost use Rattle.razor_base.specs.declared.limits.TheConstants.{GREATEST_PORT, GREATEST_PROTOCOL};
+ghost use Rattle.razor_limits.specs.declared.limits.TheConstants.{GREATEST_PORT, GREATEST_PROTOCOL};
 ghost use Rattle.list_generator.specs.Draws.{state_after};
 ghost use Rattle.list_generator.specs.DrawnHeaders.{drawn_address, drawn_header, drawn_headers, drawn_port, drawn_protocol};
 
 use crate::draws::Draws;
 use field_boxes::Header;
-use razor_base::Memory;
-use razor_base::limits::GREATEST_PORT;
+use razor_limits::Memory;
+use razor_limits::limits::GREATEST_PORT;
 use std::alloc::Global;
 
 /// The address 10.B.C.D, with B below 8, C below 4 and D below 16.

@@ -17,7 +17,7 @@
 //! - [`next`] is one turn of the generator.
 //! - [`laws`]: the first states from 1, and the one rule of seed 1, worked from the definitions.
 //!
-//! | Room | Holds |
+//! | Module | Holds |
 //! |---|---|
 //! | `lists`, `rule`, `sets`, `draws` | a list, its rules, and what the drawn numbers stand for |
 //! | `load`, `headers` | a list with headers to try it |

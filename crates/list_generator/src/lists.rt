@@ -1,6 +1,6 @@
 //! Drawing a list, and headers to try it.
 ghost use Rattle.std.specs.Prelude.{◌≡◌, ◌≤◌, ◌<◌, ◌^◌, IfOk, OnOk};
-ghost use Rattle.razor_base.specs.declared.limits.TheConstants.{MOST_RULES};
+ghost use Rattle.razor_limits.specs.declared.limits.TheConstants.{MOST_RULES};
 ghost use Rattle.list_generator.specs.DrawnHeaders.{state_behind};
 ghost use Rattle.list_generator.specs.Generated.{IsGenerated};
 ghost use Rattle.list_generator.specs.Loads.{IsLoad};
@@ -9,9 +9,8 @@ use crate::draws::Draws;
 use crate::headers::draw_headers;
 use crate::load::Load;
 use crate::rule::add_drawn;
-use field_boxes::Decisions;
-use filter_reader::RuleList;
-use razor_base::Memory;
+use field_boxes::{Decisions, RuleList};
+use razor_limits::Memory;
 use std::alloc::Global;
 
 /// How many headers are drawn to try a list.

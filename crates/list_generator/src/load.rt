@@ -1,6 +1,5 @@
 //! A list with headers to try it.
-use field_boxes::Header;
-use filter_reader::RuleList;
+use field_boxes::{Header, RuleList};
 
 /// A list, with headers to try it.
 #[derive(Drop)]

@@ -1,12 +1,12 @@
 //! Drawing one rule.
 ghost use Rattle.std.specs.Prelude.{◌<◌, length, IfOk, OnOk};
-ghost use Rattle.razor_base.specs.declared.limits.TheConstants.{MOST_ENTRIES};
+ghost use Rattle.razor_limits.specs.declared.limits.TheConstants.{MOST_ENTRIES};
 ghost use Rattle.list_generator.specs.Growing.{AddsDrawn, IsDrawn};
 
 use crate::draws::Draws;
 use crate::sets::{addresses, decision, destination_ports, ports, protocols, source_ports};
 use field_boxes::{Decisions, Rule};
-use razor_base::Memory;
+use razor_limits::Memory;
 
 /// The next rule, whose decision is numbered among the names.
 fn draw_rule(draws: &mut Draws, names: &mut Decisions) -> Result<Rule, Memory>

@@ -1,16 +1,16 @@
 //! What a number that is drawn stands for in each column of a rule.
 ghost use Rattle.std.specs.Prelude.{◌≡◌, ◌≢◌, ◌≤◌, ◌∷◌, [], IsTrue};
-ghost use Rattle.razor_base.specs.declared.limits.TheConstants.{GREATEST_PORT, GREATEST_PROTOCOL};
+ghost use Rattle.razor_limits.specs.declared.limits.TheConstants.{GREATEST_PORT, GREATEST_PROTOCOL};
 ghost use Rattle.field_boxes.specs.Headline.Names.{miss};
 ghost use Rattle.field_boxes.specs.Names.{is_decision_word};
 ghost use Rattle.field_boxes.specs.Headline.Prefix.{FitsWidth};
 ghost use Rattle.field_boxes.specs.Spans.{interval_of};
-ghost use Rattle.filter_reader.specs.Prefixes.{IsPrefix};
-ghost use Rattle.filter_reader.specs.Protocols.{IsProtocol};
+ghost use Rattle.field_boxes.specs.Prefixes.{IsPrefix};
+ghost use Rattle.field_boxes.specs.Protocols.{IsProtocol};
 ghost use Rattle.list_generator.specs.DrawnSets as drawn;
 
 use field_boxes::{Ports, Prefix, Span};
-use razor_base::limits::{GREATEST_PORT, GREATEST_PROTOCOL};
+use razor_limits::limits::{GREATEST_PORT, GREATEST_PROTOCOL};
 
 /// 0.0.0.0/0, 10.B.0.0/16, 10.B.C.0/24 or 10.B.C.D/32.
 #[tactic(auto, unfolding(crate::specs::DrawnSets::drawn_prefix))]

@@ -5,9 +5,9 @@ use Rattle.field_boxes.specs.Headline.Names.{miss}
 use Rattle.field_boxes.specs.Names.{with_name}
 use Rattle.slot_patch.specs.Naming.{Grow}
 use Rattle.slot_patch.proofs.Renaming.{grow-none, grow-on, grow-with}
-use Rattle.ternary_words.specs.Names.{decided, is_decision}
-use Rattle.ternary_words.specs.Seen.{with_decided}
-use Rattle.ternary_words.proofs.NamesSeen.{decision_named}
+use Rattle.table_text.specs.Names.{decided, is_decision}
+use Rattle.table_text.specs.Seen.{with_decided}
+use Rattle.table_text.proofs.NamesSeen.{decision_named}
 use Rattle.memory_text.specs.Kept.{AreSpelled, Extends}
 
 abbrev Names : Type 0

@@ -6,9 +6,9 @@ use Rattle.ternary_words.specs.Limits.{IsSlotWidth}
 use Rattle.text_lines.specs.Numbers.{plain_number}
 use Rattle.text_lines.proofs.Decimals.{decimal-other, plain_number-decimal}
 use Rattle.text_lines.proofs.Joins.{is_other, split_once-joined}
-use Rattle.ternary_words.specs.Heading.{Words, slot_of, words_of}
-use Rattle.ternary_words.proofs.EntryTexts.{front_all}
-use Rattle.ternary_words.proofs.HeadingTexts.{small_width, width_is, width_of}
+use Rattle.table_text.specs.Heading.{HeadingWords, slot_of, words_of}
+use Rattle.table_text.proofs.EntryTexts.{front_all}
+use Rattle.table_text.proofs.HeadingTexts.{small_width, width_is, width_of}
 use Rattle.memory_text.specs.declared.kind.TextKind.{TextKind}
 use Rattle.memory_text.specs.declared.kind.TextKind.TheVariants as kinds
 use Rattle.memory_text.specs.Heading.{heading_of, most_lines, number_from_one}
@@ -18,7 +18,7 @@ use Rattle.memory_text.specs.MemoryText.{first_line, kind_word, lines_word}
 abbrev pub first_text : TextKind → List ℕ → List ℕ → List ℕ → List ℕ
 first_text kind slots width lines = kind_word kind ++ 32 ∷ (codes "1" ++ 32 ∷ (codes "slots" ++ 32 ∷ (slots ++ 32 ∷ (codes "width" ++ 32 ∷ (width ++ 32 ∷ (lines_word kind ++ 32 ∷ lines))))))
 
-abbrev words : TextKind → List ℕ → List ℕ → List ℕ → Words
+abbrev words : TextKind → List ℕ → List ℕ → List ℕ → HeadingWords
 words kind slots width lines = record { table = kind_word kind; version = codes "1"; slot = codes "slots"; slot_number = slots; composed = codes "width"; composed_number = width; entries = lines_word kind; entries_number = lines }
 
 -- neither a space nor the end of a line

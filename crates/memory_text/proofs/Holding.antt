@@ -10,7 +10,7 @@ use Rattle.ternary_words.specs.Headline.Table.{Entry}
 use Rattle.ternary_words.specs.Views.{entry_of, word_of}
 use Rattle.bank_update.specs.declared.write.Put.{Put}
 use Rattle.slot_patch.proofs.Renaming.{name-kept, grown as longer}
-use Rattle.ternary_words.specs.Names.{decided}
+use Rattle.table_text.specs.Names.{decided}
 use Rattle.memory_text.specs.Kept.{AreNumbered, AreNumberedPuts, AreSpelled, Extends, number_in}
 use Rattle.memory_text.specs.Memory.{Write, entries_in}
 use Rattle.memory_text.specs.Views.{slots_of, write_of, writes_of}

@@ -10,11 +10,11 @@ use Rattle.ternary_words.specs.Views.{entry_of}
 use Rattle.bank_update.specs.declared.write.Put.{Put}
 use Rattle.text_lines.proofs.Decimals.{decimal-other}
 use Rattle.text_lines.proofs.Joins.{is_other, split_once-joined}
-use Rattle.ternary_words.specs.Lines.{lines_of}
-use Rattle.ternary_words.proofs.Cuts.{lines_of-line, whole_line}
-use Rattle.ternary_words.proofs.EntryTexts.{IsSpelled, columns-line, columns-written, entry-read, front_all}
-use Rattle.ternary_words.proofs.NameTexts.{numbered_spelled}
-use Rattle.ternary_words.proofs.TableTexts.{line_text}
+use Rattle.table_text.specs.Lines.{lines_of}
+use Rattle.table_text.proofs.Cuts.{lines_of-line, whole_line}
+use Rattle.table_text.proofs.EntryTexts.{IsSpelled, columns-line, columns-written, entry-read, front_all}
+use Rattle.table_text.proofs.NameTexts.{numbered_spelled}
+use Rattle.table_text.proofs.TableTexts.{line_text}
 use Rattle.memory_text.specs.Heading.{slot_numbered}
 use Rattle.memory_text.specs.Kept.{AreSpelled}
 use Rattle.memory_text.specs.Lines.{entry_write, first_word, plan_write}

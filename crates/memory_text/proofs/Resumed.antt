@@ -1,7 +1,7 @@
 -- The writes that were read so far, in front of what the lines that are left come to.
 use Rattle.std.proofs.Common.{◌≡◌, ◌∷◌, ◌++◌, ℕ, suc, ◌+◌, ◌-◌, ◌<◌, List, [], Ok, Err, take, refl, ap, sym, ◌∙◌, arith, append_assoc, append-nil, eq-eqb, Result}
 use Rattle.text_lines.specs.Headline.Reading.{BadLine}
-use Rattle.ternary_words.specs.Lines.{Line}
+use Rattle.table_text.specs.Lines.{Line}
 use Rattle.memory_text.specs.declared.error.SlotReason.{SlotReason}
 use Rattle.memory_text.specs.declared.kind.TextKind.{TextKind}
 use Rattle.memory_text.specs.Heading.{Heading}

@@ -8,8 +8,8 @@ use Rattle.ternary_words.specs.Headline.Table.{Entry}
 use Rattle.ternary_words.specs.Views.{entry_of}
 use Rattle.bank_update.specs.declared.write.Put.{Put}
 use Rattle.text_lines.proofs.Joins.{is_other}
-use Rattle.ternary_words.specs.Lines.{Line, lines_of}
-use Rattle.ternary_words.proofs.Cuts.{lines_of-line, whole_line}
+use Rattle.table_text.specs.Lines.{Line, lines_of}
+use Rattle.table_text.proofs.Cuts.{lines_of-line, whole_line}
 use Rattle.memory_text.specs.declared.error.SlotReason.{SlotReason}
 use Rattle.memory_text.specs.declared.kind.TextKind.{TextKind}
 use Rattle.memory_text.specs.declared.kind.TextKind.TheVariants as kinds

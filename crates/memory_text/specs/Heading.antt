@@ -1,10 +1,10 @@
 -- The first line of a memory's text, and of a plan's.
 use Rattle.std.specs.Prelude.{ℕ, ◌-◌, ◌==◌, List, Bool, ◌&&◌, Option, Some, None, codes, option_map, if◌then◌else◌}
 use Rattle.std.specs.Str.{bytes_eq}
-use Rattle.razor_base.specs.declared.limits.TheConstants.{MOST_ENTRIES}
+use Rattle.razor_limits.specs.declared.limits.TheConstants.{MOST_ENTRIES}
 use Rattle.text_lines.specs.Numbers.{plain_number}
 use Rattle.text_lines.specs.Headline.Steps.{◌>>=◌}
-use Rattle.ternary_words.specs.Heading.{Words, slot_of, words_of}
+use Rattle.table_text.specs.Heading.{HeadingWords, slot_of, words_of}
 use Rattle.memory_text.specs.declared.TheConstants.{MOST_WRITES}
 use Rattle.memory_text.specs.declared.kind.TextKind.{TextKind}
 use Rattle.memory_text.specs.declared.kind.TextKind.TheVariants as kinds
@@ -32,7 +32,7 @@ most_lines kinds.Memory slots = slots
 most_lines kinds.Plan slots = MOST_WRITES
 
 -- whether the words that name the numbers stand in their places
-abbrev pub is_labelled : TextKind → Words → Bool
+abbrev pub is_labelled : TextKind → HeadingWords → Bool
 is_labelled kind words = bytes_eq words.table (kind_word kind) && bytes_eq words.version (codes "1") && bytes_eq words.slot (codes "slots") && bytes_eq words.composed (codes "width") && bytes_eq words.entries (lines_word kind)
 
 -- `memory 1 slots N width W entries E`, or `plan 1 slots N width W writes T`

@@ -3,7 +3,7 @@ use Rattle.std.specs.Prelude.{ℕ, ◌≤◌, ◌<◌, List, Option, Some, None,
 use Rattle.ternary_words.specs.declared.entry.Entry.{Entry}
 use Rattle.bank_update.specs.declared.write.Put.{Put}
 use Rattle.slot_patch.specs.Naming.{Grow}
-use Rattle.ternary_words.specs.Names.{is_name}
+use Rattle.table_text.specs.Names.{is_name}
 
 -- each name can be spelled
 abbrev pub AreSpelled : List (List ℕ) → Type 0

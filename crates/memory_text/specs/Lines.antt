@@ -3,10 +3,10 @@ use Rattle.std.specs.Prelude.{ℕ, Bool, List, [], Option, Some, None, Result, O
 use Rattle.std.specs.Str.{bytes_eq}
 use Rattle.ternary_words.specs.Headline.Table.{Entry}
 use Rattle.text_lines.specs.Headline.Cuts.{parts_at}
-use Rattle.ternary_words.specs.declared.text.error.TableReason.{TableReason}
-use Rattle.ternary_words.specs.declared.text.error.TableReason.TheVariants.{Decision}
-use Rattle.ternary_words.specs.Lines.{Line}
-use Rattle.ternary_words.specs.Reading.{columns_entry}
+use Rattle.table_text.specs.declared.error.TableReason.{TableReason}
+use Rattle.table_text.specs.declared.error.TableReason.TheVariants.{Decision}
+use Rattle.table_text.specs.Lines.{Line}
+use Rattle.table_text.specs.Reading.{columns_entry}
 use Rattle.memory_text.specs.declared.error.SlotReason.{SlotReason}
 use Rattle.memory_text.specs.declared.error.SlotReason.TheVariants.{OfTable, Slot, UnknownWrite}
 use Rattle.memory_text.specs.declared.kind.TextKind.{TextKind}

@@ -3,7 +3,7 @@ use Rattle.std.specs.Prelude.{ℕ, suc, List, [], ◌∷◌, ◌++◌, Option, S
 use Rattle.std.specs.List.{flat_map}
 use Rattle.std.specs.Fmt.{decimal}
 use Rattle.ternary_words.specs.Headline.Table.{Entry}
-use Rattle.ternary_words.specs.Headline.TableText.{entry_line}
+use Rattle.table_text.specs.Headline.TableText.{entry_line}
 use Rattle.memory_text.specs.declared.kind.TextKind.{TextKind}
 use Rattle.memory_text.specs.declared.kind.TextKind.TheVariants as kinds
 use Rattle.memory_text.specs.Memory.{Memory, Plan, Write, entries_in}

@@ -1,8 +1,8 @@
 -- What the text of a memory or of a plan spells: it, or the first bad line.
 use Rattle.std.specs.Prelude.{ℕ, suc, ◌+◌, ◌==◌, List, [], ◌∷◌, ◌++◌, length, take, min, replicate, Option, Some, None, Result, Ok, Err, if◌then◌else◌}
-use Rattle.ternary_words.specs.declared.text.error.TableReason.TheVariants.{FirstLine, Count}
+use Rattle.table_text.specs.declared.error.TableReason.TheVariants.{FirstLine, Count}
 use Rattle.text_lines.specs.Headline.Reading.{BadLine}
-use Rattle.ternary_words.specs.Lines.{Line, lines_of}
+use Rattle.table_text.specs.Lines.{Line, lines_of}
 use Rattle.memory_text.specs.declared.error.SlotReason.{SlotReason}
 use Rattle.memory_text.specs.declared.error.SlotReason.TheVariants.{OfTable, Writes}
 use Rattle.memory_text.specs.declared.kind.TextKind.{TextKind}

@@ -1,6 +1,6 @@
 -- What is wrong with a line of a memory or a plan, in words.
 use Rattle.std.specs.Prelude.{ℕ, List, codes, Option, Some, None}
-use Rattle.ternary_words.specs.Reasons as tables
+use Rattle.table_text.specs.Reasons as tables
 use Rattle.memory_text.specs.declared.error.SlotReason.{SlotReason}
 use Rattle.memory_text.specs.declared.error.SlotReason.TheVariants.{OfTable, Slot, UnknownWrite, Writes}
 

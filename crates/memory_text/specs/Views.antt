@@ -4,7 +4,7 @@ use Rattle.ternary_words.specs.declared.entry.Entry as code_entry
 use Rattle.ternary_words.specs.Headline.Table.{Entry}
 use Rattle.ternary_words.specs.Views.{entry_of}
 use Rattle.bank_update.specs.declared.write.Put.{Put}
-use Rattle.ternary_words.specs.EntryViews.{spelled_view}
+use Rattle.table_text.specs.EntryViews.{spelled_view}
 use Rattle.memory_text.specs.declared.memory.SlotMemory.{SlotMemory}
 use Rattle.memory_text.specs.declared.plan.SlotPlan.{SlotPlan}
 use Rattle.memory_text.specs.declared.draft.Draft.{Draft}

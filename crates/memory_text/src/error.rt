@@ -2,7 +2,7 @@
 ghost use Rattle.std.specs.Prelude.{◌≡◌};
 ghost use Rattle.memory_text.specs.Reasons.{counts_of, reason_text};
 
-use ternary_words::text::TableReason;
+use table_text::TableReason;
 use text_lines::TextError;
 use thiserror::Error;
 

@@ -2,8 +2,8 @@
 ghost use Rattle.std.specs.Prelude.{◌≡◌, ◌≤◌, ◌<◌, IfSome};
 ghost use Rattle.std.specs.Option.{option_map};
 ghost use Rattle.std.specs.Str.{bytes_eq};
-ghost use Rattle.razor_base.specs.declared.limits.TheConstants.{MOST_ENTRIES};
-ghost use Rattle.ternary_words.specs.HeadingViews.{words_view};
+ghost use Rattle.razor_limits.specs.declared.limits.TheConstants.{MOST_ENTRIES};
+ghost use Rattle.table_text.specs.HeadingViews.{words_view};
 ghost use Rattle.memory_text.specs.declared.TheConstants.{MOST_WRITES};
 ghost use Rattle.memory_text.specs.Heading.{heading_of, is_labelled, most_lines, number_from_one, slot_numbered};
 ghost use Rattle.memory_text.specs.Views.{heading_view};
@@ -11,8 +11,8 @@ ghost use Rattle.memory_text.specs.Views.{heading_view};
 use crate::MOST_WRITES;
 use crate::kind::TextKind;
 use razor_base::limits::MOST_ENTRIES;
+use table_text::{HeadingWords, cut_words, read_slot};
 use ternary_words::SlotWidth;
-use ternary_words::text::{Words, cut_words, read_slot};
 use text_lines::plain_number;
 
 /// How many slots there are, how wide they are, and how many lines follow.
@@ -53,7 +53,7 @@ fn is(text: &[u8], word: &str) -> bool
 }
 
 /// Whether the words that name the numbers stand in their places.
-fn is_labelled(kind: TextKind, words: &Words<'_>) -> bool
+fn is_labelled(kind: TextKind, words: &HeadingWords<'_>) -> bool
     ensures { result ≡ is_labelled kind (words_view words.now) }
 {
     is(words.table, kind.word())

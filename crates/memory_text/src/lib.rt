@@ -23,7 +23,7 @@
 //!   by the memory or as by the table, a header with another answer than the memory's keeps it, and behind the last write the
 //!   table stands there. It comes exactly where there are as many slots as both need; else that number is said.
 //!
-//! | Room | Holds |
+//! | Module | Holds |
 //! |---|---|
 //! | `memory`, `plan`, `naming` | memories, plans, and the names of their decisions |
 //! | `reading`, `heading`, `line`, `draft`, `kind`, `error` | both texts read, and why one is refused |

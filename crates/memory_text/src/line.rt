@@ -3,12 +3,12 @@ ghost use Rattle.std.specs.Prelude.{◌≡◌, ◌<◌, Ok, Err, IfOk, IfSome, M
 ghost use Rattle.memory_text.specs.Heading.{slot_numbered};
 ghost use Rattle.memory_text.specs.Lines.{emptied, entry_write, first_word, from_slot, plan_write, write_in};
 ghost use Rattle.memory_text.specs.Views.{spelled_of};
-ghost use Rattle.ternary_words.specs.EntryViews.{line_of};
+ghost use Rattle.table_text.specs.EntryViews.{line_of};
 
 use crate::error::SlotReason;
 use crate::heading::slot_numbered;
 use crate::kind::TextKind;
-use ternary_words::text::{Spelled, TableReason, columns_entry};
+use table_text::{Spelled, TableReason, columns_entry};
 use text_lines::split_once;
 
 /// A slot, and what it is made to hold, as a line spells it.

@@ -1,6 +1,6 @@
 //! Memories: what each slot holds.
 ghost use Rattle.std.specs.Prelude.{◌≤◌, length, vec_len};
-ghost use Rattle.razor_base.specs.declared.limits.TheConstants.{MOST_ENTRIES};
+ghost use Rattle.razor_limits.specs.declared.limits.TheConstants.{MOST_ENTRIES};
 ghost use Rattle.memory_text.specs.Kept.{AreNumbered, AreSpelled};
 
 use crate::naming::number_of;
@@ -26,10 +26,10 @@ pub struct SlotMemory {
 
 impl SlotMemory {
     ghost use Rattle.std.specs.Prelude.{◌≡◌, ◌≤◌, ◌<◌, Some, None, replicate, set, vec_len, IfOk, IsTrue, OnOk};
-    ghost use Rattle.razor_base.specs.declared.limits.TheConstants.{MOST_ENTRIES};
+    ghost use Rattle.razor_limits.specs.declared.limits.TheConstants.{MOST_ENTRIES};
     ghost use Rattle.std.specs.Option.{option_map};
     ghost use Rattle.ternary_words.specs.Views.{entry_of, word_of};
-    ghost use Rattle.ternary_words.specs.Names.{decided, is_decision};
+    ghost use Rattle.table_text.specs.Names.{decided, is_decision};
     ghost use Rattle.memory_text.specs.Kept.{AreSpelled};
     ghost use Rattle.memory_text.specs.Memory.{after};
     ghost use Rattle.memory_text.specs.Views.{memory_of, plan_of};

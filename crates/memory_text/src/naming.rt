@@ -3,14 +3,14 @@ ghost use Rattle.std.specs.Prelude.{◌≡◌, ◌≤◌, length, IfOk, IsTrue};
 ghost use Rattle.std.specs.Option.{option_map};
 ghost use Rattle.field_boxes.specs.Names.{name_at};
 ghost use Rattle.ternary_words.specs.Views.{entry_of};
-ghost use Rattle.ternary_words.specs.EntryViews.{spelled_view};
-ghost use Rattle.ternary_words.specs.Names.{decided, is_decision};
+ghost use Rattle.table_text.specs.EntryViews.{spelled_view};
+ghost use Rattle.table_text.specs.Names.{decided, is_decision};
 ghost use Rattle.memory_text.specs.Kept.{Extends, number_in};
 
 use razor_base::Memory;
 use slot_patch::Names;
+use table_text::{Spelled, is_miss};
 use ternary_words::Entry;
-use ternary_words::text::{Spelled, is_miss};
 
 /// The number of the decision, which is put among the names.
 pub(crate) fn number_of(names: &mut Names, decision: &str) -> Result<u32, Memory>

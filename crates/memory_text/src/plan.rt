@@ -1,6 +1,6 @@
 //! Plans of writes.
 ghost use Rattle.std.specs.Prelude.{◌≤◌, vec_len};
-ghost use Rattle.razor_base.specs.declared.limits.TheConstants.{MOST_ENTRIES};
+ghost use Rattle.razor_limits.specs.declared.limits.TheConstants.{MOST_ENTRIES};
 ghost use Rattle.memory_text.specs.declared.TheConstants.{MOST_WRITES};
 ghost use Rattle.memory_text.specs.Kept.{AreSpelled, AreWithin};
 

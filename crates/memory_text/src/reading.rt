@@ -1,7 +1,7 @@
 //! Reading the text of a memory, and of a plan.
 ghost use Rattle.std.specs.Prelude.{◌≡◌, ◌+◌, ◌-◌, ◌^◌, ◌≤◌, ◌<◌, min, length, take, Ok, Err, IfOk, IfSome, IfNone, MatchResult, Some, vec_len};
-ghost use Rattle.razor_base.specs.declared.limits.TheConstants.{MOST_ENTRIES};
-ghost use Rattle.ternary_words.specs.Lines.{lines_of};
+ghost use Rattle.razor_limits.specs.declared.limits.TheConstants.{MOST_ENTRIES};
+ghost use Rattle.table_text.specs.Lines.{lines_of};
 ghost use Rattle.memory_text.specs.declared.TheConstants.{MOST_WRITES};
 ghost use Rattle.text_lines.specs.Reading.{IsTextRefused};
 ghost use Rattle.text_lines.specs.declared.error.TextError.TheVariants.{BadLine};
@@ -17,7 +17,7 @@ use crate::line::write_in;
 use crate::memory::SlotMemory;
 use crate::plan::SlotPlan;
 use std::alloc::Global;
-use ternary_words::text::{TableReason, count_lines, next_line};
+use table_text::{TableReason, count_lines, next_line};
 
 /// The plan that the text spells, or its first bad line.
 ///

@@ -1,6 +1,6 @@
 //! Spreading a table over the slots of a memory.
 ghost use Rattle.std.specs.Prelude.{◌≡◌, ◌≤◌, ◌<◌, vec_len, IfOk};
-ghost use Rattle.razor_base.specs.declared.limits.TheConstants.{MOST_ENTRIES};
+ghost use Rattle.razor_limits.specs.declared.limits.TheConstants.{MOST_ENTRIES};
 ghost use Rattle.ternary_words.specs.Views.{table_of};
 ghost use Rattle.memory_text.specs.Kept.{AreSpelled};
 ghost use Rattle.memory_text.specs.Spreading.{even_slot, spread};

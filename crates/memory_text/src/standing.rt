@@ -1,9 +1,9 @@
 //! The table that stands in the slots of a memory.
 ghost use Rattle.std.specs.Prelude.{◌≡◌, ◌≤◌, ◌<◌, ◌+◌, ◌++◌, vec_len, IfOk};
 ghost use Rattle.std.specs.Option.{option_map, option_to_list};
-ghost use Rattle.razor_base.specs.declared.limits.TheConstants.{MOST_ENTRIES};
+ghost use Rattle.razor_limits.specs.declared.limits.TheConstants.{MOST_ENTRIES};
 ghost use Rattle.ternary_words.specs.Views.{entry_of, table_of};
-ghost use Rattle.ternary_words.specs.EntriesViews.{entries_view};
+ghost use Rattle.table_text.specs.EntriesViews.{entries_view};
 ghost use Rattle.memory_text.specs.Kept.{AreSpelled};
 ghost use Rattle.memory_text.specs.Memory.{table_in};
 ghost use Rattle.memory_text.specs.Views.{memory_of};
@@ -12,7 +12,7 @@ use crate::memory::SlotMemory;
 use razor_base::Memory;
 use slot_patch::Names;
 use std::alloc::Global;
-use ternary_words::text::Entries;
+use table_text::Entries;
 use ternary_words::{Entry, Table};
 
 /// The table of the memory: its entries by rising slot.

@@ -13,7 +13,8 @@ use crate::plan::SlotPlan;
 use bank_update::Put;
 use razor_base::{Failed, Part, Pending, Sink, put_parts};
 use slot_patch::Names;
-use ternary_words::{Entry, put_word};
+use table_text::put_word;
+use ternary_words::Entry;
 
 /// Writes the text of the memory, in large pieces and without taking memory.
 pub fn write_memory<K: Sink>(memory: &SlotMemory, out: &mut K) -> Result<(), Failed>

@@ -1,7 +1,7 @@
 -- What a store asks of the node that it makes of edges handed in, and what that node answers.
 use Rattle.std.proofs.Common.{◌≡◌, ℕ, List, ◌∷◌, ◌≤◌, length, ap, sym, subst, ◌∙◌}
 use Rattle.std.specs.Prelude.{Result, Ok, Err, IfOk}
-use Rattle.razor_base.specs.declared.failure.Memory.{Memory}
+use Rattle.razor_limits.specs.declared.failure.Memory.{Memory}
 use Rattle.node_store.specs.declared.edge.Edge.{Edge}
 use Rattle.node_store.specs.declared.edge.NodeId.{NodeId}
 use Rattle.node_store.specs.Edges.{AreFull, child_of, merged}

@@ -33,7 +33,7 @@
 //! every store and what no call changes. [`laws`] has what callers need of a store that grows, and of edges made in
 //! turn.
 //!
-//! | Room | Holds |
+//! | Module | Holds |
 //! |---|---|
 //! | `store`, `node`, `edge`, `merge` | the store, what it keeps of a node, and edges with equal neighbours merged |
 //! | `level` | levels, and the stated order of the fields |

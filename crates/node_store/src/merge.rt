@@ -5,7 +5,7 @@ ghost use Rattle.node_store.specs.declared.edge.Edge.{Edge};
 
 use crate::edge::Edge;
 use crate::node::Edges;
-use razor_base::Memory;
+use razor_limits::Memory;
 use smallvec::SmallVec;
 use std::alloc::Global;
 

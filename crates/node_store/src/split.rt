@@ -9,7 +9,7 @@ ghost use Rattle.node_store.specs.Split.{IsSplit, to_left, to_right};
 
 use crate::edge::{Edge, NodeId};
 use crate::store::Store;
-use razor_base::Memory;
+use razor_limits::Memory;
 use smallvec::SmallVec;
 
 /// Some values of a field, from past the part before it up to `hi`, and where they lead from a left

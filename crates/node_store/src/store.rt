@@ -15,7 +15,7 @@ use crate::merge::merge;
 use crate::node::Node;
 use field_boxes::greatest;
 use indexmap::IndexSet;
-use razor_base::Memory;
+use razor_limits::Memory;
 use std::alloc::Global;
 use std::marker::Model;
 

@@ -1,9 +1,9 @@
 //! Checking a certificate as it is read.
 ghost use Rattle.std.specs.Prelude.{◌≡◌, ◌≢◌, ◌≤◌, ◌<◌, ◌+◌, ◌-◌, ℕ, List, Err, IfSome, IfOk, OnOk, IsErrOf, MatchResult, OnErr, length, take, drop, min};
 ghost use Rattle.std.specs.Io.KnownBytes.{Consumes, IsAtEnd, Keeps};
-ghost use Rattle.razor_base.specs.Faults.{Rose};
+ghost use Rattle.razor_limits.specs.Counts.{Rose};
 ghost use Rattle.razor_base.specs.Input.{TakesAtMost};
-ghost use Rattle.razor_base.specs.declared.limits.TheConstants.{MOST_CERTIFICATE_BYTES};
+ghost use Rattle.razor_limits.specs.declared.limits.TheConstants.{MOST_CERTIFICATE_BYTES};
 ghost use Rattle.partition_check.specs.declared.row.Wrong.{Wrong as wrong_row};
 ghost use Rattle.partition_check.specs.Agreement.{Agree, HaveNames};
 ghost use Rattle.partition_check.specs.Streams.{ReadsUpTo, ReadsTooMuch, ReadsValid, ReadsWrong, UnlessFault};

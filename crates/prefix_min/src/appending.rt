@@ -2,7 +2,7 @@
 ghost use Rattle.std.specs.Prelude.{◌≡◌, ◌++◌, ◌∷◌, [], OnOk};
 
 use bumpalo::Bump;
-use razor_base::Memory;
+use razor_limits::Memory;
 
 /// Pushes an item. Most often there is room for it, so this is told apart first.
 #[inline(always)]

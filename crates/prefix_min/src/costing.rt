@@ -14,7 +14,7 @@ use crate::row::{PrefixRow, sort};
 use crate::stack::{CostAlone, Stack, WithChoices};
 use bumpalo::Bump;
 use field_boxes::Prefix;
-use razor_base::Memory;
+use razor_limits::Memory;
 use std::alloc::Global;
 
 /// Room in which lists and costs are worked out, one after another: each takes what the one before has left.

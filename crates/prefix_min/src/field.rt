@@ -11,7 +11,7 @@ use crate::plan::{choose, put};
 use crate::savings::merging::join_parts;
 use crate::savings::{Gain, LabelCost, is_alone, keep, saving_of};
 use crate::stack::{Keeping, Stack};
-use razor_base::Memory;
+use razor_limits::Memory;
 
 /// What the parts are made of.
 #[derive(Clone, Copy)]

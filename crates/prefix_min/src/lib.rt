@@ -20,7 +20,7 @@
 //! - [`Costing::cheapest`] has the clauses of [`minimise`], over one list after another in one room, and
 //!   [`Costing::minimum`] gives the least weight alone.
 //!
-//! | Room | Holds |
+//! | Module | Holds |
 //! |---|---|
 //! | `costing` | the calls, and the room in which they work |
 //! | `piece`, `row` | pieces of a field, rows of a list, and their order |

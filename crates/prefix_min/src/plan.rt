@@ -8,7 +8,7 @@ use crate::row::PrefixRow;
 use crate::savings::Gain;
 use bumpalo::Bump;
 use field_boxes::Prefix;
-use razor_base::Memory;
+use razor_limits::Memory;
 
 /// A part writes a row of the label, unless it inherits that or one of the further labels.
 #[derive(Clone, Copy)]

@@ -10,7 +10,7 @@ mod pairs;
 
 use crate::appending::append;
 use bumpalo::Bump;
-use razor_base::Memory;
+use razor_limits::Memory;
 
 /// What is saved where the label is inherited.
 #[derive(Clone, Copy)]

@@ -11,7 +11,7 @@ ghost use Rattle.range_prefix.specs.Spans.{AreApart, union_of, values_of};
 use crate::enclosing::enclosing;
 use crate::share::Share;
 use field_boxes::{Prefix, Span};
-use razor_base::Memory;
+use razor_limits::Memory;
 use std::alloc::Global;
 
 /// The fewest prefixes of a field of `width` bits that hold exactly the span's values, in rising order.

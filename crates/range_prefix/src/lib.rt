@@ -25,7 +25,7 @@
 //! block that is halved passes the spans on that don't end before it, so each span is dropped once for each size at the
 //! most. All turns together are of the order of the spans times the width.
 //!
-//! | Room | Holds |
+//! | Module | Holds |
 //! |---|---|
 //! | `covering`, `counting` | covers, and how many prefixes they have |
 //! | `enclosing`, `halves`, `share`, `reaching` | blocks, their halves, and what spans have of them |

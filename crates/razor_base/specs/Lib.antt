@@ -1,6 +1,5 @@
 pub mod CalmDesk
 pub mod FaultPlan
-pub mod Faults
 pub mod HostDesk
 pub mod HostSink
 pub mod HostStream

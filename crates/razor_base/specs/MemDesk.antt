@@ -2,7 +2,7 @@
 use Rattle.std.specs.Prelude.{ℕ, ◌==◌, List, length, min, Option, Some, None, Result, Ok, Err, if◌then◌else◌}
 use Rattle.std.specs.BTreeMap.{get_by_text}
 use Rattle.razor_base.specs.FaultPlan.{fails_next}
-use Rattle.razor_base.specs.declared.failure.Failed.{Failed}
+use Rattle.razor_limits.specs.declared.failure.Failed.{Failed}
 use Rattle.razor_base.specs.declared.mem_desk.MemDesk.{MemDesk}
 
 -- the bytes that are left under a name, if it is there

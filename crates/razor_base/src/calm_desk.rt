@@ -1,7 +1,7 @@
 //! Inputs in memory that never fail.
 use crate::desk::Desk;
-use crate::failure::{Failed, Memory};
 use crate::remaining::Remaining;
+use razor_limits::{Failed, Memory};
 use std::alloc::Global;
 use std::collections::BTreeMap;
 
@@ -49,7 +49,7 @@ impl CalmDesk {
 impl Desk for CalmDesk {
     ghost use Rattle.std.specs.Prelude.{◌≡◌, ◌≢◌, ◌≤◌, ℕ, List, length, min, None, Some, Ok, IfOk, OnOk, OnErr};
     ghost use Rattle.std.specs.Io.KnownBytes.{ReadConsumes, Keeps};
-    ghost use Rattle.razor_base.specs.Faults.{Rose};
+    ghost use Rattle.razor_limits.specs.Counts.{Rose};
     ghost use Rattle.razor_base.specs.CalmDesk.{left_to_read, put_under};
 
     ghost remaining = { λ desk name. Some (left_to_read desk name) };

@@ -1,9 +1,9 @@
 //! What gives the bytes of named inputs.
 ghost use Rattle.std.specs.Prelude.{◌≡◌, ◌≢◌, ◌≤◌, ℕ, List, Option, length, Ok, IfOk, OnOk, OnErr};
 ghost use Rattle.std.specs.Io.KnownBytes.{ReadConsumes, Keeps};
-ghost use Rattle.razor_base.specs.Faults.{Rose};
+ghost use Rattle.razor_limits.specs.Counts.{Rose};
 
-use crate::failure::Failed;
+use razor_limits::Failed;
 
 /// Gives the bytes of inputs that are named.
 pub trait Desk {

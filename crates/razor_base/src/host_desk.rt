@@ -1,8 +1,8 @@
 //! The files of the system as inputs.
 use crate::desk::Desk;
-use crate::failure::Failed;
 use crate::host_stream::{HostFiles, HostSource};
 use crate::stream_desk::StreamDesk;
+use razor_limits::Failed;
 use std::alloc::Global;
 use std::rt::Files;
 
@@ -32,8 +32,7 @@ impl<R: Files + Input + Drop> HostDesk<R> {
 impl<R: Files + Input + Drop> Desk for HostDesk<R> {
     ghost use Rattle.std.specs.Prelude.{◌≡◌, ◌≢◌, ◌≤◌, ◌==◌, ◌<◌, ℕ, List, length, Ok, None, Some, IfOk, OnOk, OnErr, is_ok, if◌then◌else◌};
     ghost use Rattle.std.specs.Io.KnownBytes.{ReadConsumes, Keeps};
-    ghost use Rattle.razor_base.specs.Faults.{Rose};
-    ghost use Rattle.razor_base.specs.FaultPlan.{counted};
+    ghost use Rattle.razor_limits.specs.Counts.{Rose, counted};
     ghost use Rattle.razor_base.specs.HostDesk.{file_faults, host_name};
 
     ghost remaining = { λ _ _. None };

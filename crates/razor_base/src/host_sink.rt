@@ -1,8 +1,8 @@
 //! Standard output and standard error.
-use crate::failure::Failed;
 use crate::host_stream::{HostDrain, Printer};
 use crate::sink::Sink;
 use crate::stream_sink::StreamSink;
+use razor_limits::Failed;
 use std::io::Stderr;
 
 /// Standard output or standard error.
@@ -42,8 +42,7 @@ impl HostSink<Stderr> {
 impl<P: Print> Sink for HostSink<P> {
     ghost use Rattle.std.specs.Prelude.{◌≡◌, ◌≤◌, ◌<◌, length, Ok, None, IfOk, OnOk, OnErr, is_ok, if◌then◌else◌};
     ghost use Rattle.std.specs.Io.KnownBytes.{WriteAppends};
-    ghost use Rattle.razor_base.specs.Faults.{Rose};
-    ghost use Rattle.razor_base.specs.FaultPlan.{counted};
+    ghost use Rattle.razor_limits.specs.Counts.{Rose, counted};
     ghost use Rattle.razor_base.specs.HostSink.{stream_faults};
 
     ghost written = { λ _. None };

@@ -3,9 +3,9 @@ ghost use Rattle.std.specs.Prelude.{◌≡◌, ◌↔◌};
 ghost use Rattle.std.specs.IoError.{error_kind};
 ghost use Rattle.razor_base.specs.declared.stream.Cut.TheVariants.{Interrupted};
 
-use crate::failure::Failed;
 use crate::opener::Opener;
 use crate::stream::{Cut, Drain, Source};
+use razor_limits::Failed;
 use std::io::{ErrorKind, Read, Write};
 use std::rt::Files;
 use std::{fs, io};

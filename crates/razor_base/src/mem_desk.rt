@@ -2,9 +2,9 @@
 ghost use Rattle.std.specs.Prelude.{◌<◌};
 
 use crate::desk::Desk;
-use crate::failure::{Failed, Memory};
 use crate::fault_plan::FaultPlan;
 use crate::remaining::Remaining;
+use razor_limits::{Failed, Memory};
 use std::alloc::Global;
 use std::collections::BTreeMap;
 
@@ -87,8 +87,7 @@ impl MemDesk {
 impl Desk for MemDesk {
     ghost use Rattle.std.specs.Prelude.{◌≡◌, ◌≢◌, ◌≤◌, ◌==◌, ℕ, List, length, None, Ok, IfOk, OnOk, OnErr, is_ok, if◌then◌else◌};
     ghost use Rattle.std.specs.Io.KnownBytes.{ReadConsumes, Keeps};
-    ghost use Rattle.razor_base.specs.Faults.{Rose};
-    ghost use Rattle.razor_base.specs.FaultPlan.{counted};
+    ghost use Rattle.razor_limits.specs.Counts.{Rose, counted};
     ghost use Rattle.razor_base.specs.MemDesk.{left_under, most_at_once, chosen_reads, reads_made, read_faults, read_answer};
 
     ghost remaining = { left_under };

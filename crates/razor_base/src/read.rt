@@ -1,14 +1,14 @@
 //! Reading an input to its end.
 ghost use Rattle.std.specs.Prelude.{◌≡◌, ◌≢◌, ◌≤◌, ◌<◌, ◌+◌, ℕ, List, [], ◌++◌, length, take, OnOk, IsErrOf};
 ghost use Rattle.std.specs.Io.KnownBytes.{Consumes, Keeps};
-ghost use Rattle.razor_base.specs.Faults.{Rose};
+ghost use Rattle.razor_limits.specs.Counts.{Rose};
 ghost use Rattle.razor_base.specs.Input.{ReadsWhole, ReadsFront, PassesLimit, TakesAtMost, UnlessFault};
 ghost use Rattle.razor_base.specs.declared.read.ReadError.TheVariants.{Fault, TooLong, Memory};
-ghost use Rattle.razor_base.specs.declared.limits.TheConstants.{MOST_CERTIFICATE_BYTES, PIECE_BYTES};
+ghost use Rattle.razor_limits.specs.declared.limits.TheConstants.{MOST_CERTIFICATE_BYTES, PIECE_BYTES};
 
 use crate::desk::Desk;
-use crate::failure::Failed;
-use crate::limits::BUFFER_BYTES;
+use razor_limits::Failed;
+use razor_limits::limits::BUFFER_BYTES;
 use std::alloc::AllocError;
 use thiserror::Error;
 

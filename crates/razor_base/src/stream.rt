@@ -3,7 +3,7 @@ ghost use Rattle.std.specs.Prelude.{◌≤◌, ◌<◌, length, IfOk};
 ghost use Rattle.std.specs.Io.KnownBytes.{ReadConsumes, WriteAppends};
 ghost use Rattle.razor_base.specs.Streams.{IsTried};
 
-use crate::failure::Failed;
+use razor_limits::Failed;
 
 /// How often a call is tried before it counts as failed, if a signal interrupts it each time.
 const TRIES: usize = 65;

@@ -4,9 +4,9 @@ ghost use Rattle.std.specs.Io.KnownBytes.{Keeps};
 ghost use Rattle.razor_base.specs.StreamDesk.{IsOpening, name_of};
 
 use crate::desk::Desk;
-use crate::failure::Failed;
 use crate::opener::Opener;
 use crate::stream::{Source, read_some};
+use razor_limits::Failed;
 use std::alloc::Global;
 
 /// A desk over streams that are opened by their names.
@@ -118,8 +118,7 @@ fn open<O: Opener<Stream = S>, S: Source + Drop>(
 impl<O: Opener<Stream = S>, S: Source + Drop> Desk for StreamDesk<O, S> {
     ghost use Rattle.std.specs.Prelude.{◌≡◌, ◌≢◌, ◌≤◌, ◌<◌, ◌==◌, ℕ, List, length, Ok, None, Some, IfOk, OnOk, OnErr, is_ok, if◌then◌else◌};
     ghost use Rattle.std.specs.Io.KnownBytes.{ReadConsumes, Keeps};
-    ghost use Rattle.razor_base.specs.Faults.{Rose};
-    ghost use Rattle.razor_base.specs.FaultPlan.{counted};
+    ghost use Rattle.razor_limits.specs.Counts.{Rose, counted};
     ghost use Rattle.razor_base.specs.StreamDesk.{IsOpening, open_name, left_open, open_faults, opener_of};
 
     ghost remaining = { λ _ _. None };

@@ -1,7 +1,7 @@
 //! Commits of an editing session.
 ghost use Rattle.std.specs.Prelude.{◌≡◌, ◌<◌, All, IfOk};
 ghost use Rattle.field_boxes.specs.NamedRules.{IsNumberedBy};
-ghost use Rattle.filter_reader.specs.FilterRules.{IsFilterRule};
+ghost use Rattle.field_boxes.specs.FilterRules.{IsFilterRule};
 ghost use Rattle.edit_session.specs.Lists.{IsEditable};
 
 use crate::input::{input, list_of};
@@ -9,8 +9,7 @@ use crate::numbers::Numbers;
 use crate::tables::checksum;
 use anyhow::{Result, anyhow, ensure};
 use edit_session::{Editor, Method};
-use field_boxes::{Order, Rule, decision_word};
-use filter_reader::RuleList;
+use field_boxes::{Order, Rule, RuleList, decision_word};
 use razor_base::limits::{MOST_ENTRIES, MOST_LIST_BYTES};
 use rule_compilation::{Compiler, compile};
 use std::alloc::Global;

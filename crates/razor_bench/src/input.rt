@@ -1,9 +1,10 @@
 //! Standard input, and the filter list that it spells.
 ghost use Rattle.std.specs.Prelude.{◌≤◌};
-ghost use Rattle.razor_base.specs.declared.limits.TheConstants.{MOST_CERTIFICATE_BYTES};
+ghost use Rattle.razor_limits.specs.declared.limits.TheConstants.{MOST_CERTIFICATE_BYTES};
 
 use anyhow::{Result, bail};
-use filter_reader::{RuleList, read_list};
+use field_boxes::RuleList;
+use filter_reader::read_list;
 use razor_base::{HostDesk, read_all};
 use std::alloc::Global;
 use std::fs::Files;

@@ -14,7 +14,7 @@
 //! razor_bench both 1 100 < LIST
 //! ```
 //!
-//! | Room | Holds |
+//! | Module | Holds |
 //! |---|---|
 //! | `work`, `input`, `numbers` | what the words ask for, the list on standard input, and random numbers |
 //! | `nodes`, `plan`, `tally` | diagram nodes, made and asked for |

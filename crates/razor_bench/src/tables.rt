@@ -4,8 +4,8 @@ use crate::input::input;
 use anyhow::{Result, bail};
 use razor_base::limits::MOST_TABLE_BYTES;
 use std::fs::Files;
+use table_text::read_table;
 use ternary_words::Entry;
-use ternary_words::text::read_table;
 
 /// Reads the table on standard input so often, and prints each result.
 pub fn run(rt: &(impl Files + Input + Print + AllocGlobal), times: u32) -> Result<()> {

@@ -24,7 +24,8 @@ use Rattle.table_compose.proofs.Boxes.{prefix_count}
 use Rattle.table_compose.proofs.Later.{child_older}
 use Rattle.table_compose.proofs.Placing.{box_at}
 use Rattle.table_compose.proofs.Tables.{prefix_words, answers, counted}
-use Rattle.redundancy_laws.specs.Built.{ArePrefixes, row_at}
+use Rattle.ternary_words.specs.Entries.{ArePrefixes, IsPart, answer}
+use Rattle.redundancy_laws.specs.Built.{row_at}
 use Rattle.field_boxes.specs.Orders.{IsOrder, picked}
 use Rattle.redundancy_laws.specs.Rows.{Row, each_holds, in_front, matches}
 use Rattle.node_store.proofs.Orders.{order_level, picked_values, some_header}
@@ -34,7 +35,6 @@ use Rattle.redundancy.proofs.WholeFlags.{AreAlikeRows, flags_alike}
 use Rattle.std.proofs.lemmas.Option.{none-some, same_Some}
 use Rattle.ternary_words.specs.Headline.Word.{agrees, header_bits}
 use Rattle.table_compose.proofs.Occurring.{entries_occur, occur_by}
-use Rattle.ternary_words.specs.Entries.{IsPart, answer}
 use Rattle.redundancy_laws.specs.Flags.{with_flags}
 use Rattle.redundancy_laws.specs.Pass.{Keeps}
 use Rattle.redundancy_laws.proofs.Chosen.{chosen}

@@ -3,7 +3,8 @@ use Rattle.std.proofs.Common.{◌≡◌, ◌+◌, ◌<◌, ℕ, List, [], Bool, 
 use Rattle.std.proofs.lemmas.Bool.{cases_lt}
 use Rattle.std.proofs.lemmas.List.{get_or_default, length-map}
 use Rattle.ternary_words.specs.declared.entry.Entry.{Entry}
-use Rattle.redundancy_laws.specs.Built.{ArePrefixes, row_at}
+use Rattle.ternary_words.specs.Entries.{ArePrefixes}
+use Rattle.redundancy_laws.specs.Built.{row_at}
 use Rattle.redundancy_laws.specs.Flags.{AreRightFlags, with_flags}
 use Rattle.field_boxes.specs.Orders.{IsOrder}
 use Rattle.redundancy_laws.specs.Pass.{Keeps}
@@ -26,16 +27,6 @@ pub kept_is : (order : List ℕ) (entries seen again kept : List Entry) (flags f
     kept ≡ with_flags again flags_seen → Keeps [] entries kept
 kept_is order entries seen again kept flags flags_seen ordered prefixes e a f right is =
     subst (Keeps [] entries) (sym (is ∙ ap (λ es. with_flags es flags_seen) a ∙ ap (with_flags entries) f)) (chosen order entries flags ordered prefixes (subst (λ es. AreRightFlags order es flags) e right))
-
--- what holds up to an entry and of it
-pub up_to_next : (P : Entry → Type 0) (entries : List Entry) (i : ℕ) (e : Entry) → i < length entries → e ≡ get_or entries i e → ((k : ℕ) (d : Entry) → k < i → P (get_or entries k d)) → P e →
-    (k : ℕ) (d : Entry) → k < i + 1 → P (get_or entries k d)
-up_to_next P entries i e less is before here k d l = elim (cases_lt k i) [
-  | inl earlier ↦ before k d earlier
-  | inr past ↦
-      let same : k ≡ i = omega (arith, l, past) in
-      subst (λ n. P (get_or entries n d)) (sym same) (subst P (is ∙ get_or_default entries i e d less) here)
-]
 
 -- what was kept of the rows for the one context that answers nothing
 pub flags_of_pair : (nodes : List Node) (order level : List ℕ) (rows : List Row) (pair : Context) (s : Sifted) → level ≡ order →

@@ -18,7 +18,7 @@ use crate::contexts::distinct::Distinct;
 use crate::sets::Sets;
 use field_boxes::Span;
 use node_store::{NodeId, Part, Parts};
-use razor_base::Memory;
+use razor_limits::Memory;
 use redundancy_laws::Context;
 use smallvec::SmallVec;
 use std::alloc::Global;

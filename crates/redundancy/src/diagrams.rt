@@ -12,7 +12,7 @@ use crate::blocks::after;
 use crate::sifting::layer::is_some_kept;
 use field_boxes::Prefix;
 use node_store::{NodeId, Store};
-use razor_base::Memory;
+use razor_limits::Memory;
 use table_compose::Plans;
 use ternary_words::{Entry, Word};
 

@@ -1,8 +1,7 @@
 //! Tables of entries whose words are prefixes in each field, without their redundant entries.
-ghost use Rattle.std.specs.Prelude.{◌≡◌, ◌<◌, [], length, IfOk, OnOk, ◌↔◌, IsTrue};
+ghost use Rattle.std.specs.Prelude.{◌≡◌, ◌<◌, [], length, IfOk, OnOk};
 ghost use Rattle.field_boxes.specs.Alike.{AreAlike, IsTight};
-ghost use Rattle.redundancy_laws.specs.Built.{ArePrefixes};
-ghost use Rattle.ternary_words.specs.Entries.{IsPart, answer};
+ghost use Rattle.ternary_words.specs.Entries.{ArePrefixes, IsPart, answer};
 ghost use Rattle.redundancy_laws.specs.Pass.{Keeps};
 ghost use Rattle.redundancy_laws.specs.Flags.{AreRightFlags, with_flags};
 ghost use Rattle.field_boxes.specs.Orders.{IsOrder};
@@ -10,15 +9,13 @@ ghost use Rattle.node_store.specs.Store.{Grows};
 ghost use Rattle.redundancy.specs.Blocks.{IsBlocks, cover_at, rows_of};
 ghost use Rattle.redundancy.specs.Kept.{AreWholeFlags};
 ghost use Rattle.redundancy.specs.Remembered.{IsMemo};
-ghost use Rattle.ternary_words.specs.Prefixes.{IsPrefixInEach};
-ghost use Rattle.ternary_words.specs.Views.{word_of};
 
 use crate::blocks::Blocks;
 use crate::blocks::lists::Lists;
 use crate::sets::Sets;
 use crate::sifting::Memo;
 use field_boxes::Order;
-use razor_base::Memory;
+use razor_limits::Memory;
 use redundancy_laws::Context;
 use redundancy_laws::laws::{one_pass, whole_table};
 use std::alloc::Global;
@@ -112,23 +109,4 @@ pub(crate) fn flags_by(
     };
     let sifted = blocks.sift(alloc, sets, memo, block, &[context])?;
     Ok(sifted.kept)
-}
-
-/// Whether the word of each entry is a prefix in each field.
-pub fn are_prefixes(entries: &[Entry]) -> bool
-    ensures { IsTrue result ↔ ArePrefixes entries.now }
-{
-    for entry in entries {
-        if !is_prefix(entry) {
-            return false;
-        }
-    }
-    true
-}
-
-/// Whether the entry's word is.
-fn is_prefix(entry: &Entry) -> bool
-    ensures { IsTrue result ↔ IsPrefixInEach (word_of entry.now.word) }
-{
-    entry.word.spans().is_some()
 }

@@ -42,7 +42,7 @@
 //! Sets and answers are diagrams of one store. A composed list of one field stands by falling length and rising value,
 //! so it has at most one layer a length. Entries in another order are right too, only slower.
 //!
-//! | Room | Holds |
+//! | Module | Holds |
 //! |---|---|
 //! | `entry_table` | a table of entries without its redundant ones |
 //! | `diagrams`, `removal` | the same of the tables that diagrams compose, and what is kept from one to the next |
@@ -64,5 +64,6 @@ mod removal;
 mod sets;
 mod sifting;
 
-pub use entry_table::{are_prefixes, remove, remove_in};
+pub use entry_table::{remove, remove_in};
 pub use removal::Removal;
+pub use ternary_words::are_prefixes;

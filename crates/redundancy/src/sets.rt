@@ -3,7 +3,7 @@
 use field_boxes::Span;
 use field_sets::{Placed, put_parts};
 use node_store::{NodeId, Parts};
-use razor_base::Memory;
+use razor_limits::Memory;
 use std::alloc::Global;
 use std::marker::Model;
 

@@ -8,7 +8,7 @@ use crate::contexts::{Below, Contexts, Room, before_answers, behind_cover, liste
 use crate::sets::Sets;
 use crate::sifting::last_entry::last;
 use crate::sifting::layer::{Draft, finished, take_in};
-use razor_base::Memory;
+use razor_limits::Memory;
 use redundancy_laws::{Context, Sifted};
 use std::alloc::Global;
 use std::collections::HashMap;

@@ -14,9 +14,9 @@ use Rattle.redundancy_laws.specs.declared.context.Context.{Context}
 use Rattle.redundancy_laws.specs.Rows.{Row, matches, answer_or, in_front}
 use Rattle.redundancy_laws.specs.Marks.{marked, kept_of}
 use Rattle.redundancy_laws.specs.Contexts.{IsFirst, IsRight, IsRightMark, AreRightMarks, whole}
-use Rattle.ternary_words.specs.Entries.{answer, entry_matches}
+use Rattle.ternary_words.specs.Entries.{answer, entry_matches, ArePrefixes}
 use Rattle.redundancy_laws.specs.Pass.{IsNeeded, IsRedundant, Keeps}
-use Rattle.redundancy_laws.specs.Built.{field_of, row_at, span_at, ArePrefixes, HaveSpan}
+use Rattle.redundancy_laws.specs.Built.{field_of, row_at, span_at, HaveSpan}
 use Rattle.redundancy_laws.specs.Flags.{with_flags, AreRightFlags}
 use Rattle.redundancy_laws.specs.Sifted.{contexts_of, is_in, context_at}
 use Rattle.redundancy_laws.proofs.Merged.{same-contexts}

@@ -13,7 +13,7 @@
 //! - What such a pass keeps is part of the table in its order, answers every header alike, where no match and decision
 //!   0 are the same, and is irredundant; and no two passes keep different entries (`one_pass`).
 //!
-//! | Room | Holds |
+//! | Module | Holds |
 //! |---|---|
 //! | `context`, `sifted` | the context of a block, and what is kept of one |
 //! | `laws` | the laws |

@@ -1,6 +1,6 @@
 //! The states of the rules of a list.
 ghost use Rattle.std.specs.Prelude.{◌≡◌, ◌≤◌, ◌<◌, ◌+◌, ◌*◌, ℕ, true, None, IfOk, length, vec_len, slice_index_or, map, is_none, unwrap_or};
-ghost use Rattle.razor_base.specs.declared.limits.TheConstants.{MOST_RULES};
+ghost use Rattle.razor_limits.specs.declared.limits.TheConstants.{MOST_RULES};
 ghost use Rattle.field_boxes.specs.Headline.Fields.{stated, IsHeader};
 ghost use Rattle.node_store.specs.Diagram.{level_of};
 ghost use Rattle.field_boxes.specs.NamedRules.{named_rules};
@@ -17,10 +17,9 @@ use crate::list_parts::ListPart;
 use crate::overlay::Overlay;
 use crate::search::searched;
 use crate::state::RuleState;
-use field_boxes::Rule;
-use filter_reader::RuleList;
+use field_boxes::{Rule, RuleList};
 use node_store::{NodeId, Store};
-use razor_base::Memory;
+use razor_limits::Memory;
 use std::alloc::Global;
 
 /// The state of each rule, in their order.

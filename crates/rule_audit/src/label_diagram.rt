@@ -14,7 +14,7 @@ use fdd_apply::{Operation, Pair, Results, apply};
 use fdd_build::build;
 use field_boxes::Rule;
 use node_store::{NodeId, Store, stated_order};
-use razor_base::Memory;
+use razor_limits::Memory;
 use std::alloc::Global;
 use std::slice::from_ref;
 

@@ -31,7 +31,7 @@
 //! decided, so a part of the list without open rules is shown by the diagram that stands. Then one walk in rising order
 //! goes through each node once, at the least header that leads to it, and meets each label at its least header.
 //!
-//! | Room | Holds |
+//! | Module | Holds |
 //! |---|---|
 //! | `auditing`, `state` | the call, and the state of a rule |
 //! | `list_parts`, `overlay` | the diagrams of the parts of a list, and one diagram laid over another |

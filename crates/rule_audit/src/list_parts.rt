@@ -11,7 +11,7 @@ use crate::overlay::Overlay;
 use fdd_build::build;
 use field_boxes::Rule;
 use node_store::{NodeId, Store, stated_order};
-use razor_base::Memory;
+use razor_limits::Memory;
 use std::alloc::Global;
 
 /// A part of a list: its diagram by decisions, and its halves where it has more than one rule.

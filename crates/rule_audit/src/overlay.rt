@@ -8,7 +8,7 @@ ghost use Rattle.fdd_build.specs.Nothing.{AreZeros, IsZero};
 use fdd_apply::{Operation, Pair, Results, apply};
 use fdd_build::build;
 use node_store::{NodeId, Store, stated_order};
-use razor_base::Memory;
+use razor_limits::Memory;
 use smallvec::SmallVec;
 use std::alloc::Global;
 

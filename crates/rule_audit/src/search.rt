@@ -22,7 +22,7 @@ use crate::search::marks::mark_all;
 use crate::state::RuleState;
 use field_boxes::Rule;
 use node_store::Store;
-use razor_base::Memory;
+use razor_limits::Memory;
 use smallvec::SmallVec;
 use std::alloc::Global;
 

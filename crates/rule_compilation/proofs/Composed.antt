@@ -18,8 +18,7 @@ use Rattle.table_compose.specs.Diagrams.{DecideAs, IsCostOf, NamesApart}
 use Rattle.table_compose.specs.Composed.{IsAnswer, IsRefusal}
 use Rattle.table_compose.specs.declared.composition.ComposeError.{ComposeError}
 use Rattle.table_compose.specs.declared.composition.ComposeError.TheVariants.{TooMany, Memory}
-use Rattle.redundancy_laws.specs.Built.{ArePrefixes}
-use Rattle.ternary_words.specs.Entries.{answer as number_answer}
+use Rattle.ternary_words.specs.Entries.{ArePrefixes, answer as number_answer}
 use Rattle.field_boxes.specs.Orders.{IsOrder, picked}
 use Rattle.node_store.proofs.Orders.{order_level, picked_values}
 use Rattle.rule_compilation.specs.Compiled.{IsRefusedIn}

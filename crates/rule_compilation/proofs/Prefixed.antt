@@ -6,7 +6,7 @@ use Rattle.ternary_words.specs.declared.entry.Entry.{Entry}
 use Rattle.ternary_words.specs.Prefixes.{IsPrefixInEach}
 use Rattle.ternary_words.specs.Headline.Table as by_name
 use Rattle.ternary_words.specs.Views.{entry_of, word_of}
-use Rattle.redundancy_laws.specs.Built.{ArePrefixes}
+use Rattle.ternary_words.specs.Entries.{ArePrefixes}
 
 -- with the names of their decisions
 pub named_prefixes : (names : List (List ℕ)) (entries : List Entry) → ArePrefixes entries → All (λ (e : by_name.Entry). IsPrefixInEach e.word) (map (entry_of names) entries)

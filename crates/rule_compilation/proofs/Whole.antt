@@ -15,7 +15,7 @@ use Rattle.table_compose.specs.Diagrams.{IsCostOf}
 use Rattle.table_compose.specs.Headline.LeastCost.{IsLeastCost}
 use Rattle.table_compose.specs.Composed.{AreComposed, IsAnswer, IsPrefixWord, IsRefusal, decided}
 use Rattle.table_compose.specs.declared.composition.ComposeError.{ComposeError}
-use Rattle.redundancy_laws.specs.Built.{ArePrefixes}
+use Rattle.ternary_words.specs.Entries.{ArePrefixes}
 use Rattle.field_boxes.specs.Orders.{picked}
 use Rattle.rule_compilation.specs.Compiled.{IsRefusedIn}
 use Rattle.rule_compilation.specs.Entries.{AreEntriesOf}

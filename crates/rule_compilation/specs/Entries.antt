@@ -10,8 +10,7 @@ use Rattle.ternary_words.specs.Headline.Table.{answer}
 use Rattle.ternary_words.specs.Views.{entry_of}
 use Rattle.table_compose.specs.Composed.{decided}
 use Rattle.table_compose.specs.Headline.LeastCost.{IsLeastCost}
-use Rattle.redundancy_laws.specs.Built.{ArePrefixes}
-use Rattle.ternary_words.specs.Entries.{answer as number_answer}
+use Rattle.ternary_words.specs.Entries.{ArePrefixes, answer as number_answer}
 use Rattle.redundancy_laws.specs.Pass.{Keeps}
 use Rattle.rule_compilation.specs.Pass.{AreComposedOf}
 

@@ -5,7 +5,7 @@ ghost use Rattle.rule_compilation.specs.Kept.{IsTrue};
 
 use crate::kept::Kept;
 use field_boxes::{Decisions, Order, Rule};
-use razor_base::Memory;
+use razor_limits::Memory;
 use std::alloc::Global;
 use std::marker::Model;
 use table_compose::ComposeError;

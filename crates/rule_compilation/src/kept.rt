@@ -3,7 +3,7 @@
 use fdd_build::Builder;
 use field_boxes::{Decisions, Rule};
 use node_store::Store;
-use razor_base::Memory;
+use razor_limits::Memory;
 use redundancy::Removal;
 use redundancy::laws::removal_lasts;
 use std::alloc::Global;

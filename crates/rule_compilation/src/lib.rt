@@ -30,7 +30,7 @@
 //!
 //! `specs/Compiled.antt` says what the table is; it stands on rules, headers and plans, and on no diagram.
 //!
-//! | Room | Holds |
+//! | Module | Holds |
 //! |---|---|
 //! | `compiling` | the table of one list |
 //! | `compiler`, `kept` | the tables of one list after another, and what is kept between them |

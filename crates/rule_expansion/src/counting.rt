@@ -1,6 +1,6 @@
 //! How many entries rules come to.
 ghost use Rattle.std.specs.Prelude.{◌≡◌, ◌≤◌, ◌^◌, length, map};
-ghost use Rattle.razor_base.specs.declared.limits.TheConstants.{MOST_RULES};
+ghost use Rattle.razor_limits.specs.declared.limits.TheConstants.{MOST_RULES};
 ghost use Rattle.field_boxes.specs.Rules.{rule_of};
 ghost use Rattle.field_boxes.specs.Headline.Fields.{stated};
 ghost use Rattle.rule_expansion.specs.Expansion.{covers, expanded_count, product_of_lengths};

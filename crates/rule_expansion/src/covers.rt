@@ -7,7 +7,7 @@ ghost use Rattle.rule_expansion.specs.Expansion.{covers};
 
 use crate::sets::cover_set;
 use field_boxes::{Prefix, Rule};
-use razor_base::Memory;
+use razor_limits::Memory;
 
 /// Makes the five lists the shortest covers of the rule's five sets, in place of what they hold.
 pub(crate) fn cover_rule(rule: &Rule, lists: &mut [Vec<Prefix>; 5]) -> Result<(), Memory>

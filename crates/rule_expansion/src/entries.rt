@@ -8,7 +8,7 @@ ghost use Rattle.rule_expansion.specs.Entries.{FitCovers, decided_of, with_words
 
 use crate::covers::cover_rule;
 use field_boxes::{Prefix, Rule};
-use razor_base::Memory;
+use razor_limits::Memory;
 use std::alloc::Global;
 use ternary_words::{Entry, Word};
 

@@ -1,6 +1,6 @@
 //! The table of an expansion, within a limit.
 ghost use Rattle.std.specs.Prelude.{◌≡◌, ◌≤◌, All, IfOk, MatchResult, length};
-ghost use Rattle.razor_base.specs.declared.limits.TheConstants.{MOST_RULES};
+ghost use Rattle.razor_limits.specs.declared.limits.TheConstants.{MOST_RULES};
 ghost use Rattle.field_boxes.specs.NamedRules.{IsNumberedBy, named_rules};
 ghost use Rattle.ternary_words.specs.Views.{table_of};
 ghost use Rattle.rule_expansion.specs.Expansion.{expanded_count};
@@ -11,7 +11,7 @@ use crate::counting::entry_count;
 use crate::entries::expanded_entries;
 use crate::laws::{decided_words_are_entries, expansion_answers};
 use field_boxes::{Decisions, Rule};
-use razor_base::Memory;
+use razor_limits::Memory;
 use std::alloc::{AllocError, Global};
 use ternary_words::{Limit, SlotWidth, Table};
 use thiserror::Error;

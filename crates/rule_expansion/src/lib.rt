@@ -18,7 +18,7 @@
 //!
 //! Left free: shortness. An expansion minimises nothing but the covers of single fields.
 //!
-//! | Room | Holds |
+//! | Module | Holds |
 //! |---|---|
 //! | `expanding`, `entries`, `counting` | the table, its entries, and how many they are |
 //! | `covers`, `sets` | the covers of a rule's five sets |

@@ -8,7 +8,7 @@ ghost use Rattle.range_prefix.specs.Shortest.{shortest_cover};
 
 use field_boxes::{Prefix, Rule, width};
 use range_prefix::{count_all, cover_all_into};
-use razor_base::Memory;
+use razor_limits::Memory;
 
 /// Makes the list the shortest cover of the rule's set of the field, in place of what it holds.
 pub(crate) fn cover_set(rule: &Rule, field: usize, list: &mut Vec<Prefix>) -> Result<(), Memory>

@@ -8,11 +8,10 @@ use Rattle.field_boxes.specs.Alike.{AreAlike}
 use Rattle.field_boxes.specs.Headline.Classifier.{Rule}
 use Rattle.field_boxes.specs.Rules.{rule_of}
 use Rattle.ternary_words.specs.declared.entry.Entry.{Entry}
-use Rattle.ternary_words.specs.Entries.{IsPart, answer, entry_matches}
+use Rattle.ternary_words.specs.Entries.{IsPart, answer, entry_matches, ArePrefixes}
 use Rattle.ternary_words.specs.Limits.{AreNumbered}
 use Rattle.ternary_words.specs.Prefixes.{IsPrefixInEach}
 use Rattle.ternary_words.specs.Views.{word_of}
-use Rattle.redundancy_laws.specs.Built.{ArePrefixes}
 use Rattle.rule_expansion.specs.Entries.{AreEntriesOf, decided_of}
 use Rattle.rule_expansion.specs.Expansion.{decided_words, rule_words}
 use Rattle.rule_shortening.specs.Drafts.{AreAsShort, AreFor, AreShortFor, IsDraftOf}

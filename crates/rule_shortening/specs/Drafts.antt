@@ -4,9 +4,8 @@ use Rattle.field_boxes.specs.declared.rule.Rule as code
 use Rattle.field_boxes.specs.Alike.{AreAlike, IsTight}
 use Rattle.field_boxes.specs.Rules.{rule_of}
 use Rattle.ternary_words.specs.declared.entry.Entry.{Entry}
-use Rattle.ternary_words.specs.Entries.{answer}
+use Rattle.ternary_words.specs.Entries.{answer, ArePrefixes}
 use Rattle.ternary_words.specs.Limits.{AreNumbered}
-use Rattle.redundancy_laws.specs.Built.{ArePrefixes}
 use Rattle.rule_expansion.specs.Entries.{decided_of}
 use Rattle.rule_expansion.specs.Expansion.{decided_words}
 use Rattle.rule_shortening.specs.declared.draft.Draft.{Draft}

@@ -3,11 +3,10 @@ ghost use Rattle.std.specs.Prelude.{IfOk, IfSome};
 ghost use Rattle.std.specs.Bool.{OnTrue};
 ghost use Rattle.rule_shortening.specs.Drafts.{AreAsShort};
 
-use razor_base::Memory;
-use redundancy::are_prefixes;
+use razor_limits::Memory;
 use std::alloc::Global;
 use table_steps::{answers_alike, are_numbered};
-use ternary_words::Entry;
+use ternary_words::{Entry, are_prefixes};
 
 /// Steps that one question about words that cover a word may take. Nearly all take fewer than a hundred.
 pub(crate) const STEPS: u32 = 20_000;

@@ -2,14 +2,14 @@
 ghost use Rattle.std.specs.Prelude.{◌++◌, ◌≤◌, All, List, IfOk, IfSome, length, vec_len};
 ghost use Rattle.field_boxes.specs.declared.rule.Rule as code_rule;
 ghost use Rattle.field_boxes.specs.NamedRules.{IsNumberedBy};
-ghost use Rattle.razor_base.specs.declared.limits.TheConstants.{MOST_RULES};
+ghost use Rattle.razor_limits.specs.declared.limits.TheConstants.{MOST_RULES};
 ghost use Rattle.rule_shortening.specs.Drafts.{AreAsShort, AreFor};
 
 use crate::checked::checked;
 use crate::laying::Laying;
 use field_boxes::{Decisions, Rule};
-use razor_base::Memory;
-use razor_base::limits::MOST_ENTRIES;
+use razor_limits::Memory;
+use razor_limits::limits::MOST_ENTRIES;
 use rule_expansion::laws::{decided_words_are_entries, decided_words_are_prefixes};
 use rule_expansion::{entry_count, expanded_entries};
 use std::alloc::Global;
@@ -78,7 +78,7 @@ fn begun_shorter(
 impl Draft {
     ghost use Rattle.std.specs.Prelude.{◌≡◌, [], ◌≤◌, ◌<◌, All, IfOk, IfSome, length};
     ghost use Rattle.field_boxes.specs.NamedRules.{IsNumberedBy};
-    ghost use Rattle.razor_base.specs.declared.limits.TheConstants.{MOST_RULES};
+    ghost use Rattle.razor_limits.specs.declared.limits.TheConstants.{MOST_RULES};
     ghost use Rattle.rule_shortening.specs.Drafts.{AreFor, IsDraftOf};
 
     /// Stands for no rule, where there are so many.

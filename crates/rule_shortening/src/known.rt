@@ -3,7 +3,7 @@
 use crate::differences::Differences;
 use crate::taken::Taken;
 use field_boxes::Rule;
-use razor_base::Memory;
+use razor_limits::Memory;
 use rule_expansion::expanded_entries;
 use std::alloc::Global;
 use table_search::{Room, in_old_order, repaired};

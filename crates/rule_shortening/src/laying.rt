@@ -1,7 +1,7 @@
 //! Rules laid out in few entries.
 
 use field_boxes::Rule;
-use razor_base::Memory;
+use razor_limits::Memory;
 use rule_expansion::{entry_count, expanded_entries};
 use std::alloc::Global;
 use table_search::{Layout, WIDE};

@@ -27,7 +27,7 @@
 //! the limit mostly gets its table all the same; that is measured, and not proved. So is how much of its table a
 //! [`Shortener`] keeps where a list was edited: mostly all but one or two entries.
 //!
-//! | Room | Holds |
+//! | Module | Holds |
 //! |---|---|
 //! | `shortening`, `ordered`, `task`, `refusal` | the calls, and why rules have no short table |
 //! | `draft`, `laying` | entries for the last rules of a list, and rules laid out in few |

@@ -2,7 +2,7 @@
 ghost use Rattle.std.specs.Prelude.{◌≡◌, ◌≤◌, ◌<◌, ℕ, List, All, IfOk, MatchResult, length};
 ghost use Rattle.field_boxes.specs.Headline.Classifier as classifiers;
 ghost use Rattle.field_boxes.specs.NamedRules.{IsNumberedBy, named_rules};
-ghost use Rattle.razor_base.specs.declared.limits.TheConstants.{MOST_RULES};
+ghost use Rattle.razor_limits.specs.declared.limits.TheConstants.{MOST_RULES};
 ghost use Rattle.ternary_words.specs.Views.{table_of};
 ghost use Rattle.rule_compilation.specs.Compiled.{IsCompiledIn};
 ghost use Rattle.rule_shortening.specs.Shortened.{IsRefused, IsRefusedIn, IsShortTable, IsShortTableIn};

@@ -1,5 +1,5 @@
 //! Why rules have no short table.
-use razor_base::Memory;
+use razor_limits::Memory;
 use thiserror::Error;
 
 /// Why rules have no short table.

@@ -3,7 +3,7 @@ ghost use Rattle.std.specs.Prelude.{IfOk};
 ghost use Rattle.rule_shortening.specs.Drafts.{AreAsShort};
 
 use crate::checked::are_as_short;
-use razor_base::Memory;
+use razor_limits::Memory;
 use std::alloc::Global;
 use table_search::Shortening;
 use ternary_words::Entry;

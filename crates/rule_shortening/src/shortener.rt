@@ -1,7 +1,7 @@
 //! A shortener of lists one after another.
 ghost use Rattle.std.specs.Prelude.{◌≡◌, ◌≤◌, All, IfOk, IfSome, MatchResult, length};
 ghost use Rattle.field_boxes.specs.NamedRules.{IsNumberedBy, named_rules};
-ghost use Rattle.razor_base.specs.declared.limits.TheConstants.{MOST_RULES};
+ghost use Rattle.razor_limits.specs.declared.limits.TheConstants.{MOST_RULES};
 ghost use Rattle.ternary_words.specs.Views.{table_of};
 ghost use Rattle.rule_shortening.specs.Drafts.{AreFor};
 ghost use Rattle.rule_shortening.specs.Shortened.{IsRefused, IsShortTable};
@@ -16,7 +16,7 @@ use crate::taken::Taken;
 use crate::task::Task;
 use crate::trimming::trim_for;
 use field_boxes::{Decisions, Rule};
-use razor_base::Memory;
+use razor_limits::Memory;
 use std::alloc::Global;
 use ternary_words::{Entry, Limit, SlotWidth, Table};
 

@@ -2,7 +2,7 @@
 ghost use Rattle.std.specs.Prelude.{◌≡◌, ◌≤◌, ◌<◌, All, IfOk, MatchOption, MatchResult, length, map};
 ghost use Rattle.field_boxes.specs.NamedRules.{IsNumberedBy, named_rules};
 ghost use Rattle.field_boxes.specs.Rules.{rule_of};
-ghost use Rattle.razor_base.specs.declared.limits.TheConstants.{MOST_ENTRIES, MOST_RULES};
+ghost use Rattle.razor_limits.specs.declared.limits.TheConstants.{MOST_ENTRIES, MOST_RULES};
 ghost use Rattle.ternary_words.specs.Views.{table_of};
 ghost use Rattle.rule_expansion.specs.Expansion.{expanded_count};
 ghost use Rattle.rule_shortening.specs.Drafts.{AreFor, AreShortFor};
@@ -14,7 +14,7 @@ use crate::refusal::ShortenError;
 use crate::searching::searched;
 use crate::trimming::trim_for;
 use field_boxes::{Decisions, Rule};
-use razor_base::Memory;
+use razor_limits::Memory;
 use rule_expansion::entry_count;
 use rule_expansion::laws::{decided_words_are_entries, expansion_answers, names_count_alike};
 use std::alloc::Global;

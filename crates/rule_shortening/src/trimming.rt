@@ -1,12 +1,12 @@
 //! Tables without their redundant entries, by covers.
 ghost use Rattle.std.specs.Prelude.{IfOk, IfSome, length};
-ghost use Rattle.redundancy_laws.specs.Built.{ArePrefixes};
+ghost use Rattle.ternary_words.specs.Entries.{ArePrefixes};
 ghost use Rattle.rule_shortening.specs.Drafts.{AreFor, AreShortFor};
 ghost use Rattle.rule_shortening.specs.Trimmed.{AreTrimmed};
 
 use crate::checked::STEPS;
 use field_boxes::{Decisions, Rule};
-use razor_base::Memory;
+use razor_limits::Memory;
 use redundancy::remove;
 use std::alloc::Global;
 use table_steps::laws::parts;

@@ -7,7 +7,7 @@ use Rattle.ternary_words.specs.Views.{word_of}
 use Rattle.ternary_words.specs.Word.{trits, mask_bit, value_bit}
 use Rattle.ternary_words.specs.declared.entry.Entry.{Entry}
 use Rattle.ternary_words.specs.declared.word.Word.{Word}
-use Rattle.ternary_words.proofs.Columns.{mask-bits, value-bits}
+use Rattle.ternary_words.proofs.TritBits.{mask-bits, value-bits}
 use Rattle.ternary_words.proofs.Parted.{same_bits}
 use Rattle.slot_patch.specs.Least.{TellsWords, same_word}
 

@@ -1,13 +1,13 @@
 -- Where words stand in a table.
 use Rattle.std.specs.Prelude.{◌≡◌, ℕ, suc, ◌≤◌, ◌<◌, Bool, ◌&&◌, nat_eq, List, length, Option, Some, None, slice_get, slice_index_or}
 use Rattle.std.specs.HashMap.{get}
+use Rattle.ternary_words.specs.declared.word.Word.{Word}
 use Rattle.ternary_words.specs.declared.entry.Entry.{Entry}
-use Rattle.slot_patch.specs.declared.key.Key.{Key}
 use Rattle.slot_patch.specs.declared.word_places.WordPlaces.{WordPlaces}
 
--- the keys are of one word
-abbrev pub same_key : Key → Key → Bool
-same_key p q = nat_eq p.mask q.mask && nat_eq p.value q.value
+-- the words are one
+abbrev pub same_word : Word → Word → Bool
+same_word p q = nat_eq p.value q.value && nat_eq p.mask q.mask
 
 -- the entry's word has this mask and this value
 abbrev pub HasWord : ℕ → ℕ → Entry → Type 0
@@ -33,5 +33,5 @@ IsNext entries from mask value (Some place) = IsFirstFrom entries from mask valu
 -- of the places from this one on, each word has its first one, and each place the next one of its word
 pub record ArePlaces (entries : List Entry) (from : ℕ) (places : WordPlaces) : Type 0 where
   pub count : length places.next.items ≡ length entries
-  pub heads : (key : Key) → IsNext entries from key.mask key.value (get same_key places.first key)
+  pub heads : (word : Word) → IsNext entries from word.mask word.value (get same_word places.first word)
   pub links : (k : ℕ) (e : Entry) → from ≤ k → slice_get entries k ≡ Some e → IsNext entries (suc k) e.word.mask e.word.value (slice_index_or places.next.items k None)

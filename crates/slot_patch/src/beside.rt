@@ -8,7 +8,7 @@ ghost use Rattle.slot_patch.specs.Plans.{IsPatch};
 use crate::draft::in_place;
 use crate::plan::Plan;
 use crate::standing::Standing;
-use razor_base::Memory;
+use razor_limits::Memory;
 use std::alloc::Global;
 use ternary_words::Entry;
 

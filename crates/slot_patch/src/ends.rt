@@ -5,7 +5,7 @@ ghost use Rattle.slot_patch.specs.Sharing.{AreShared, moved_on, run};
 ghost use Rattle.slot_patch.specs.declared.pair.Pair.{Pair as SeenPair};
 
 use crate::pair::Pair;
-use razor_base::Memory;
+use razor_limits::Memory;
 use ternary_words::Entry;
 
 /// How many entries the tables have in common at their front.

@@ -1,6 +1,6 @@
 //! How the entries between two pairs wish to be ordered: the new ones go where slots are free.
 use crate::pair::Pair;
-use razor_base::Memory;
+use razor_limits::Memory;
 use std::alloc::Global;
 
 /// Where the entries behind a pair begin, and the first slot behind it.

@@ -8,7 +8,7 @@ ghost use Rattle.bank_update.specs.declared.write.Write.{Write as SeenWrite};
 
 use crate::plan::Plan;
 use bank_update::Write;
-use razor_base::Memory;
+use razor_limits::Memory;
 use std::alloc::Global;
 
 /// The plan, where of two successive writes to one slot the first is left out.

@@ -7,7 +7,7 @@ ghost use Rattle.slot_patch.specs.Sharing.{AreShared, HaveOneWordAt};
 use crate::layout::Layout;
 use crate::pair::Pair;
 use crate::wishes::wished;
-use razor_base::Memory;
+use razor_limits::Memory;
 use std::alloc::Global;
 use ternary_words::Entry;
 

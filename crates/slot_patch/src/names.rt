@@ -5,7 +5,7 @@ ghost use Rattle.slot_patch.specs.Naming.{renumbered};
 
 use field_boxes::Decisions;
 use indexmap::IndexSet;
-use razor_base::Memory;
+use razor_limits::Memory;
 use std::alloc::Global;
 use std::marker::Model;
 use ternary_words::{Entry, Table};

@@ -5,7 +5,7 @@ ghost use Rattle.slot_patch.specs.Piles.{Follows, laid};
 ghost use Rattle.slot_patch.specs.declared.pair.Pair.{Pair as SeenPair};
 
 use crate::pair::{Link, Pair};
-use razor_base::Memory;
+use razor_limits::Memory;
 use std::alloc::Global;
 
 /// Piles of pairs. For each pile: behind how many new entries the pair on its top stands least, and the link of that

@@ -18,7 +18,7 @@ use crate::sharing::shared;
 use crate::spreading::{Spread, spread_out};
 use crate::standing::{Standing, standing_in};
 use crate::staying::slot_wishes;
-use razor_base::Memory;
+use razor_limits::Memory;
 use std::alloc::Global;
 use ternary_words::Entry;
 

@@ -10,7 +10,7 @@ use crate::ends::{common_end, common_front, push_moved, push_run};
 use crate::pair::Pair;
 use crate::piles::Piles;
 use crate::word_places::WordPlaces;
-use razor_base::Memory;
+use razor_limits::Memory;
 use std::alloc::Global;
 use ternary_words::Entry;
 

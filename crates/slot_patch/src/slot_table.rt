@@ -7,7 +7,7 @@ use crate::planning::plan_update;
 use crate::refusal::PatchRefusal;
 use crate::standing::{Standing, empty_slots, standing_in};
 use bank_update::{StandingTable, Write};
-use razor_base::Memory;
+use razor_limits::Memory;
 use std::alloc::Global;
 use std::marker::Model;
 use ternary_words::{Entry, Table};

@@ -8,7 +8,7 @@ ghost use Rattle.ternary_words.specs.declared.entry.Entry.{Entry as SeenEntry};
 use crate::layout::{Layout, entry_at};
 use crate::standing::push_slot;
 use crate::wishes::wished;
-use razor_base::Memory;
+use razor_limits::Memory;
 use std::alloc::Global;
 use ternary_words::Entry;
 

@@ -1,7 +1,7 @@
 //! Which slots the entries of a layout wish for: as many old entries as can stay where they are, and the others come evenly
 //! between them.
 use crate::layout::Layout;
-use razor_base::Memory;
+use razor_limits::Memory;
 use std::alloc::Global;
 
 /// An old entry that may stay in its slot.

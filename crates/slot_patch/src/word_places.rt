@@ -1,6 +1,5 @@
 //! Where each word stands in a table.
-use crate::key::Key;
-use razor_base::Memory;
+use razor_limits::Memory;
 use std::alloc::Global;
 use std::collections::HashMap;
 use ternary_words::{Entry, Word};
@@ -8,7 +7,7 @@ use ternary_words::{Entry, Word};
 /// The first place of each word in a table, and for each place the next one that has the same word.
 #[derive(Drop)]
 pub(crate) struct WordPlaces {
-    first: HashMap<Key, usize>,
+    first: HashMap<Word, usize>,
     next: Vec<Option<usize>>,
 }
 
@@ -45,7 +44,7 @@ impl WordPlaces {
         ensures { (entries : List SeenEntry) (entry : SeenEntry) → slice_get entries place ≡ Some entry → entry.word ≡ word.now →
             ArePlaces entries (suc place) self.old → OnOk result (ArePlaces entries place self.new) }
     {
-        let behind = self.first.insert(Key::of(word), place)?;
+        let behind = self.first.insert(*word, place)?;
         self.next[place] = behind;
         Ok(())
     }
@@ -54,7 +53,7 @@ impl WordPlaces {
     pub(crate) fn first(&self, word: &Word) -> Option<usize>
         ensures { (entries : List SeenEntry) → ArePlaces entries 0 self.now → IsNext entries 0 word.now.mask word.now.value result }
     {
-        self.first.get(&Key::of(word)).copied()
+        self.first.get(word).copied()
     }
 
     /// The next place behind this one that has the same word.

@@ -14,7 +14,7 @@ use crate::diagram_plans::Plans;
 use crate::entries::add_table;
 use field_boxes::Prefix;
 use node_store::{NodeId, Store};
-use razor_base::Memory;
+use razor_limits::Memory;
 use std::alloc::Global;
 use ternary_words::Entry;
 use thiserror::Error;

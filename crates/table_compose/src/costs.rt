@@ -11,7 +11,7 @@ use crate::room::{more_marks, more_numbers};
 use bumpalo::Bump;
 use node_store::{NodeId, Store};
 use prefix_min::Costing;
-use razor_base::Memory;
+use razor_limits::Memory;
 use std::alloc::Global;
 
 /// What nodes of one store cost, each worked out once, however many roots lead to it.

@@ -16,7 +16,7 @@ use crate::row::Row;
 use bumpalo::Bump;
 use node_store::{NodeId, Store};
 use prefix_min::Costing;
-use razor_base::Memory;
+use razor_limits::Memory;
 use std::alloc::Global;
 
 /// What nodes of one store cost, and their prefix lists, by their numbers; each is worked out once.

@@ -10,7 +10,7 @@ ghost use Rattle.table_compose.specs.Composed.{HaveLists, Gains, boxes};
 use crate::diagram_plans::Plans;
 use field_boxes::Prefix;
 use node_store::{NodeId, Store};
-use razor_base::Memory;
+use razor_limits::Memory;
 use ternary_words::{Entry, Word};
 
 /// Adds the table of a node: for each row of its list, in turn, the table of the row's node, with the row's

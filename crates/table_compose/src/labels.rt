@@ -10,7 +10,7 @@ use crate::placed::Placed;
 use field_boxes::width;
 use node_store::{Edge, NodeId, Store};
 use prefix_min::Piece;
-use razor_base::Memory;
+use razor_limits::Memory;
 use std::alloc::Global;
 
 /// The children of a node, each once, its edges as pieces whose labels are places of children, and what the

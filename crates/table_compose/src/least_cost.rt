@@ -6,7 +6,7 @@ ghost use Rattle.table_compose.specs.Diagrams.{IsCostOf};
 
 use crate::costs::Costs;
 use node_store::{NodeId, Store};
-use razor_base::Memory;
+use razor_limits::Memory;
 use std::alloc::Global;
 
 /// The field-by-field least cost of every rule list that decides as the diagram answers.

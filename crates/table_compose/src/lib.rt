@@ -33,7 +33,7 @@
 //! Not claimed: that no table is shorter. The least cost is the least of the tables that are composed field by field,
 //! in one order of the fields. `specs/Headline/LeastCost.antt` says what it is of a rule list; it knows no diagram.
 //!
-//! | Room | Holds |
+//! | Module | Holds |
 //! |---|---|
 //! | `least_cost`, `costs` | what a diagram costs, and what many do |
 //! | `composition`, `entries`, `row` | the composed table: its entries, and the rows of a node's list |

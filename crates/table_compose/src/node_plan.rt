@@ -8,7 +8,7 @@ use crate::labels::Labelling;
 use crate::row::Row;
 use node_store::{NodeId, Store};
 use prefix_min::{Costing, PrefixRow};
-use razor_base::Memory;
+use razor_limits::Memory;
 use std::alloc::Global;
 
 /// What a node costs, and its prefix list; a leaf costs one entry and has none.

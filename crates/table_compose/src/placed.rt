@@ -4,7 +4,7 @@ ghost use Rattle.std.specs.Bool.{OnTrue, OnFalse};
 ghost use Rattle.table_compose.specs.Labels.{with_child, ArePlaced};
 
 use node_store::NodeId;
-use razor_base::Memory;
+use razor_limits::Memory;
 use std::alloc::Global;
 
 /// Nodes in the order in which they came, each once; a node's place is found by its number.

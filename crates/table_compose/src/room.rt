@@ -3,7 +3,7 @@ ghost use Rattle.std.specs.Prelude.{◌≡◌, ◌≤◌, ◌++◌, List, OnOk, 
 ghost use Rattle.table_compose.specs.Room.{IsPadded, IsLonger};
 
 use crate::row::Row;
-use razor_base::Memory;
+use razor_limits::Memory;
 use std::alloc::Global;
 
 /// Adds marks that aren't set, up to so many.

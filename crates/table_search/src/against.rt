@@ -1,7 +1,7 @@
 //! Headers that tell how many exceptions a wider cube needs at least.
 
 use entry_index::{Cube, Row, View};
-use razor_base::Memory;
+use razor_limits::Memory;
 use std::alloc::Global;
 
 /// Rows that are asked about for one cube; more where few exceptions are allowed.

@@ -3,7 +3,7 @@
 
 use crate::search::Search;
 use entry_index::{Cube, Row, Table, field, raised};
-use razor_base::Memory;
+use razor_limits::Memory;
 
 /// The fields in which a wider cube loses bits.
 #[derive(Clone, Copy, PartialEq, Eq, PartialOrd, Ord)]

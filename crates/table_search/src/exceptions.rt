@@ -5,7 +5,7 @@
 //! front of another.
 
 use entry_index::{Cube, Row, View, covered, sharp};
-use razor_base::Memory;
+use razor_limits::Memory;
 use std::alloc::Global;
 
 /// A cube that is to stand at the place of a view, in place of the entry and of a group of rows.

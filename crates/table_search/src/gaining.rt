@@ -3,7 +3,7 @@
 use crate::judging::Gain;
 use crate::search::Search;
 use entry_index::{Cube, Row, Table, free_for};
-use razor_base::Memory;
+use razor_limits::Memory;
 
 impl Search {
     /// Gives the entry the cube and puts the exceptions in front of it, where enough others become redundant;

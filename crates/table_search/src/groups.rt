@@ -1,7 +1,7 @@
 //! The rows that a wider cube stands for.
 
 use entry_index::{Cube, Row, View, free_for, passes};
-use razor_base::Memory;
+use razor_limits::Memory;
 use std::alloc::Global;
 
 /// A row that isn't fixed and lies inside the cubes that are looked at.

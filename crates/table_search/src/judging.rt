@@ -5,7 +5,7 @@ use crate::effort::GROUP;
 use crate::exceptions::{Wish, exceptions};
 use crate::groups::{Aim, Group, Inner, Tally, find_inner, group_of, tally_of};
 use entry_index::{Cube, Row, View, free_for};
-use razor_base::Memory;
+use razor_limits::Memory;
 use std::alloc::Global;
 
 /// A wider cube for an entry, the exceptions that then stand in front of it, and how many rows are saved.

@@ -3,7 +3,7 @@
 use crate::candidates::WIDEST;
 use crate::search::Search;
 use entry_index::{Cube, Failed, Row, Table};
-use razor_base::Memory;
+use razor_limits::Memory;
 
 impl Search {
     /// Whether nothing changed since the entry last failed that may matter to it.

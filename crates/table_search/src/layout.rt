@@ -8,7 +8,7 @@ use crate::rows::entries_of;
 use crate::shapes::Shape;
 use crate::strips::{Cost, Strip, put_cut};
 use entry_index::{Cube, Row};
-use razor_base::Memory;
+use razor_limits::Memory;
 use std::alloc::Global;
 use ternary_words::Entry;
 

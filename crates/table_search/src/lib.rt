@@ -24,7 +24,7 @@
 //! that it answers as the entries before did. No clause says how short the tables are, which is measured, or that the
 //! same entries give the same table each time, though nothing but the entries goes in.
 //!
-//! | Room | Holds |
+//! | Module | Holds |
 //! |---|---|
 //! | `layout`, `strips`, `shapes`, `sides` | tables to begin with, rule by rule |
 //! | `rounds`, `search` | the search over a table |

@@ -2,7 +2,7 @@
 
 use crate::search::Search;
 use entry_index::{Cube, Row, Table, covered_by};
-use razor_base::Memory;
+use razor_limits::Memory;
 use std::alloc::Global;
 
 impl Search {

@@ -6,7 +6,7 @@ use crate::room::Room;
 use crate::rows::push_rows;
 use crate::search::Search;
 use entry_index::{Cube, Row, Table};
-use razor_base::Memory;
+use razor_limits::Memory;
 use std::alloc::Global;
 use ternary_words::Entry;
 

@@ -4,7 +4,7 @@ use crate::places::{old_places, rising};
 use crate::placing::{Placed, entries_placed, sink, spread};
 use crate::room::Room;
 use crate::rows::row_of;
-use razor_base::Memory;
+use razor_limits::Memory;
 use std::alloc::Global;
 use ternary_words::Entry;
 

@@ -1,6 +1,6 @@
 //! Where the words of a table stood in an old one, and which of them stand in the old order.
 
-use razor_base::Memory;
+use razor_limits::Memory;
 use std::alloc::Global;
 use ternary_words::Entry;
 

@@ -4,7 +4,7 @@ use crate::room::Room;
 use crate::rows::entry_of;
 use crate::spots::Spot;
 use entry_index::Row;
-use razor_base::Memory;
+use razor_limits::Memory;
 use std::alloc::Global;
 use ternary_words::Entry;
 

@@ -5,7 +5,7 @@ use crate::room::Room;
 use crate::rows::push_rows;
 use crate::saying::said;
 use entry_index::Cube;
-use razor_base::Memory;
+use razor_limits::Memory;
 use std::alloc::Global;
 use ternary_words::{Entry, Word};
 

@@ -1,6 +1,6 @@
 //! The free slots of a memory, among the entries of a table.
 
-use razor_base::Memory;
+use razor_limits::Memory;
 use std::alloc::Global;
 
 /// Gaps on either side of one that count as around it.

@@ -5,7 +5,7 @@ use crate::effort::{EARLY_REACH, FIRST_LAST, FIRST_REACH, LEAST_SAVED, NEIGHBOUR
 use crate::rows::{entries_of, push_rows};
 use crate::search::Search;
 use entry_index::Table;
-use razor_base::Memory;
+use razor_limits::Memory;
 use std::alloc::Global;
 use ternary_words::Entry;
 

@@ -1,7 +1,7 @@
 //! Rows of entries, and entries of rows.
 
 use entry_index::{Cube, Row};
-use razor_base::Memory;
+use razor_limits::Memory;
 use std::alloc::Global;
 use ternary_words::Entry;
 

@@ -2,7 +2,7 @@
 
 use crate::effort::MOST_SAID;
 use entry_index::{Cube, Row, covered, covered_by};
-use razor_base::Memory;
+use razor_limits::Memory;
 use std::alloc::Global;
 
 /// Rows that say what a list says inside of cubes, the cubes' one after another.

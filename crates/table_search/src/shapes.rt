@@ -3,7 +3,7 @@
 use crate::sides::{Side, parts};
 use crate::strips::Cost;
 use entry_index::{Cube, Row, field};
-use razor_base::Memory;
+use razor_limits::Memory;
 use std::alloc::Global;
 use ternary_words::Entry;
 

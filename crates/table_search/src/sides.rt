@@ -1,7 +1,7 @@
 //! The ports of a rule, by the prefixes of its entries.
 
 use entry_index::{Cube, field, raised, sharp};
-use razor_base::Memory;
+use razor_limits::Memory;
 use std::alloc::Global;
 
 /// The prefixes that a rule has in one port.

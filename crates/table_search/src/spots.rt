@@ -2,7 +2,7 @@
 
 use crate::placing::Placed;
 use crate::room::{Gaps, Room};
-use razor_base::Memory;
+use razor_limits::Memory;
 use std::alloc::Global;
 
 /// A place that a row may come to, and the gaps of the old table from which it gets its slot there.

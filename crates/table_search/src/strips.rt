@@ -3,7 +3,7 @@
 //! A rule that is widened holds too much in its strips. There rows in front of it give the answers of the rules behind it.
 
 use entry_index::{Cube, Row, Table, covered};
-use razor_base::Memory;
+use razor_limits::Memory;
 use std::alloc::Global;
 
 /// Some values of one port, and the rows in front of all others that answer there what they match.

@@ -5,7 +5,7 @@ use crate::effort::TRIES;
 use crate::judging::{Gain, Hurdle};
 use crate::search::Search;
 use entry_index::{Row, Table};
-use razor_base::Memory;
+use razor_limits::Memory;
 
 impl Search {
     /// Widens these entries from the last to the first as often as that makes the table shorter, then takes out

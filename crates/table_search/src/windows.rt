@@ -9,7 +9,7 @@ use crate::hashes::hash_of;
 use crate::lifting::top_of;
 use crate::search::Search;
 use entry_index::{Cube, Row, Table, field};
-use razor_base::Memory;
+use razor_limits::Memory;
 use std::alloc::Global;
 use std::mem;
 

@@ -6,7 +6,7 @@ ghost use Rattle.table_steps.specs.Free.{words_of};
 ghost use Rattle.table_steps.specs.Answering.{AnswerBehind, IsApart};
 
 use crate::holding::is_held;
-use razor_base::Memory;
+use razor_limits::Memory;
 use std::alloc::Global;
 use ternary_words::{Entry, Word};
 use word_cover::{inside, meets};

@@ -14,7 +14,7 @@ use crate::free::free_for;
 use crate::gathering::push_entries;
 use crate::holding::{holders, is_held};
 use crate::parts::Parts;
-use razor_base::Memory;
+use razor_limits::Memory;
 use std::alloc::Global;
 use ternary_words::{Entry, Word};
 use word_cover::covered;

@@ -8,7 +8,7 @@ ghost use Rattle.word_cover.specs.Covers.{AreAmong};
 
 use crate::gathering::{push_entries, push_words};
 use crate::passing::{Passing, pass};
-use razor_base::Memory;
+use razor_limits::Memory;
 use std::alloc::Global;
 use ternary_words::{Entry, Word};
 use word_cover::{covered, inside, meets};

@@ -4,7 +4,7 @@ ghost use Rattle.std.specs.Prelude.{◌++◌, ◌∷◌, [], OnOk};
 ghost use Rattle.table_steps.specs.Free.{words_of};
 ghost use Rattle.word_cover.specs.Covers.{AreAmong};
 
-use razor_base::Memory;
+use razor_limits::Memory;
 use ternary_words::{Entry, Word};
 use word_cover::meets;
 

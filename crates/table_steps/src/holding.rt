@@ -5,7 +5,7 @@ ghost use Rattle.table_steps.specs.Free.{words_of};
 ghost use Rattle.word_cover.specs.Covers.{Covers};
 
 use crate::parts::Parts;
-use razor_base::Memory;
+use razor_limits::Memory;
 use std::alloc::Global;
 use ternary_words::{Entry, Word};
 use word_cover::inside;

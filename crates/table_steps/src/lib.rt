@@ -16,7 +16,7 @@
 //! Left free: every no, and whether anything is taken out. A `budget` is how many steps each question about words that
 //! cover a word may take, as in `word_cover`.
 //!
-//! | Room | Holds |
+//! | Module | Holds |
 //! |---|---|
 //! | `steps`, `exchange`, `tables` | steps, exchanges, and two tables compared |
 //! | `free`, `passing`, `gathering` | where a word may stand, and past which entries |

@@ -12,7 +12,7 @@ use crate::parts::{Part, Parts};
 use crate::steps::redundant;
 use crate::wanted::{candidate, is_wanted};
 use field_boxes::Header;
-use razor_base::Memory;
+use razor_limits::Memory;
 use std::alloc::Global;
 use ternary_words::Entry;
 

@@ -1,6 +1,6 @@
 //! Bits by which the entries of a table are parted well. Nothing is promised of them.
 
-use razor_base::Memory;
+use razor_limits::Memory;
 use std::alloc::Global;
 use ternary_words::Entry;
 

@@ -10,7 +10,7 @@ ghost use Rattle.word_cover.specs.Covers.{Covers};
 
 use crate::answering::{Shortlist, answering};
 use crate::parting::parting_bits;
-use razor_base::Memory;
+use razor_limits::Memory;
 use std::alloc::Global;
 use ternary_words::{Entry, Word};
 use word_cover::inside;

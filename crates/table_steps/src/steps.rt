@@ -8,7 +8,7 @@ ghost use Rattle.ternary_words.specs.Entries.{answer};
 ghost use Rattle.table_steps.specs.Shortened.{IsShortened};
 
 use crate::free::free_for;
-use razor_base::Memory;
+use razor_limits::Memory;
 use std::alloc::Global;
 use ternary_words::Entry;
 

@@ -7,7 +7,7 @@ ghost use Rattle.ternary_words.specs.Entries.{answer};
 ghost use Rattle.table_steps.specs.Exchange.{AreSame, IsCommonEnd};
 
 use crate::exchange::can_exchange;
-use razor_base::Memory;
+use razor_limits::Memory;
 use std::alloc::Global;
 use ternary_words::Entry;
 

@@ -9,7 +9,7 @@ ghost use Rattle.table_steps.specs.Needs.{IsWanted};
 
 use crate::gathering::{push_entries, push_meeting};
 use field_boxes::Header;
-use razor_base::Memory;
+use razor_limits::Memory;
 use std::alloc::Global;
 use ternary_words::{Entry, Word};
 use word_cover::{Shown, cover, inside, meet, meets};

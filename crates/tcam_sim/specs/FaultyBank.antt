@@ -1,7 +1,7 @@
 -- What a bank holds whose calls may fail, and which calls fail.
 use Rattle.std.specs.Prelude.{ℕ, Bool, List, Option, ◌==◌}
 use Rattle.std.specs.List.{list_any}
-use Rattle.razor_base.specs.FaultPlan.{counted}
+use Rattle.razor_limits.specs.Counts.{counted}
 use Rattle.tcam_sim.specs.Slots.{Stored}
 use Rattle.tcam_sim.specs.Bank.{slots_of}
 use Rattle.tcam_sim.specs.declared.faulty_bank.FaultyBank.{FaultyBank}

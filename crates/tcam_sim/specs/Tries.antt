@@ -1,6 +1,6 @@
 -- Counts of tries.
 use Rattle.std.specs.Prelude.{ℕ, zero, suc}
-use Rattle.razor_base.specs.FaultPlan.{counted}
+use Rattle.razor_limits.specs.Counts.{counted}
 
 -- the count after so many tries more
 abbrev pub counted_times : ℕ → ℕ → ℕ

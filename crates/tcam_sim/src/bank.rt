@@ -1,13 +1,13 @@
 //! A ternary memory that never fails.
 ghost use Rattle.std.specs.Prelude.{◌≡◌, ◌≤◌, length};
-ghost use Rattle.razor_base.specs.declared.limits.TheConstants.{MOST_ENTRIES};
+ghost use Rattle.razor_limits.specs.declared.limits.TheConstants.{MOST_ENTRIES};
 ghost use Rattle.tcam_sim.specs.Columns.{AreNarrow, HasLength, KeepNone};
 
 use crate::device::Device;
 use crate::halves::Halves;
 use crate::key::Key;
 use field_boxes::Header;
-use razor_base::{Failed, Memory};
+use razor_limits::{Failed, Memory};
 use std::alloc::Global;
 use ternary_words::Entry;
 
@@ -33,7 +33,7 @@ pub struct Bank {
 
 impl Bank {
     ghost use Rattle.std.specs.Prelude.{◌≡◌, ◌≢◌, ◌≤◌, ◌<◌, ◌^◌, None, IfOk, length, replicate, slice_set};
-    ghost use Rattle.razor_base.specs.FaultPlan.{counted};
+    ghost use Rattle.razor_limits.specs.Counts.{counted};
     ghost use Rattle.tcam_sim.specs.Bank.{sets_of, slot_with, slots_of};
 
     /// A bank with so many slots, from 1 to 262,144, all of them empty.
@@ -71,8 +71,7 @@ impl Bank {
 
 impl Device for Bank {
     ghost use Rattle.std.specs.Prelude.{◌≡◌, ◌≤◌, ◌<◌, length, Ok, option_map, slice_set, OnOk, OnErr};
-    ghost use Rattle.razor_base.specs.FaultPlan.{counted};
-    ghost use Rattle.razor_base.specs.Faults.{Rose};
+    ghost use Rattle.razor_limits.specs.Counts.{counted, Rose};
     ghost use Rattle.tcam_sim.specs.Bank.{sets_of, slots_of};
     ghost use Rattle.tcam_sim.specs.Slots.{look_up, stored};
 

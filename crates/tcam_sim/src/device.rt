@@ -1,11 +1,10 @@
 //! What a ternary memory does.
 ghost use Rattle.std.specs.Prelude.{◌≡◌, ◌≤◌, ◌<◌, ℕ, List, Option, length, option_map, slice_set, OnOk, OnErr};
-ghost use Rattle.razor_base.specs.FaultPlan.{counted};
-ghost use Rattle.razor_base.specs.Faults.{Rose};
+ghost use Rattle.razor_limits.specs.Counts.{counted, Rose};
 ghost use Rattle.tcam_sim.specs.Slots.{Stored, look_up, stored};
 
 use field_boxes::Header;
-use razor_base::Failed;
+use razor_limits::Failed;
 use ternary_words::Entry;
 
 /// A ternary memory: slots counted from 0, each empty or an entry.

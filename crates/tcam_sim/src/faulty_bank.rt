@@ -1,10 +1,10 @@
 //! A ternary memory of which chosen writes fail.
-ghost use Rattle.razor_base.specs.declared.limits.TheConstants.{MOST_ENTRIES};
+ghost use Rattle.razor_limits.specs.declared.limits.TheConstants.{MOST_ENTRIES};
 
 use crate::bank::Bank;
 use crate::device::Device;
 use field_boxes::Header;
-use razor_base::{Failed, Memory};
+use razor_limits::{Failed, Memory};
 use std::alloc::Global;
 use ternary_words::Entry;
 
@@ -20,7 +20,7 @@ pub struct FaultyBank {
 impl FaultyBank {
     ghost use Rattle.std.specs.Prelude.{◌≡◌, ◌≤◌, [], ◌∷◌, ◌++◌, None, IfOk, OnOk, OnErr, replicate};
     ghost use Rattle.tcam_sim.specs.FaultyBank.{chosen_sets, faulty_slots, set_fails, set_faults, sets_made};
-    ghost use Rattle.razor_base.specs.FaultPlan.{counted};
+    ghost use Rattle.razor_limits.specs.Counts.{counted};
 
     /// A bank with so many slots, from 1 to 262,144, all of them empty.
     pub fn new(alloc: Global, slots: u32) -> Result<FaultyBank, Memory>
@@ -60,8 +60,7 @@ impl FaultyBank {
 
 impl Device for FaultyBank {
     ghost use Rattle.std.specs.Prelude.{◌≡◌, ◌≤◌, ◌<◌, Ok, Err, length, option_map, slice_set, OnOk, OnErr, if◌then◌else◌};
-    ghost use Rattle.razor_base.specs.Faults.{Rose};
-    ghost use Rattle.razor_base.specs.FaultPlan.{counted};
+    ghost use Rattle.razor_limits.specs.Counts.{Rose, counted};
     ghost use Rattle.tcam_sim.specs.FaultyBank.{chosen_sets, faulty_slots, set_fails, set_faults, sets_made};
     ghost use Rattle.tcam_sim.specs.Slots.{look_up, stored};
 

@@ -1,7 +1,7 @@
 //! Columns of wide numbers as two columns of their halves.
 ghost use Rattle.std.specs.Prelude.{◌≡◌, ◌/◌, ◌%◌, ◌^◌, ◌<◌, IfOk, length, replicate, slice_set};
 
-use razor_base::Memory;
+use razor_limits::Memory;
 use std::alloc::Global;
 
 /// A column of numbers of 128 bits, as two columns of their halves of 64 bits.

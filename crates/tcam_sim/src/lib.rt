@@ -14,7 +14,7 @@
 //!
 //! Assumed of a device from elsewhere: that it meets the trait, its count of faults and of tries among that.
 //!
-//! | Room | Holds |
+//! | Module | Holds |
 //! |---|---|
 //! | `device` | what a ternary memory does |
 //! | `bank`, `faulty_bank` | a memory that never fails, and one of which chosen writes do |

@@ -1,13 +1,13 @@
 //! Loading a table into a memory.
 ghost use Rattle.std.specs.Prelude.{◌≡◌, ◌+◌, ◌≤◌, ◌<◌, ℕ, None, length, max, replicate, IfOk, OnOk, OnErr, take};
-ghost use Rattle.razor_base.specs.Faults.{Rose};
+ghost use Rattle.razor_limits.specs.Counts.{Rose};
 ghost use Rattle.tcam_sim.specs.Bank.{slots_of};
 ghost use Rattle.tcam_sim.specs.Slots.{filled};
 ghost use Rattle.tcam_sim.specs.Tries.{counted_times};
 
 use crate::bank::Bank;
 use crate::device::Device;
-use razor_base::{Failed, Memory};
+use razor_limits::{Failed, Memory};
 use std::alloc::Global;
 use ternary_words::Table;
 

@@ -4,6 +4,7 @@ use Rattle.field_boxes.specs.Headline.Fields.{stated, width}
 use Rattle.field_boxes.specs.Headline.Prefix.{FitsWidth}
 use Rattle.field_boxes.specs.declared.prefix.Prefix.{Prefix}
 use Rattle.ternary_words.specs.Prefixes.{FitFields, mask_of, masks_of}
+use Rattle.ternary_words.specs.Word.{field_part}
 use Rattle.ternary_words.proofs.PrefixMasks.{mask_small}
 
 -- a list of five by its items
@@ -39,6 +40,16 @@ below_fields a b c d e ha hb hc hd he (suc (suc zero)) h = hc
 below_fields a b c d e ha hb hc hd he (suc (suc (suc zero))) h = hd
 below_fields a b c d e ha hb hc hd he (suc (suc (suc (suc zero)))) h = he
 below_fields a b c d e ha hb hc hd he (suc (suc (suc (suc (suc k))))) h = absurd (omega arith)
+
+-- five numbers are the parts of a key
+pub field_parts : (n a b c d e : ℕ) → a ≡ field_part 0 n → b ≡ field_part 1 n → c ≡ field_part 2 n → d ≡ field_part 3 n → e ≡ field_part 4 n →
+    (k : ℕ) → k < 5 → slice_index (a ∷ b ∷ c ∷ d ∷ e ∷ []) k ≡ field_part k n
+field_parts n a b c d e ha hb hc hd he zero h = ha
+field_parts n a b c d e ha hb hc hd he (suc zero) h = hb
+field_parts n a b c d e ha hb hc hd he (suc (suc zero)) h = hc
+field_parts n a b c d e ha hb hc hd he (suc (suc (suc zero))) h = hd
+field_parts n a b c d e ha hb hc hd he (suc (suc (suc (suc zero)))) h = he
+field_parts n a b c d e ha hb hc hd he (suc (suc (suc (suc (suc k))))) h = absurd (omega arith)
 
 -- the masks of five prefixes
 pub masks_five : (ps : List Prefix) (d : Prefix) → length ps ≡ 5 →

@@ -1,4 +1,3 @@
-pub mod Columns
 pub mod FirstMatch
 pub mod Fives
 pub mod Joined
@@ -10,20 +9,5 @@ pub mod PrefixTrits
 pub mod OnesInFront
 pub mod Parted
 pub mod Spanned
-pub mod Cuts
-pub mod Pushed
-pub mod Resumed
 pub mod TritBits
-pub mod SpelledLines
-pub mod HexTexts
-pub mod EntryTexts
-pub mod NameTexts
-pub mod HeadingTexts
-pub mod TableTexts
-pub mod CutBack
-pub mod HexBack
-pub mod EntryBack
-pub mod HeadingBack
-pub mod TableBack
-pub mod UpperTexts
-pub mod NamesSeen
+pub mod Listed

@@ -12,7 +12,7 @@ use Rattle.field_boxes.proofs.Bits.{length-bits, bits-add, bits-mod, begins-bits
 use Rattle.ternary_words.specs.Headline.Word.{field_bits, header_bits}
 use Rattle.ternary_words.specs.Word.{trits, mask_bit}
 use Rattle.ternary_words.specs.Prefixes.{FitFields, HasMask, IsPart, IsPrefixInEach, IsWordOf, fields_trits, mask_of, masks_of, prefix_trits}
-use Rattle.ternary_words.proofs.Columns.{length-trits, mask-bits, trits-append}
+use Rattle.ternary_words.proofs.TritBits.{length-trits, mask-bits, trits-append}
 use Rattle.ternary_words.proofs.PrefixMasks.{mask_small}
 use Rattle.ternary_words.proofs.PrefixTrits.{trits-fields, trits-prefix}
 

@@ -12,7 +12,7 @@ use Rattle.ternary_words.specs.Headline.Word.{field_bits}
 use Rattle.ternary_words.specs.Word.{trits}
 use Rattle.ternary_words.specs.Prefixes.{mask_of, masks_of, prefix_trits, fields_trits, FitFields}
 use Rattle.ternary_words.proofs.Joined.{bits-joined}
-use Rattle.ternary_words.proofs.Columns.{trits-append}
+use Rattle.ternary_words.proofs.TritBits.{trits-append}
 
 bits-zero : (n : ℕ) → bits n 0 ≡ replicate n false
 bits-zero zero = refl

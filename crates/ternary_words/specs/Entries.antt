@@ -1,8 +1,9 @@
 -- What entries answer by number, and their parts.
-use Rattle.std.specs.Prelude.{◌≡◌, ◌⊎◌, ℕ, Bool, cond, List, [], ◌∷◌}
+use Rattle.std.specs.Prelude.{◌≡◌, ◌⊎◌, ℕ, Bool, cond, List, [], ◌∷◌, All}
 use Rattle.ternary_words.specs.declared.word.Word.{Word}
 use Rattle.ternary_words.specs.declared.entry.Entry.{Entry}
 use Rattle.ternary_words.specs.Headline.Word.{agrees, header_bits}
+use Rattle.ternary_words.specs.Prefixes.{IsPrefixInEach}
 use Rattle.ternary_words.specs.Views.{word_of}
 
 -- whether the word matches the header
@@ -22,3 +23,7 @@ answer (e ∷ entries) header = cond (entry_matches header e) e.decision (answer
 abbrev pub IsPart : List Entry → List Entry → Type 0
 IsPart xs [] = xs ≡ []
 IsPart xs (y ∷ ys) = ((rest : List Entry) × (xs ≡ y ∷ rest) × IsPart rest ys) ⊎ IsPart xs ys
+
+-- the entries' words are prefixes in each field
+abbrev pub ArePrefixes : List Entry → Type 0
+ArePrefixes entries = All (λ e. IsPrefixInEach (word_of e.word)) entries

@@ -1,5 +1,3 @@
--- What the headline of the program says of ternary words, tables and their text.
+-- What the headline of the program says of ternary words and tables.
 pub mod Word
 pub mod Table
-pub mod Hexadecimal
-pub mod TableText

@@ -1,8 +1,8 @@
 //! How many entries a table may have.
 ghost use Rattle.std.specs.Prelude.{◌≤◌};
-ghost use Rattle.razor_base.specs.declared.limits.TheConstants.{MOST_ENTRIES};
+ghost use Rattle.razor_limits.specs.declared.limits.TheConstants.{MOST_ENTRIES};
 
-use razor_base::limits::MOST_ENTRIES;
+use razor_limits::limits::MOST_ENTRIES;
 
 /// The greatest number of entries that a table may have: 1 to 262,144.
 #[derive(Clone, Copy, Debug, PartialEq, Eq)]
@@ -14,7 +14,7 @@ pub struct Limit {
 
 impl Limit {
     ghost use Rattle.std.specs.Prelude.{◌≡◌, ◌≤◌, ◌↔◌, IfSome, IsSome};
-    ghost use Rattle.razor_base.specs.declared.limits.TheConstants.{MOST_ENTRIES};
+    ghost use Rattle.razor_limits.specs.declared.limits.TheConstants.{MOST_ENTRIES};
 
     /// The limit of so many entries; none where that is 0 or more than 262,144.
     pub fn of(count: u32) -> Option<Limit>

@@ -1,12 +1,12 @@
 //! Tables: entries, the width of their slots, and the names of their decisions.
 ghost use Rattle.std.specs.Prelude.{◌≤◌, length, vec_len};
-ghost use Rattle.razor_base.specs.declared.limits.TheConstants.{MOST_ENTRIES};
+ghost use Rattle.razor_limits.specs.declared.limits.TheConstants.{MOST_ENTRIES};
 ghost use Rattle.ternary_words.specs.Limits.{AreNumbered};
 
 use crate::entry::Entry;
 use crate::slot_width::SlotWidth;
 use field_boxes::Decisions;
-use razor_base::Memory;
+use razor_limits::Memory;
 use std::alloc::Global;
 
 /// A list of entries for slots of the width, with the names of their decisions.

@@ -1,14 +1,14 @@
 //! Words of 104 trits.
 ghost use Rattle.std.specs.Prelude.{◌≡◌, ◌<◌, ◌^◌, bit_and};
 
-use crate::key::key;
+use crate::keys::key;
 use crate::masks::{masks, values};
 use crate::parts::prefix_at;
 use field_boxes::{Header, Prefix, Span};
 
 /// A word of 104 trits, over the keys of headers. Place `p` counts from the highest bit of the source
 /// address; its trit is `*` where bit `103 - p` of `mask` is 0, and else that bit of `value`.
-#[derive(Clone, Copy, Debug, PartialEq, Eq)]
+#[derive(Clone, Copy, Debug, PartialEq, Eq, Hash)]
 pub struct Word {
     pub value: u128,
     pub mask: u128,

@@ -1,9 +1,10 @@
 -- Decimal numbers are read as they are written.
-use Rattle.std.proofs.Common.{◌≡◌, ◌∷◌, ◌++◌, ℕ, zero, suc, ◌+◌, ◌*◌, ◌/◌, ◌%◌, ◌^◌, ◌<◌, ◌≤◌, List, Bool, true, false, [], refl, ◌∙◌, arith, zero-add, get_or, length, nat_lt, Some}
+use Rattle.std.proofs.Common.{◌≡◌, ◌∷◌, ◌++◌, ℕ, zero, suc, ◌+◌, ◌*◌, ◌/◌, ◌%◌, ◌^◌, ◌<◌, ◌≤◌, List, Bool, true, false, [], refl, ◌∙◌, arith, zero-add, get_or, length, nat_lt, ◌&&◌, Some}
 use Rattle.std.specs.List.{list_all}
 use Rattle.std.specs.Char.{digit_value}
 use Rattle.std.specs.Fmt.{decimal}
 use Rattle.std.proofs.lemmas.Bool.{lt-ltb, le-leb, and_from, ltb-true, ne_eqb}
+use Rattle.std.proofs.lemmas.Bool.Decides.{nat_tests}
 use Rattle.std.proofs.lemmas.Fmt.{decimal_by_steps, decimal_digit, decimal_nonempty, first_decimal, length-decimal-le}
 use Rattle.std.proofs.lemmas.List.Folds.{list_all-append}
 use Rattle.std.proofs.lemmas.List.Sums.{fold-append}
@@ -15,6 +16,16 @@ use Rattle.text_lines.proofs.Joins.{all_wider, is_other}
 
 abbrev pub is_digit : ℕ → Bool
 is_digit b = nat_lt (digit_value b) 10
+
+-- a byte that may stand in a word of an address or a number
+abbrev pub is_number_byte : ℕ → Bool
+is_number_byte b = nat_lt 45 b && nat_lt b 58
+
+digit_range : (b : ℕ) → is_digit b ≡ true → (48 ≤ b) × (b ≤ 57)
+digit_range b h = let range = digit_from_value b (ltb-true (digit_value b) 10 h) in (range.0, range.1)
+
+pub digit_number : (b : ℕ) → is_digit b ≡ true → is_number_byte b ≡ true
+digit_number b h = let range = digit_range b h in let low = range.0 in let high = range.1 in grind (arith, nat_tests)
 
 -- the digits write the number
 abbrev Writes : ℕ → List ℕ → Type 0

@@ -14,7 +14,7 @@
 //! one than allowed. [`take_lines`] gives the lines that aren't skipped to a [`TakeLine`], up to the first bad one, and
 //! comes to what `specs/Headline/Reading.antt` says of its step. No call takes memory of its own.
 //!
-//! | Room | Holds |
+//! | Module | Holds |
 //! |---|---|
 //! | `line`, `column`, `cut` | lines, columns, and cuts at a separator |
 //! | `number` | numbers in digits of a base |

@@ -1,10 +1,10 @@
 //! Running a trace over a memory: its answers are written while it is read.
 ghost use Rattle.std.specs.Prelude.{◌≡◌, ◌≢◌, ◌≤◌, ◌+◌, ℕ, List, [], IsErrOf};
 ghost use Rattle.std.specs.Io.KnownBytes.{Appends, Keeps};
-ghost use Rattle.razor_base.specs.Faults.{Rose};
+ghost use Rattle.razor_limits.specs.Counts.{Rose};
 ghost use Rattle.razor_base.specs.Input.{TakesAtMost};
 ghost use Rattle.razor_base.specs.Output.{AppendsFront};
-ghost use Rattle.razor_base.specs.declared.limits.TheConstants.{MOST_TRACE_BYTES, PIECE_BYTES};
+ghost use Rattle.razor_limits.specs.declared.limits.TheConstants.{MOST_TRACE_BYTES, PIECE_BYTES};
 ghost use Rattle.trace_run.specs.Answers.{HaveNames, answers_text};
 ghost use Rattle.trace_run.specs.Outcome.{Begun, Outcome, Written};
 ghost use Rattle.trace_run.specs.Pace.{IsPaced};

@@ -1,8 +1,7 @@
 -- Headers as keys: a word matches where the key fits.
-use Rattle.std.proofs.Common.{◌≡◌, ◌⊎◌, ◌∷◌, ℕ, List, [], Bool, true, false, ◌+◌, ◌*◌, ◌^◌, ap, refl, sym, ◌∙◌, inl, inr, bit_and, bit_or, bit_xor, nat_eq, slice_index, ◌||◌}
+use Rattle.std.proofs.Common.{◌≡◌, ◌⊎◌, ◌∷◌, ℕ, List, [], Bool, true, false, ◌+◌, ◌*◌, ◌^◌, ap, refl, sym, ◌∙◌, inl, inr, bit_and, bit_or, bit_xor, nat_eq, slice_index, ◌||◌, eq-eqb}
 use Rattle.std.proofs.lemmas.Nat.{or_comm, or_lt}
 use Rattle.std.proofs.lemmas.Bool.{eqb-true, false≢true}
-use Rattle.std.proofs.Common.{eq-eqb}
 use Rattle.field_boxes.specs.Headline.Bits.{bits}
 use Rattle.field_boxes.specs.Headline.Fields.{IsHeader}
 use Rattle.ternary_words.specs.declared.word.Word.{Word}

@@ -10,7 +10,7 @@ ghost use Rattle.word_cover.specs.Covers.{Covers, AreAmong};
 use crate::sight::{Sight, look};
 use crate::splits::{halves, only};
 use crate::words::{inside, meets};
-use razor_base::Memory;
+use razor_limits::Memory;
 use std::alloc::Global;
 use ternary_words::Word;
 

@@ -10,7 +10,7 @@
 //!
 //! Left free: a no of [`covered`]. It may be that it took more steps than its `budget`.
 //!
-//! | Room | Holds |
+//! | Module | Holds |
 //! |---|---|
 //! | `covering`, `shown` | the question, and the question with a header to show for a no |
 //! | `splits`, `sight` | a word split at a bit, and what is seen at a glance |

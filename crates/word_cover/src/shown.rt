@@ -10,9 +10,9 @@ use crate::sight::volume;
 use crate::splits::halves;
 use crate::words::meets;
 use field_boxes::Header;
-use razor_base::Memory;
+use razor_limits::Memory;
 use std::alloc::Global;
-use ternary_words::Word;
+use ternary_words::{Word, values_of};
 
 /// Whether words cover a word: they match the whole of it, or they leave this header open, or it wasn't seen.
 #[derive(Drop)]
@@ -44,13 +44,7 @@ pub fn cover(alloc: Global, word: &Word, words: &[Word], budget: u32) -> Result<
 fn witness(word: &Word, words: &[Word], least: &Word) -> Option<Header>
     ensures { IfSome result (λ header. IsOpen words.now word.now header.values) }
 {
-    let header = Header::new([
-        ((least.value >> 72) % (1 << 32)) as u32,
-        ((least.value >> 40) % (1 << 32)) as u32,
-        ((least.value >> 24) % (1 << 16)) as u32,
-        ((least.value >> 8) % (1 << 16)) as u32,
-        (least.value % (1 << 8)) as u32,
-    ])?;
+    let header = Header::new(values_of(least.value))?;
     if word.matches(&header) && !is_held(words, &header) {
         Some(header)
     } else {

@@ -2,16 +2,12 @@
 use Rattle.std.specs.Prelude.{ℕ, ◌+◌, List, [], ◌∷◌, ◌++◌, length, unwrap_or, Result, Ok, if◌then◌else◌}
 use Rattle.std.specs.Fmt.{decimal}
 use Rattle.field_boxes.specs.Headline.Classifier.{Rule}
+use Rattle.field_boxes.specs.Headline.FilterList.{FilterList}
 use Rattle.filter_reader.specs.declared.reason.Reason.{Reason}
 use Rattle.text_lines.specs.Headline.Fallible.{◌>>=◌}
 use Rattle.text_lines.specs.Headline.Lines.{text_lines}
 use Rattle.text_lines.specs.Headline.Reading.{BadLine, read_from}
 use Rattle.filter_reader.specs.Headline.RuleLine.{SpelledRule, rule_line}
-
--- a list: rules with the names of their decisions, and how many of them are flagged
-pub record FilterList : Type 0 where
-  pub rules : List (Rule (List ℕ))
-  pub flagged : ℕ
 
 -- '#' and the number of a rule: the name of its decision where its line has no word
 abbrev pub own_name : ℕ → List ℕ

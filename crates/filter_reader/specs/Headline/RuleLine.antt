@@ -2,7 +2,7 @@
 use Rattle.std.specs.Prelude.{ℕ, ◌==◌, Bool, not, List, [], ◌∷◌, Option, Result, Ok, Err, if◌then◌else◌}
 use Rattle.std.specs.List.{list_all}
 use Rattle.std.specs.Char.{is_ascii}
-use Rattle.razor_base.specs.declared.limits.TheConstants.{MOST_RULES}
+use Rattle.razor_limits.specs.declared.limits.TheConstants.{MOST_RULES}
 use Rattle.field_boxes.specs.Headline.Classifier.{Interval}
 use Rattle.filter_reader.specs.declared.reason.Reason.{Reason}
 use Rattle.filter_reader.specs.declared.reason.Reason.TheVariants.{TooManyRules, NotAscii}

@@ -9,7 +9,7 @@ use crate::field::Field;
 use crate::parts::{middle, top};
 use crate::savings::{LabelCost, join};
 use crate::stack::{Keeping, Stack};
-use razor_base::Memory;
+use razor_limits::Memory;
 
 impl Field<'_> {
     /// Does the halves of the whole field, and gives the label of its row.

@@ -9,7 +9,7 @@ ghost use Rattle.prefix_min.specs.Savings.{lowered, saved, with_one};
 use crate::savings::pairs::{join_first, join_second, pair_from};
 use crate::savings::{Gain, LabelCost, is_alone, join, put_more};
 use bumpalo::Bump;
-use razor_base::Memory;
+use razor_limits::Memory;
 
 /// How many labels are less, before the first that isn't.
 fn count_below(savings: &[LabelCost], label: u32) -> usize

@@ -7,7 +7,7 @@ ghost use Rattle.prefix_min.specs.Savings.{lowered};
 use crate::appending::append;
 use crate::savings::{Gain, LabelCost};
 use bumpalo::Bump;
-use razor_base::Memory;
+use razor_limits::Memory;
 
 /// What two labels save, the lesser label first.
 #[derive(Clone, Copy)]

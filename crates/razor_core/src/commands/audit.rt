@@ -1,7 +1,7 @@
 //! `audit`: the state of each rule of a list.
 ghost use Rattle.std.specs.Prelude.{◌≢◌, ◌≡◌, ℕ, List, Some};
 ghost use Rattle.std.specs.Io.KnownBytes.{Keeps};
-ghost use Rattle.filter_reader.specs.Lists.{filter_list};
+ghost use Rattle.field_boxes.specs.Lists.{filter_list};
 ghost use Rattle.razor_base.specs.Output.{Puts, Writes};
 ghost use Rattle.razor_core.specs.Commands.Audit.{found_state, state_line, states_text, AreStated, auditing, IsAudited};
 ghost use Rattle.razor_core.specs.Ending.{Ends};
@@ -12,8 +12,7 @@ ghost use Rattle.razor_core.specs.Promise.{KeepsPromise};
 use crate::ending::{Ending, Summary};
 use crate::taking::take;
 use crate::texts::ListText;
-use field_boxes::Header;
-use filter_reader::RuleList;
+use field_boxes::{Header, RuleList};
 use razor_base::{Desk, Failed, Part, Pending, Sink, put_parts};
 use rule_audit::{RuleState, audit};
 use std::alloc::Global;

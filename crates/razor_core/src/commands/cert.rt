@@ -15,7 +15,7 @@ use crate::taking::take;
 use crate::texts::{ListText, TableText};
 use box_partition::{CertError, write_certificate};
 use command_words::TwoFiles;
-use filter_reader::RuleList;
+use field_boxes::RuleList;
 use razor_base::{Desk, Sink};
 use std::alloc::Global;
 use ternary_words::Table;

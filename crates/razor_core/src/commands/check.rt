@@ -13,7 +13,7 @@ use crate::ending::{Ending, Summary};
 use crate::taking::take;
 use crate::texts::{ListText, TableText};
 use command_words::ThreeFiles;
-use filter_reader::RuleList;
+use field_boxes::RuleList;
 use partition_check::laws::equal_lists_have_one_verdict;
 use partition_check::{Checker, Stop, Why, Wrong, check_stream};
 use razor_base::limits::{BUFFER_BYTES, MOST_CERTIFICATE_BYTES};

@@ -12,7 +12,7 @@ use crate::texts::MemoryText;
 use memory_text::table_in;
 use razor_base::{Desk, Sink};
 use std::alloc::Global;
-use ternary_words::write_table;
+use table_text::write_table;
 
 /// Writes the table that stands in a memory.
 #[inline(never)]

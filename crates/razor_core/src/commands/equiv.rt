@@ -1,7 +1,7 @@
 //! `equiv`: whether two lists decide every header alike, or on which they first differ.
 ghost use Rattle.std.specs.Prelude.{◌≢◌, ℕ, List, [], ◌∷◌, ◌≡◌, Some};
 ghost use Rattle.std.specs.Io.KnownBytes.{Keeps};
-ghost use Rattle.filter_reader.specs.Lists.{filter_list};
+ghost use Rattle.field_boxes.specs.Lists.{filter_list};
 ghost use Rattle.list_equiv.specs.Verdict.{IsListVerdict};
 ghost use Rattle.razor_base.specs.Output.{Writes};
 ghost use Rattle.razor_core.specs.Behind.{EndsOver};
@@ -16,7 +16,7 @@ use crate::ending::{Ending, Summary};
 use crate::taking::take;
 use crate::texts::ListText;
 use command_words::TwoFiles;
-use filter_reader::RuleList;
+use field_boxes::RuleList;
 use list_equiv::{Verdict, equal};
 use razor_base::{Desk, Failed, Part, Sink, write_parts};
 use std::alloc::Global;

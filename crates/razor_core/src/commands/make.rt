@@ -3,7 +3,7 @@ ghost use Rattle.std.specs.Prelude.{◌≡◌, ◌≢◌, ◌≤◌, ℕ, List, 
 ghost use Rattle.std.specs.Io.KnownBytes.{Keeps};
 ghost use Rattle.command_words.specs.Commands.{method_seen};
 ghost use Rattle.command_words.specs.Settings.{sizes_of};
-ghost use Rattle.filter_reader.specs.Lists.{filter_list};
+ghost use Rattle.field_boxes.specs.Lists.{filter_list};
 ghost use Rattle.ternary_words.specs.Views.{table_of};
 ghost use Rattle.razor_core.specs.Outside.{seen};
 ghost use Rattle.razor_core.specs.Ending.{Ends, summary_text};
@@ -18,10 +18,10 @@ use crate::ending::{Ending, Summary};
 use crate::taking::take;
 use crate::texts::ListText;
 use command_words::{Method, Sizes};
-use filter_reader::RuleList;
+use field_boxes::RuleList;
 use razor_base::{Desk, Sink};
 use std::alloc::Global;
-use ternary_words::write_table;
+use table_text::write_table;
 
 /// Writes the table that the method makes of the list.
 #[inline(never)]

@@ -13,7 +13,8 @@ use crate::texts::TableText;
 use bit_merge::merge;
 use razor_base::{Desk, Memory, Sink};
 use std::alloc::Global;
-use ternary_words::{Table, write_table};
+use table_text::write_table;
+use ternary_words::Table;
 
 /// Writes a table with its entries merged.
 #[inline(never)]

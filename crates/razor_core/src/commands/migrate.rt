@@ -11,7 +11,7 @@ use crate::taking::take;
 use crate::texts::TableText;
 use razor_base::{Desk, Sink};
 use std::alloc::Global;
-use ternary_words::write_table;
+use table_text::write_table;
 
 /// Writes a table of either version in the compact text.
 #[inline(never)]

@@ -4,7 +4,7 @@ ghost use Rattle.std.specs.Io.KnownBytes.{Keeps};
 ghost use Rattle.command_words.specs.Questions.{name_in};
 ghost use Rattle.field_boxes.specs.Spans.{intervals_of};
 ghost use Rattle.field_boxes.specs.Headline.Classifier.{Interval};
-ghost use Rattle.filter_reader.specs.Lists.{filter_list};
+ghost use Rattle.field_boxes.specs.Lists.{filter_list};
 ghost use Rattle.razor_base.specs.Output.{Writes};
 ghost use Rattle.razor_core.specs.Ending.{Ends};
 ghost use Rattle.razor_core.specs.Outside.{seen, Adds, Outside};
@@ -17,7 +17,7 @@ use crate::taking::take;
 use crate::texts::ListText;
 use box_query::{QueryError, query};
 use command_words::Question;
-use filter_reader::RuleList;
+use field_boxes::RuleList;
 use razor_base::{Desk, Failed, Part, Sink, write_parts};
 use std::alloc::Global;
 

@@ -1,10 +1,10 @@
 //! `session`: a list that is edited, and whose tables are replaced in a memory.
 ghost use Rattle.std.specs.Prelude.{◌≡◌, ◌≢◌, ◌≤◌, ◌<◌, ◌+◌, ◌*◌, ℕ, List, count_by, length, Some};
 ghost use Rattle.std.specs.Io.KnownBytes.{Keeps};
-ghost use Rattle.razor_base.specs.declared.limits.TheConstants.{MOST_ENTRIES, MOST_SCRIPT_BYTES};
+ghost use Rattle.razor_limits.specs.declared.limits.TheConstants.{MOST_ENTRIES, MOST_SCRIPT_BYTES};
 ghost use Rattle.field_boxes.specs.Headline.Classifier.{Rule};
 ghost use Rattle.filter_reader.specs.FirstSeen.{first_seen};
-ghost use Rattle.filter_reader.specs.Lists.{filter_list};
+ghost use Rattle.field_boxes.specs.Lists.{filter_list};
 ghost use Rattle.command_words.specs.Commands.{Session};
 ghost use Rattle.command_words.specs.Sessions.{SessionTerms as SeenTerms};
 ghost use Rattle.command_words.specs.Settings.{making_seen, terms_seen};
@@ -22,7 +22,7 @@ use crate::taking::take;
 use crate::texts::{ListText, SessionText};
 use command_words::{Making, SessionTerms, Swap, TwoFiles};
 use edit_session::{Editor, Method, Replaced, session_on};
-use filter_reader::RuleList;
+use field_boxes::RuleList;
 use razor_base::{Desk, Sink};
 use std::alloc::Global;
 use tcam_sim::Bank;

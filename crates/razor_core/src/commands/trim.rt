@@ -17,7 +17,8 @@ use razor_base::{Desk, Memory, Sink};
 use rule_shortening::trim;
 use std::alloc::Global;
 use table_steps::laws::parts;
-use ternary_words::{Table, write_table};
+use table_text::write_table;
+use ternary_words::Table;
 
 /// Writes a table without its redundant entries.
 #[inline(never)]

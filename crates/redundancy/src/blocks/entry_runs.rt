@@ -7,7 +7,7 @@ ghost use Rattle.redundancy_laws.specs.Built.{row_at, span_at};
 ghost use Rattle.redundancy_laws.specs.Rows.{in_front};
 
 use field_boxes::Span;
-use ternary_words::Entry;
+use ternary_words::{Entry, FieldPlace};
 
 /// Entries that have one span in a field, and those behind them.
 #[derive(Clone, Copy)]
@@ -73,13 +73,8 @@ fn field_span(entry: &Entry, field: u8) -> Span
     ensures span { span_at field entry.now ≡ interval_of result }
     ensures inside { result.hi ≤ greatest_of field }
 {
-    match field {
-        0 => part_span(entry, 72, 32),
-        1 => part_span(entry, 40, 32),
-        2 => part_span(entry, 24, 16),
-        3 => part_span(entry, 8, 16),
-        _ => part_span(entry, 0, 8),
-    }
+    let place = FieldPlace::of(usize::from(field));
+    part_span(entry, place.low, place.width)
 }
 
 /// The values that the entry's word matches in its part of so many bits above the lowest ones, where it is a prefix there.

@@ -4,7 +4,7 @@ ghost use Rattle.redundancy_laws.specs.Built.{row_at};
 ghost use Rattle.redundancy_laws.specs.Rows.{last_row};
 
 use indexmap::IndexSet;
-use razor_base::Memory;
+use razor_limits::Memory;
 use std::alloc::Global;
 use ternary_words::Entry;
 

@@ -4,7 +4,7 @@ use crate::blocks::{Blocks, Run, after};
 use crate::sets::Sets;
 use field_boxes::width;
 use node_store::{NodeId, Store};
-use razor_base::Memory;
+use razor_limits::Memory;
 use std::alloc::Global;
 use table_compose::Plans;
 

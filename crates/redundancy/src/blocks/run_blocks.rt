@@ -6,7 +6,7 @@ use crate::blocks::{Block, Blocks, Cover, Run};
 use crate::sets::Sets;
 use field_sets::Placed;
 use node_store::NodeId;
-use razor_base::Memory;
+use razor_limits::Memory;
 use std::alloc::Global;
 
 impl<'a> Blocks<'a> {

@@ -5,7 +5,7 @@ use crate::blocks::lists::{Item, ListedRun, Lists, decision_of};
 use crate::blocks::{Blocks, Run, after};
 use crate::sets::Sets;
 use node_store::NodeId;
-use razor_base::Memory;
+use razor_limits::Memory;
 use smallvec::SmallVec;
 use std::alloc::Global;
 use ternary_words::Entry;

@@ -3,7 +3,7 @@ ghost use Rattle.std.specs.Prelude.{◌≡◌, Some, true, slice_get, IfSome};
 
 use crate::contexts::Contexts;
 use indexmap::IndexSet;
-use razor_base::Memory;
+use razor_limits::Memory;
 use redundancy_laws::Context;
 use smallvec::SmallVec;
 use std::alloc::Global;

@@ -8,7 +8,7 @@ ghost use Rattle.redundancy_laws.specs.Sifted.{is_in, AreContexts, IsSifted, con
 
 use crate::sets::Sets;
 use node_store::NodeId;
-use razor_base::Memory;
+use razor_limits::Memory;
 use redundancy_laws::{Context, Sifted};
 use std::alloc::Global;
 

@@ -13,7 +13,7 @@ use crate::contexts::{Stretch, Stretches};
 use crate::sets::Sets;
 use field_sets::Placed;
 use node_store::NodeId;
-use razor_base::Memory;
+use razor_limits::Memory;
 use redundancy_laws::{Context, Sifted};
 use smallvec::SmallVec;
 use std::alloc::Global;

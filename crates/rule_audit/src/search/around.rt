@@ -4,7 +4,7 @@ ghost use Rattle.std.specs.Bool.{OnTrue, OnFalse};
 ghost use Rattle.rule_audit.specs.Search.{AreAround, IsWanted, StandAtLevel, first_answer};
 
 use node_store::{NodeId, Store};
-use razor_base::Memory;
+use razor_limits::Memory;
 use smallvec::SmallVec;
 use std::alloc::Global;
 

@@ -4,7 +4,7 @@ use crate::search::around::{Around, Nodes};
 use crate::search::least::ShortSearch;
 use field_boxes::greatest;
 use node_store::{NodeId, Store, edge_at};
-use razor_base::Memory;
+use razor_limits::Memory;
 use smallvec::SmallVec;
 
 /// The diagrams at some values of a field, up to `hi`.

@@ -11,7 +11,7 @@ use crate::search::around::{Around, is_wanted};
 use crate::state::RuleState;
 use field_boxes::{Header, greatest};
 use node_store::{NodeId, Store};
-use razor_base::Memory;
+use razor_limits::Memory;
 use std::alloc::Global;
 
 /// What a search comes to.

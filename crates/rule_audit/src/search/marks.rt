@@ -4,7 +4,7 @@ ghost use Rattle.std.specs.Bool.{OnTrue};
 ghost use Rattle.rule_audit.specs.Marks.{AnswersThroughout, AreMarks, AreRight, LeadToMarked, LeadWithin};
 
 use node_store::{Edge, NodeId, Store};
-use razor_base::Memory;
+use razor_limits::Memory;
 use std::alloc::Global;
 
 /// Marks the nodes that answer 0 for all values, or else those that answer something for all values.

@@ -1,4 +1,4 @@
-use Rattle.filter_reader.specs.Lists.{name_decided}
+use Rattle.field_boxes.specs.Lists.{name_decided}
 use Rattle.list_equiv.specs.Names.{name_of}
 use Rattle.list_equiv.proofs.Compared.{list_names, list_within, verdict_as}
 use Rattle.partition_check.specs.Agreement.{name_answered}

@@ -4,7 +4,7 @@ use Rattle.field_boxes.specs.Boxes.{box_of, box_holds}
 use Rattle.field_boxes.specs.Headline.Fields.{stated}
 use Rattle.field_boxes.specs.Names.{name_at}
 use Rattle.field_boxes.specs.Spans.{intervals_of}
-use Rattle.filter_reader.specs.Lists.{filter_list}
+use Rattle.field_boxes.specs.Lists.{filter_list}
 use Rattle.fdd_build.specs.Rules.{decided}
 use Rattle.box_query.specs.Asked.{label}
 use Rattle.box_query.specs.NodeBoxes.{node_boxes}

@@ -1,6 +1,5 @@
-use Rattle.std.proofs.Common.{append_assoc}
+use Rattle.std.proofs.Common.{append_assoc, ℕ, List, [], ◌∷◌, ◌++◌, flat_map}
 use Rattle.razor_base.proofs.Writing.{puts-is, puts-more, puts-stop, puts-then}
-use Rattle.std.proofs.Common.{ℕ, List, [], ◌∷◌, ◌++◌, flat_map}
 use Rattle.command_words.specs.declared.form.CommandForm.{CommandForm}
 use Rattle.command_words.specs.Usage.{option_usage}
 use Rattle.command_words.proofs.usage.put_line.Goals as goal

@@ -4,9 +4,9 @@ use bank_update::{Swapper, drive_on, read_script};
 use razor_base::MemSink;
 use std::process::Abort;
 use std::test::Fail;
+use table_text::read_table;
 use tcam_sim::FaultyBank;
 use ternary_words::Table;
-use ternary_words::text::read_table;
 
 /// Protocol 6 is accepted.
 const FIRST: &str = "table 2 slot 144 composed 2 entries 1\n\

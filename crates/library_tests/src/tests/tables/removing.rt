@@ -1,10 +1,10 @@
 //! The worked table without its redundant entries.
 use razor_base::Memory;
-use redundancy::{are_prefixes, remove};
+use redundancy::remove;
 use std::alloc::Global;
 use std::process::Abort;
 use std::test::Fail;
-use ternary_words::{Entry, Word};
+use ternary_words::{Entry, Word, are_prefixes};
 
 /// The mask of the highest eight trits, and a value of them.
 pub(super) const FIRST_BYTE: u128 = 0xff << 96;

@@ -6,7 +6,7 @@ use Rattle.slot_patch.specs.Planning.{IsPlanned}
 use Rattle.slot_patch.specs.declared.plan.Planned.{Planned}
 use Rattle.slot_patch.specs.declared.plan.Planned.TheVariants.{Ready}
 use Rattle.bank_update.specs.declared.write.Write.{Write}
-use Rattle.ternary_words.specs.Names.{is_name}
+use Rattle.table_text.specs.Names.{is_name}
 use Rattle.memory_text.specs.Kept.{Extends}
 use Rattle.memory_text.specs.Patched.{AreCopies}
 use Rattle.memory_text.proofs.Leading.{counted, enough, lacks, leads, within}

@@ -1,6 +1,6 @@
 use Rattle.std.proofs.Common.{◌+◌, ◌∙◌, add-one, ap, arith, length, sym, take}
-use Rattle.ternary_words.specs.EntryViews.{line_of}
-use Rattle.ternary_words.specs.Lines.{lines_of}
+use Rattle.table_text.specs.EntryViews.{line_of}
+use Rattle.table_text.specs.Lines.{lines_of}
 use Rattle.memory_text.specs.Reading.{writes_in}
 use Rattle.memory_text.specs.Views.{draft_of, heading_view, spelled_of}
 use Rattle.memory_text.proofs.Resumed.{bad_at, counted_bad, err_at, resumed, resumed-bad, resumed-more}

@@ -1,5 +1,5 @@
 use Rattle.std.proofs.Common.{◌≡◌, ◌+◌, ◌≤◌, length, take, vec_len}
-use Rattle.ternary_words.specs.Lines.{lines_of}
+use Rattle.table_text.specs.Lines.{lines_of}
 use Rattle.memory_text.specs.Kept.{AreWithin}
 use Rattle.memory_text.specs.Reading.{writes_in}
 use Rattle.memory_text.specs.Views.{draft_of}

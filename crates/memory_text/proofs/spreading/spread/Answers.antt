@@ -3,7 +3,7 @@ use Rattle.ternary_words.specs.declared.entry.Entry as code_entry
 use Rattle.ternary_words.specs.declared.slot_width.SlotWidth.{SlotWidth}
 use Rattle.ternary_words.specs.Headline.Table.{Entry}
 use Rattle.ternary_words.specs.Views.{entry_of}
-use Rattle.ternary_words.specs.Names.{is_decision}
+use Rattle.table_text.specs.Names.{is_decision}
 use Rattle.memory_text.specs.Memory.{after}
 use Rattle.memory_text.specs.Spreading.{even_slot, even_writes}
 use Rattle.memory_text.proofs.Afterwards.{spread_more}

@@ -1,5 +1,5 @@
 use Rattle.std.proofs.Common.{◌≡◌, ◌≤◌, take, vec_len}
-use Rattle.ternary_words.specs.EntriesViews.{entries_view}
+use Rattle.table_text.specs.EntriesViews.{entries_view}
 use Rattle.memory_text.specs.Memory.{entries_in}
 use Rattle.memory_text.specs.Views.{slots_of}
 use Rattle.memory_text.proofs.standing.table_in.Given as goal

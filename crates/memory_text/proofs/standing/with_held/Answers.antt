@@ -4,7 +4,7 @@ use Rattle.std.specs.Prelude.{IfOk}
 use Rattle.ternary_words.specs.declared.entry.Entry as code_entry
 use Rattle.ternary_words.specs.Headline.Table.{Entry}
 use Rattle.ternary_words.specs.Views.{entry_of}
-use Rattle.ternary_words.specs.EntriesViews.{entries_view}
+use Rattle.table_text.specs.EntriesViews.{entries_view}
 use Rattle.memory_text.proofs.Holding.{entry_named}
 use Rattle.memory_text.proofs.standing.with_held.Goals as goal
 

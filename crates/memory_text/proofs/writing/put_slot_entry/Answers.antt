@@ -2,7 +2,7 @@ use Rattle.std.proofs.Common.{[], ◌∷◌, ◌++◌, add-one, append_assoc}
 use Rattle.field_boxes.specs.Headline.Names.{text_of}
 use Rattle.field_boxes.specs.Names.{name_at}
 use Rattle.razor_base.proofs.Writing.{puts-then, puts-more, puts-stop, puts-is}
-use Rattle.ternary_words.specs.Headline.TableText.{entry_line}
+use Rattle.table_text.specs.Headline.TableText.{entry_line}
 use Rattle.ternary_words.specs.Views.{entry_of}
 use Rattle.memory_text.proofs.writing.put_slot_entry.Goals as goal
 

@@ -1,6 +1,6 @@
 use Rattle.std.proofs.Common.{◌≡◌, ◌+◌, ◌<◌, [], ◌∷◌, ◌++◌, Some, length, take, set, get_or, ap, sym, ◌∙◌, arith, add-one}
 use Rattle.std.proofs.lemmas.List.{length-take-le, take_more}
-use Rattle.razor_base.specs.FaultPlan.{counted}
+use Rattle.razor_limits.specs.Counts.{counted}
 use Rattle.tcam_sim.specs.Slots.{stored, filled}
 use Rattle.tcam_sim.specs.Tries.{counted_times}
 use Rattle.tcam_sim.proofs.Filling.{filled-next}

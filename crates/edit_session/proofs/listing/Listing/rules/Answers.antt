@@ -1,4 +1,4 @@
-use Rattle.filter_reader.specs.FilterRules.{IsFilterRule}
+use Rattle.field_boxes.specs.FilterRules.{IsFilterRule}
 use Rattle.edit_session.proofs.Ordering.{all-gathered}
 use Rattle.edit_session.proofs.listing.Listing.rules.Goals as goal
 

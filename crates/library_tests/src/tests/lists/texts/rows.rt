@@ -1,11 +1,12 @@
 //! Rows of certificates as they are written, and the checker of tables whose words are prefixes.
 use crate::tests::lists::boxes::protocols;
-use filter_reader::{RuleList, read_list};
+use field_boxes::RuleList;
+use filter_reader::read_list;
 use partition_check::{Checker, Row, write_row};
 use razor_base::MemSink;
 use std::alloc::Global;
 use std::test::Fail;
-use ternary_words::text::read_table;
+use table_text::read_table;
 
 #[test]
 fn writes_each_row_as_a_line(rt: HostRuntime) -> Result<(), Fail> {

@@ -2,7 +2,7 @@ use Rattle.std.proofs.Common.{ℕ, List, Option, Some, ap, refl}
 use Rattle.ternary_words.specs.declared.entry.Entry as code_entry
 use Rattle.ternary_words.specs.Headline.Table.{Entry}
 use Rattle.ternary_words.specs.Views.{word_of}
-use Rattle.ternary_words.specs.Names.{decided}
+use Rattle.table_text.specs.Names.{decided}
 use Rattle.memory_text.proofs.Holding.{slots_set}
 use Rattle.memory_text.proofs.memory.SlotMemory.set.Goals as goal
 

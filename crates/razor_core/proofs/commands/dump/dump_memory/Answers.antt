@@ -1,8 +1,8 @@
 use Rattle.std.proofs.Common.{List, [], refl, subst, ℕ, ◌∷◌}
 use Rattle.ternary_words.specs.Headline.Table.{Table}
-use Rattle.ternary_words.specs.Headline.TableText.{table_text}
+use Rattle.table_text.specs.Headline.TableText.{table_text}
 use Rattle.ternary_words.specs.Views.{table_of}
-use Rattle.ternary_words.proofs.TableTexts.{table-read}
+use Rattle.table_text.proofs.TableTexts.{table-read}
 use Rattle.razor_core.specs.Commands.Dump.{dumping}
 use Rattle.razor_core.specs.Inputs.{memory_input}
 use Rattle.razor_core.specs.Outside.{seen}

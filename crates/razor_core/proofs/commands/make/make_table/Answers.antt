@@ -1,8 +1,8 @@
 use Rattle.std.proofs.Common.{[], ◌∷◌, length, refl, subst, sym, true}
-use Rattle.filter_reader.specs.Lists.{filter_list}
-use Rattle.ternary_words.specs.Headline.TableText.{table_text}
+use Rattle.field_boxes.specs.Lists.{filter_list}
+use Rattle.table_text.specs.Headline.TableText.{table_text}
 use Rattle.ternary_words.specs.Views.{table_of}
-use Rattle.ternary_words.proofs.TableTexts.{table-read}
+use Rattle.table_text.proofs.TableTexts.{table-read}
 use Rattle.command_words.specs.Commands.{method_seen}
 use Rattle.command_words.specs.Settings.{sizes_of}
 use Rattle.razor_core.specs.Ending.{IsDone}

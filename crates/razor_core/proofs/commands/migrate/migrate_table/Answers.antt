@@ -1,5 +1,5 @@
 use Rattle.std.proofs.Common.{List, [], refl, ℕ, ◌∷◌}
-use Rattle.ternary_words.proofs.TableTexts.{table-read}
+use Rattle.table_text.proofs.TableTexts.{table-read}
 use Rattle.razor_core.specs.Commands.Migrate.{migrating}
 use Rattle.razor_core.specs.Inputs.{table_input}
 use Rattle.razor_core.specs.Outside.{seen}

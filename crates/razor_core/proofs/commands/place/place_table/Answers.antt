@@ -4,7 +4,7 @@ use Rattle.memory_text.specs.Memory.{Memory}
 use Rattle.memory_text.specs.MemoryText.{memory_text}
 use Rattle.memory_text.specs.Views.{memory_of}
 use Rattle.memory_text.proofs.Texts.{memory-read}
-use Rattle.razor_core.specs.Commands.Place.{placing}
+use Rattle.razor_core.specs.Commands.Place.{placing, IsTextOfMemory}
 use Rattle.razor_core.specs.Inputs.{table_input}
 use Rattle.razor_core.specs.Outside.{seen}
 use Rattle.razor_core.specs.Taking.{table_value_of}
@@ -12,7 +12,6 @@ use Rattle.razor_core.proofs.Behind.{over_ends, written_over}
 use Rattle.razor_core.proofs.Ended.{IsPlain, only_turn_ends}
 use Rattle.razor_core.proofs.Passing.{one_passes}
 use Rattle.razor_core.proofs.Turns.{kept}
-use Rattle.razor_core.specs.Commands.Place.{IsTextOfMemory}
 use Rattle.razor_core.specs.declared.ending.Ending.TheVariants.{TooMany}
 use Rattle.razor_core.proofs.SlotEnding.{room_free}
 use Rattle.razor_core.proofs.commands.place.place_table.Goals as goal

@@ -1,6 +1,6 @@
 use Rattle.std.proofs.Common.{List, [], refl, subst, sym, ℕ, ◌∷◌}
 use Rattle.ternary_words.specs.Views.{table_of}
-use Rattle.ternary_words.proofs.TableTexts.{table-read}
+use Rattle.table_text.proofs.TableTexts.{table-read}
 use Rattle.razor_core.specs.Commands.Trim.{trimming}
 use Rattle.razor_core.specs.Inputs.{table_input}
 use Rattle.razor_core.specs.Outside.{seen}

@@ -1,9 +1,8 @@
 use Rattle.std.proofs.Common.{◌≡◌, ◌<◌, ◌∷◌, ◌++◌, [], ap, arith, refl, sym, ◌∙◌, subst, take, length}
 use Rattle.std.specs.HashMap.{get}
-use Rattle.std.specs.Prelude.{All, Some, map, IfSome}
+use Rattle.std.specs.Prelude.{All, Some, map, IfSome, OnOk, Result, Ok, Err}
 use Rattle.std.proofs.lemmas.Option.{slice_get-get_or}
 use Rattle.std.proofs.lemmas.Result.{on_ok_weaker}
-use Rattle.razor_base.proofs.Streams.{on_ok}
 use Rattle.node_store.specs.Diagram.{level_of}
 use Rattle.node_store.specs.Levels.{HasField, IsLevel}
 use Rattle.node_store.proofs.Canonical.{is_level}
@@ -21,6 +20,11 @@ use Rattle.redundancy.proofs.Removals.{memo_stays}
 use Rattle.redundancy.proofs.Ends.{moved, two_end, before_pairs}
 use Rattle.redundancy.proofs.LayerDrafts.{draft_start, draft_next, draft_full, above_front, apart_front, end_inside, numbers_now, changes_now, layer_end, pairs_listed, run_clause, answers_room}
 use Rattle.redundancy.proofs.blocks.Blocks.+sift.Goals as goal
+
+-- a fact holds also where a result is Ok
+on_ok : {T E P : Type 0} (r : Result T E) → P → OnOk r P
+on_ok (Ok x) p = p
+on_ok (Err e) p = tt
 
 pub sift-last-requires : goal.sift-last-requires
 sift-last-requires t c =

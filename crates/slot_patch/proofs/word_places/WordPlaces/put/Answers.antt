@@ -1,8 +1,9 @@
-use Rattle.std.proofs.Common.{◌∙◌, refl, ap, sym}
-use Rattle.slot_patch.specs.declared.key.Key.{Key}
-use Rattle.ternary_words.specs.declared.word.Word.{Word}
-use Rattle.slot_patch.specs.declared.word_places.WordPlaces.{WordPlaces}
+use Rattle.std.proofs.Common.{◌≡◌, ℕ, Option, Some, None, cond, refl, subst, sym}
+use Rattle.std.specs.HashMap.{get}
 use Rattle.std.specs.Vec.{with_item}
+use Rattle.ternary_words.specs.declared.word.Word.{Word}
+use Rattle.slot_patch.specs.Finding.{same_word}
+use Rattle.slot_patch.specs.declared.word_places.WordPlaces.{WordPlaces}
 use Rattle.slot_patch.proofs.NextPlaces.{places-put}
 use Rattle.slot_patch.proofs.word_places.WordPlaces.put.Goals as goal
 
@@ -10,6 +11,6 @@ pub returns : goal.returns
 returns c = λ entries entry at word h.
     let before = c.args.self.now in
     let now : WordPlaces = record { first = c.insert.new.self; next = with_item before.next c.args.place c.in_ok-behind.behind } in
-    places-put entries c.args.place entry before now c.of.result c.in_ok-behind.behind at c.requires
-    (c.of.ensures ∙ ap (λ (w : Word). let k : Key = record { mask = w.mask; value = w.value } in k) (sym word))
-    (c.in_ok-behind.ensures.old) (c.in_ok-behind.ensures.updates.0) refl h
+    let old = subst (λ (w : Word). c.in_ok-behind.behind ≡ get same_word before.first w) (sym word) c.in_ok-behind.ensures.old in
+    let put = subst (λ (w : Word). (q : Word) → get same_word now.first q ≡ cond (same_word w q) (Some c.args.place) (get same_word before.first q)) (sym word) c.in_ok-behind.ensures.updates.0 in
+    places-put entries c.args.place entry before now c.in_ok-behind.behind at c.requires old put refl h

@@ -1,5 +1,5 @@
 use Rattle.std.proofs.Common.{subst}
-use Rattle.redundancy_laws.specs.Built.{ArePrefixes}
+use Rattle.ternary_words.specs.Entries.{ArePrefixes}
 use Rattle.library_tests.proofs.tests.tables.removing.removed.Goals as goal
 
 pub remove-requires : goal.remove-requires

@@ -1,0 +1,16 @@
+pub mod Headline
+pub mod Lines
+pub mod Heading
+pub mod Names
+pub mod Trits
+pub mod Columns
+pub mod Reading
+pub mod Reasons
+pub mod Refused
+pub mod Seen
+pub mod HeadingViews
+pub mod ColumnViews
+pub mod ColumnBounds
+pub mod EntryViews
+pub mod EntriesViews
+pub mod UpperCase

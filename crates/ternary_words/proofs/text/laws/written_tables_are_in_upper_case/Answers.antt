@@ -1,5 +1,0 @@
-use Rattle.ternary_words.proofs.UpperTexts.{table-upper}
-use Rattle.ternary_words.proofs.text.laws.written_tables_are_in_upper_case.Goals as goal
-
-pub returns : goal.returns
-returns c = λ table named. table-upper table named
