@@ -25,8 +25,6 @@ MOST_LINES = 200_000
 Span = tuple[int, int]
 # A span in each field.
 Box = tuple[Span, ...]
-# Boxes as spans of the first field, each with the tree of what follows.
-Tree = list[tuple[Span, "Tree"]]
 
 
 @dataclasses.dataclass(frozen=True, order=True)
@@ -42,6 +40,14 @@ class Changed:
         """The least header of the box."""
         source, destination, source_port, destination_port, protocol = (low for low, _ in self.box)
         return Header(source, destination, source_port, destination_port, protocol)
+
+
+@dataclasses.dataclass(frozen=True)
+class Branch:
+    """A span of a field, and the branches of the field behind it."""
+
+    span: Span
+    below: list["Branch"]
 
 
 @dataclasses.dataclass(frozen=True)
@@ -149,24 +155,25 @@ def box_of(line: str) -> Box:
     return tuple((int(low), int(high)) for low, high in pairs)
 
 
-def tree(boxes: list[Box]) -> Tree:
-    """The boxes as a tree; they come in rising order."""
+def tree(boxes: list[Box]) -> list[Branch]:
+    """The boxes as spans of the first field, each with the branches behind it; they come in rising order."""
     if not boxes or not boxes[0]:
         return []
-    return [(span, tree([box[1:] for box in group])) for span, group in itertools.groupby(boxes, key=lambda box: box[0])]
+    return [Branch(span, tree([box[1:] for box in group])) for span, group in itertools.groupby(boxes, key=lambda box: box[0])]
 
 
-def meeting(left: Tree, right: Tree, front: Box = ()) -> Iterator[Box]:
+def meeting(left: list[Branch], right: list[Branch], front: Box = ()) -> Iterator[Box]:
     """The boxes in which a box of one tree meets one of the other."""
     if len(front) == len(WHOLE):
         yield front
         return
     at = 0
-    for (low, high), below in left:
-        while at < len(right) and right[at][0][1] < low:
+    for one in left:
+        low, high = one.span
+        while at < len(right) and right[at].span[1] < low:
             at += 1
-        for (low_of_right, high_of_right), below_right in itertools.takewhile(lambda it: it[0][0] <= high, itertools.islice(right, at, None)):
-            yield from meeting(below, below_right, (*front, (max(low, low_of_right), min(high, high_of_right))))
+        for other in itertools.takewhile(lambda it: it.span[0] <= high, itertools.islice(right, at, None)):
+            yield from meeting(one.below, other.below, (*front, (max(low, other.span[0]), min(high, other.span[1]))))
 
 
 def joined(pieces: list[Changed]) -> list[Changed]:

@@ -179,9 +179,9 @@ class Change:
     @functools.cached_property
     def rows(self) -> list[tuple[int | None, int | None]]:
         """The rules as a patch shows them: the place of each in the old version and in the new one, of which one may be missing."""
-        sides = [[(rule.spans, rule.decision) for rule in version.rules] for version in (self.old, self.new)]
+        before, behind = ([(rule.spans, rule.decision) for rule in version.rules] for version in (self.old, self.new))
         found: list[tuple[int | None, int | None]] = []
-        for tag, first, last, first_of_new, last_of_new in difflib.SequenceMatcher(None, *sides, autojunk=False).get_opcodes():
+        for tag, first, last, first_of_new, last_of_new in difflib.SequenceMatcher(None, before, behind, autojunk=False).get_opcodes():
             if tag == "equal":
                 found += zip(range(first, last), range(first_of_new, last_of_new))
             else:
