@@ -86,11 +86,11 @@ def examples():
     return below(ROOT / "examples", lambda path: True)
 
 
-def scripts():
-    """The scripts that want nothing but Python, and their sources, below a prefix."""
+def scripts(folder=SOURCES):
+    """The scripts that want nothing but Python, and in this folder their sources, below a prefix."""
     sources = below(ROOT / "python", lambda path: path.suffix in (".py", ".css", ".typed") and "tcam_razor" in path.parts)
-    commands = {f"bin/{command}": SCRIPT.format(sources=SOURCES, module=module).encode() for command, module in COMMANDS.items()}
-    return {**commands, **under(SOURCES, sources)}
+    commands = {f"bin/{command}": SCRIPT.format(sources=folder, module=module).encode() for command, module in COMMANDS.items()}
+    return {**commands, **under(folder, sources)}
 
 
 def readme(proved):

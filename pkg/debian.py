@@ -16,7 +16,7 @@ Architecture: {architecture}
 Maintainer: {maintainer}
 Installed-Size: {size}
 Depends: libc6 (>= {libc})
-Recommends: python3
+Recommends: python3 (>= 3.10)
 Suggests: nftables, openvswitch-switch
 Section: net
 Priority: optional
@@ -51,6 +51,9 @@ Files: *
 License: MIT
 """
 
+# Where Debian's Python looks for packages.
+MODULES = "lib/python3/dist-packages"
+
 # Where each shell looks for the completions of packages.
 SHELLS = {
     "bash": "usr/share/bash-completion/completions/razor",
@@ -69,7 +72,7 @@ def files(changes, proved):
     texts = f"usr/share/doc/{name_of(proved)}"
     return {
         "usr/bin/razor": contents.program(),
-        **under("usr", contents.scripts()),
+        **under("usr", contents.scripts(MODULES)),
         **{f"usr/share/man/man{name[-1]}/{name}.gz": zipped(data) for name, data in contents.manual().items()},
         **{SHELLS[shell]: text for shell, text in contents.completions().items()},
         f"{texts}/README.md": contents.readme(proved),

@@ -1,7 +1,11 @@
 """Which words spell a command. What is wanted are the rules of docs/razor.1.md, and the worked rows of `command_words`."""
 import pathlib
-import tomllib
 import unittest
+
+try:
+    import tomllib
+except ModuleNotFoundError:
+    raise unittest.SkipTest("tomllib came with Python 3.11") from None
 
 from tcam_razor import grammar
 from tcam_razor.grammar import File

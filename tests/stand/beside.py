@@ -67,5 +67,5 @@ def expect_taken(listing, allowed):
 
 def expect_most_loaded(seen, count):
     """A draw that the kernel mostly refuses tries nothing."""
-    if seen["taken"] * 2 < count:
+    if count >= 20 and seen["taken"] * 2 < count:
         raise cases.Wrong(f"of {count} rulesets {seen['taken']} were loaded and imported")

@@ -87,7 +87,7 @@ class Log:
         self.socket = socket.socket(socket.AF_NETLINK, socket.SOCK_RAW, NFNETLINK)
         self.socket.setsockopt(socket.SOL_SOCKET, socket.SO_RCVBUF, 1 << 26)
         self.socket.bind((0, 0))
-        self.socket.settimeout(5)
+        self.socket.settimeout(60)
         for group in (TAGS, OWN):
             self.configure(group, attribute(1, b"\x01"))  # listen to this group
             self.configure(group, attribute(2, struct.pack("!IBx", 20, 2)))  # copy the header of IPv4

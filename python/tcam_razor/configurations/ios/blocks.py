@@ -10,7 +10,8 @@ from dataclasses import dataclass, field
 from ..addresses import is_number
 from ..names import IOS_PROTOCOLS
 
-ENTRY = re.compile(r"(\d+ )?(permit|deny|remark|evaluate|dynamic)\b|no (\d|permit|deny|remark)")
+# What looks like an entry, also where it is cut short or in capitals, so that it is refused and not passed over.
+ENTRY = re.compile(r"\d+ |(no )?(per(m(it?)?)?|de(ny?)?|rem(a(rk?)?)?|evaluate|dynamic)\b|no \d", re.IGNORECASE)
 MEMBER = re.compile(rf"(host|range|group-object|description|any|ip|tcp-udp|{'|'.join(IOS_PROTOCOLS)})\b|\d+(\.\d+){{3}}\b|\d+$")
 # Lists of other kinds, whose lines look alike.
 OTHER_LIST = re.compile(r"(ip|ipv6|mac) access-list ")

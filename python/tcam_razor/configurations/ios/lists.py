@@ -4,11 +4,15 @@ from __future__ import annotations
 from dataclasses import dataclass
 
 from .. import fields
+from ..addresses import is_number
 from ..listing import Assumed, Listing, Refused, Source
 from ..words import Words
 from .blocks import LIST, Block, Blocks, Line
 from .entries import Entry
 from .groups import Groups
+
+
+MOST_SEQUENCE = 4294967295
 
 
 def read(text: str, dialect: str, pick: str | None, assumed: Assumed, listing: Listing) -> str:
@@ -80,7 +84,7 @@ class Reader:
     def sequence(self, words: Words) -> None:
         """Sequence numbers rise, and all entries have one, or none; others needn't have one."""
         if words.next.isdigit():
-            number = int(words.take())
+            number = int(words.take()) if is_number(words.next, MOST_SEQUENCE) else self.before
             if number <= self.before:
                 raise Refused(f"sequence number isn't above {self.before}: import what the device shows of the list")
             if self.has_sequence is False:

@@ -1,6 +1,7 @@
 """The options of a rule: its conditions as boxes of headers, and its target."""
 from __future__ import annotations
 
+import re
 import shlex
 from dataclasses import dataclass, field
 from typing import NamedTuple
@@ -16,6 +17,7 @@ from ..words import Words
 MATCHES = frozenset("comment conntrack dccp icmp iprange multiport sctp state tcp udp udplite".split())
 # Targets that decide nothing.
 PASSING = ("LOG", "NFLOG")
+REJECTION = re.compile(r"(icmp|tcp)-[a-z-]{1,20}")
 BOTH_NEGATED = "both ports negated: iptables-nft 1.8.9 takes it for not both, iptables-legacy for neither; write it as rules with a RETURN"
 
 
@@ -103,7 +105,10 @@ class Reading:
         if self.words.next != "--reject-with":
             return "icmp-port-unreachable"
         self.words.take()
-        return self.words.take()
+        answer = self.words.take()
+        if not REJECTION.fullmatch(answer):
+            raise Refused(f"--reject-with {answer}")
+        return answer
 
     def condition(self, option: str, is_negated: bool) -> list[Box]:
         """The headers that an option asks for."""

@@ -31,11 +31,11 @@ class Conditions:
         match kind, what:
             case "concat", _:
                 return self.concatenation(what, operator, right)
-            case "payload", {"protocol": protocol, "field": name}:
+            case "payload", {"protocol": protocol, "field": name, **more} if not more:
                 return [self.payload(protocol, name, operator, right)]
-            case "meta", {"key": key}:
+            case "meta", {"key": key, **more} if not more:
                 return [self.meta(key, operator, right)]
-            case "ct", {"key": "state"}:
+            case "ct", {"key": "state", **more} if not more:
                 return holds(self.state(operator, right), f"state={self.assumed.state}")
             case "&", [{"payload": {"protocol": "ip", "field": "frag-off"}}, 0x1FFF] if right == 0 and operator in ("==", "!="):
                 return self.fragments(operator)
@@ -87,7 +87,7 @@ class Conditions:
         if name is None:
             raise Refused(f"{key}: say --assume {side}=NAME")
         asked = self.sets.elements(right)
-        if not all(isinstance(element, str) for element in asked):
+        if not all(isinstance(element, str) and "\\" not in element for element in asked):
             raise Refused(f"{key} {right}")
         fits = any(is_named(name, element, key.endswith("name")) for element in asked)
         holds(fits == (operator == "=="), f"{side}={name}")

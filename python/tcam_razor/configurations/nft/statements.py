@@ -25,7 +25,7 @@ def steps(statements: list[Statement], conditions: Conditions, family: str) -> l
             rule.read(statement)
         except Refused as refused:
             rule.refusal = rule.refusal or refused
-        except (AttributeError, IndexError, KeyError, TypeError, ValueError):
+        except (AttributeError, IndexError, KeyError, RecursionError, TypeError, ValueError):
             rule.refusal = rule.refusal or Refused("a statement of a form that isn't known")
     for pair in NEIGHBOURS:
         if set(pair) <= negated(statements):
