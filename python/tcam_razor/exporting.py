@@ -70,11 +70,11 @@ def verdicts(dialect: str, name: str, call: Mapping[str, str]) -> dict[str, str]
 def read(rules: List) -> list[lists.Rule]:
     """The rules of a list. What is wrong with it the program says, where it is there."""
     try:
-        return lists.rules_of("", rules.text.split("\n"))
-    except ValueError as fault:
+        return lists.rules_of(rules.name, rules.text.split("\n"))
+    except BadText:
         with contextlib.suppress(NotFound):
             program.equiv(rules, rules, flags=True)
-        raise BadText(rules.name, str(fault).removeprefix(": ")) from None
+        raise
 
 
 def box_of(rule: lists.Rule) -> Box:
