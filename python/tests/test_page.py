@@ -1,4 +1,4 @@
-"""The page about configurations: its commands run as they stand, and write what it shows."""
+"""The page about configurations: its commands run as they stand, and write what it shows; and the manual has all their options."""
 import os
 import pathlib
 import re
@@ -6,12 +6,24 @@ import subprocess
 import tempfile
 import unittest
 
-from tests.calling import PACKAGE, with_program
+from tests.calling import PACKAGE, call, with_program
 from tests.test_exporting import with_nft
 
 ROOT = PACKAGE.parent
 PAGE = ROOT / "docs/CONFIGURATIONS.md"
 EXAMPLE = re.compile(r"```sh\n(.*?)```\n\n```text\n(.*?)```", re.DOTALL)
+
+
+MANUAL = ROOT / "docs/man/razor-import.1"
+CALLS = (["importing"], ["exporting"], ["lines"], ["data", "equiv"], ["data", "audit"], ["judge"])
+
+
+@unittest.skipUnless(MANUAL.exists(), "the package stands by itself")
+class Manual(unittest.TestCase):
+    def test_it_has_the_options_of_all_commands(self):
+        helped = "".join(call(*words, "--help").stdout for words in CALLS)
+        options = set(re.findall(r"(?<![\w-])--([a-z]+)", helped)) - {"help"}
+        self.assertEqual(options, set(re.findall(r"^\.It Fl -([a-z]+)", MANUAL.read_text(), re.MULTILINE)))
 
 
 @unittest.skipUnless(PAGE.exists(), "the package stands by itself")
