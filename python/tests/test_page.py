@@ -32,13 +32,17 @@ class Page(unittest.TestCase):
     def expect(self, number):
         commands, shown = EXAMPLE.findall(PAGE.read_text())[number]
         with tempfile.TemporaryDirectory() as folder:
-            pathlib.Path(folder, "tools").symlink_to(ROOT / "tools")
+            for name in ("examples", "python", "tools"):
+                pathlib.Path(folder, name).symlink_to(ROOT / name)
             pathlib.Path(folder, "razor").symlink_to(pathlib.Path(os.environ["RAZOR"]).resolve())
             ended = subprocess.run(["bash", "-e", "-o", "pipefail", "-c", commands.replace("./razor equiv", "! ./razor equiv")], cwd=folder, capture_output=True, text=True)
         self.assertEqual((0, shown), (ended.returncode, ended.stdout), ended.stderr)
 
     def test_an_access_list_of_ios(self):
         self.expect(0)
+
+    def test_calls_from_python(self):
+        self.expect(2)
 
     @with_nft
     def test_a_chain_of_nftables(self):
