@@ -7,6 +7,8 @@ import signal
 import sys
 from typing import Any, Callable, NoReturn
 
+from .script import shown
+
 # Statuses; those of the program.
 DONE, DIFFERENT, MISUSED, REFUSED, UNREADABLE, UNWRITTEN = 0, 1, 2, 3, 5, 6
 # What is needed to answer isn't there.
@@ -75,8 +77,8 @@ def answer(text: str) -> None:
 
 
 def tell(line: str) -> None:
-    """Says something beside the answer, in one line."""
-    print(line.encode("utf-8", "backslashreplace").decode(), file=sys.stderr)
+    """Says something beside the answer, in one line, of which nothing is obeyed by a terminal."""
+    print(shown(line), file=sys.stderr)
 
 
 def call(command: Callable[[list[str]], int]) -> NoReturn:

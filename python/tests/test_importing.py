@@ -35,6 +35,12 @@ class Importing(unittest.TestCase):
                          "-: no list written, 2 faults\n", ended.stderr)
         self.assertEqual(3, ended.returncode)
 
+    def test_what_is_told_moves_no_terminal(self):
+        for text in ("permit tcp any any \x1b[31m\n", "ip access-list extended A\n permit \x1b[31m any any\n"):
+            ended = call("importing", "ios", "-", given=text)
+            self.assertIn("\\x1b[31m", ended.stderr)
+            self.assertNotIn("\x1b", ended.stderr)
+
     def test_lists_and_chains_are_picked(self):
         for dialect, text, pick, name, rules in (("ios", TWO, "B", "B", 2), ("iptables", SAVE, "INPUT", "filter INPUT", 2), ("iptables", SAVE, None, "filter INPUT", 2),
                                                  ("iptables", SAVE, "mangle INPUT", "mangle INPUT", 2), ("nft", sample("vmap.json"), "inet t input", "inet t input", 15),
