@@ -2,26 +2,26 @@
 
 INTRODUCTION = """# The headline
 
-`.ci/docs/headline` writes this page from the sources. The gate fails where it isn't current, where the headline stands on more than 100 definitions, or where one of the specifications' stands outside the folders `specs/Headline`.
+`.ci/docs/headline` writes this page from the sources. The gate fails where it isn't current, where the headline stands on more than 110 definitions, or where one of the specifications' stands outside the folders `specs/Headline`.
 
 ## What is claimed
 
-For the literal words `compile`, `--`, FILE alone, whatever FILE is called: where the call ends with status 0, the bytes of FILE spell a filter list, and what was written is the text of a table such that
+For the literal words `compile`, `--`, FILE alone, whatever FILE is called: where the call ends with status 0, FILE was read to its end in this call, the bytes that were read spell a filter list, and what was written in this call is the text of a table such that
 
 - for every header, the first entry that matches decides what the first rule that matches decides, or nothing where no rule matches;
 - no entry can be left out: without it some header is decided otherwise;
 - the table has at most as many entries as the field-by-field least cost of the list, and states that cost as `composed`;
 - each word has 104 trits, each slot 144.
 
-The theorem is the clause `headline` of the function `razor`, the one call that `main` makes (`crates/razor_core/src/top.rt`). Files are read from `desk`, `out` is the output, `.old` and `.new` are before and after the call, `.now` is the value behind a shared reference, and `result` is the status:
+The theorem is the clause `headline` of the function `razor` (`crates/razor_core/src/top.rt`). Files are read from `desk`, `out` is the output, `.old` and `.new` are before and after the call, `.now` is the value behind a shared reference, and `result` is the status. `D.reads` is the list of the reads that were made of a desk, and `K.written` that of the writes to an output, as the first section says:
 
 ```
 ensures headline {clause}
 ```
 
-`Appends`, of the library, says: where the output tells its bytes, they are those of before and then `written`. Beside it stand `arranged` and `shortened`, for `arrange -- FILE` and `shorten -- FILE`, and `promise`, for every command, status and spelling ([THEOREMS.md](THEOREMS.md)); their definitions aren't here.
+It holds of every desk and every output. `main` calls `run_over` (`crates/razor_cli/src/program.rt`), which has the same clause of the system's files and streams; there each of these lists is what a recorder noted, and that notes bytes, or an end, only in a read or a write of the system that it makes itself ([THEOREMS.md](THEOREMS.md)). Beside `headline` stand `arranged` and `shortened`, for `arrange -- FILE` and `shorten -- FILE`, `reads` and `writes`, which say what is read and written in which order, and `promise`, for every command, status and spelling; their definitions aren't here.
 
-**Assumed:** the toolchain (prover, compiler, C library), and that the desk and the output tell their bytes. Real files don't, so of them the clause says nothing; THEOREMS has the argument in its place. **Proved:** the clause, over every desk and output, of the code that runs over real files. **Tested:** the program over real files.
+**Assumed:** the toolchain (prover, compiler, C library); that the few lines of `main` hand on the words, the files, the two streams and the status; and what the system's reads and writes do. **Proved:** the clause. **Tested:** the program over real files.
 
 ## What has to be read
 
@@ -40,7 +40,7 @@ The library's words:
 # Words of the library, and what they say.
 LIBRARY = [
     ("ℕ zero suc ◌+◌ ◌-◌ ◌*◌ ◌/◌ ◌%◌ ◌^◌ min max", "whole numbers from 0, and their arithmetic; `-` stops at 0, `/` rounds down, `%` is the remainder"),
-    ("◌≡◌ ◌≢◌ ◌<◌ ◌≤◌", "equal, not equal, less, at most: statements"),
+    ("◌≡◌ ◌≢◌ ◌<◌ ◌≤◌ ◌⊎◌", "equal, not equal, less, at most, one or the other: statements"),
     ("Bool true false not ◌&&◌ ◌||◌ ◌==◌ nat_eq nat_lt nat_le beq bytes_eq if◌then◌else◌", "truth values, and tests that give one: of numbers, of truth values, of texts"),
     ("List [] ◌∷◌ ◌++◌ length map filter fold flat_map take drop", "lists: joined, their length, each item mapped, those that pass a test, summed up from the left, mapped and joined, the first n, all but the first n"),
     ("slice_get slice_index remove", "the item at a place counted from 0: if there is one, or else 0; the list without the item at a place"),
@@ -49,12 +49,18 @@ LIBRARY = [
     ("onto_first ends_with", "a byte in front of the first text of a list, which is a new text where there is none; whether a text ends with another"),
     ("Option Some None is_some unwrap_or option_map option_map_or option_and_then", "a value or none: whether there is one, it or else another, a function of it, a function of it or else another, a step that may give none"),
     ("Result Ok Err ok_or", "a value or a reason; a value, or this reason where there is none"),
+    ("IfOk OnOk OnErr", "that something holds of a value, where there is one; that something holds where there is one, and where there is a reason"),
     ("codes decimal", "the bytes of a literal text; the bytes of a number in decimal digits"),
     ("digit_value is_ascii is_ascii_alphanumeric", "what a digit or a letter is worth, from 0 to 35, and 36 for any other byte; a byte below 128; a letter or a digit of ASCII"),
 ]
 
 # The sections: their titles, what they say, and the files of specs/ in the order in which they are read.
 SECTIONS = [
+    (
+        "What is read and written",
+        "A desk gives the bytes of named inputs, and an output takes bytes. Each tells the list of the calls that were made of it. A read or a write of a piece of bytes that isn't empty adds one item to that list, whatever it comes to.",
+        [("razor_base", "Headline.Outcomes"), ("razor_base", "Headline.Readings"), ("razor_limits", "Counts"), ("razor_base", "desk"), ("razor_base", "sink")],
+    ),
     (
         "Headers and rules",
         "A header has five fields: source address, destination address, source port, destination port and protocol. A rule has a set of values for each of them, and the first rule that matches a header decides it (the classifier model of the Razor papers, Meiners, Liu, Torng 2007 and 2010). A decision is a name: a text of bytes.",

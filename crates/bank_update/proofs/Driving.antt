@@ -1,23 +1,24 @@
 -- Runs of commands, one turn after another.
-use Rattle.std.proofs.Common.{◌≡◌, ℕ, zero, suc, ◌+◌, ◌≤◌, ◌<◌, Bool, List, [], ◌∷◌, ◌++◌, Option, Result, Ok, Err, inl, inr, refl, sym, ap, subst, ◌∙◌, append-nil, length, get_or, take, drop, take-append-drop, arith}
+use Rattle.std.proofs.Common.{◌≡◌, ℕ, zero, suc, ◌+◌, ◌≤◌, ◌<◌, Bool, List, [], ◌∷◌, ◌++◌, Result, Ok, Err, inl, inr, refl, sym, ap, subst, ◌∙◌, append-nil, length, get_or, take, drop, take-append-drop, arith}
 use Rattle.std.specs.List.{concat}
 use Rattle.std.specs.Prelude.{All, IsErrAnd}
 use Rattle.std.proofs.lemmas.List.{get_or-map, length-map, map-append, take_more}
 use Rattle.std.proofs.lemmas.List.Elements.{All-get_or}
 use Rattle.std.proofs.lemmas.List.Folds.{concat-append}
-use Rattle.std.specs.Io.KnownBytes.{Appends}
-use Rattle.std.proofs.KnownBytes.{Appends-nil, Appends-trans}
+use Rattle.razor_base.proofs.Output.{Appends-nil, Appends-trans}
+use Rattle.razor_base.proofs.Writing.{refused-then, taken-then}
+use Rattle.razor_base.specs.Headline.Outcomes.{CallOutcome, Extends}
 use Rattle.razor_limits.specs.Counts.{counted}
 use Rattle.tcam_sim.specs.Tries.{counted_times}
 use Rattle.ternary_words.specs.declared.table.Table.{Table}
 use Rattle.bank_update.specs.Machine.{State}
 use Rattle.bank_update.specs.Script.{Event, IsWithin}
-use Rattle.razor_base.specs.Output.{Writes}
+use Rattle.razor_base.specs.Output.{Appends, AreTaken, Writes}
 use Rattle.bank_update.specs.declared.drive.DriveError.{DriveError}
 use Rattle.bank_update.specs.declared.drive.DriveError.TheVariants as errors
 use Rattle.bank_update.specs.declared.script.Command.{Command}
 use Rattle.bank_update.specs.Commands.{event_of, events_of}
-use Rattle.bank_update.specs.Driven.{HasRun, HasRunFront, IsCutOff, Outcome, RanFront, UnlessWriteFault}
+use Rattle.bank_update.specs.Driven.{AreWritesOf, HasRun, HasRunFront, IsCutOff, Outcome, RanFront, UnlessWriteFault}
 use Rattle.bank_update.specs.Turns.{TakesTurn}
 use Rattle.bank_update.specs.Runs.{IsRun, IsTriedRun, RoseBy, Turn, fault_count, faults_of, line_of, lines_of, next, state_after, tries_of, try_count}
 
@@ -84,7 +85,7 @@ tried-turn {tables = tables} {start = start} {s = s} {p = p} event fails h is ro
     }
 
 -- no command ran yet, and nothing was written
-pub has-run-none : {S : Type 0} (w : S → Option (List ℕ)) (a : S) {tables : List Table} {s : State} {m p : ℕ} → HasRun (IsTriedRun tables s s m m p p) (Appends (w a) (w a)) []
+pub has-run-none : {S : Type 0} (w : S → List CallOutcome) (a : S) {tables : List Table} {s : State} {m p : ℕ} → HasRun (IsTriedRun tables s s m m p p) (Appends (w a) (w a)) []
 has-run-none w a = record {
   lines = [];
   ran = record { run = record { turns = []; commands = refl; state = refl; printed = refl; counted = inl (omega arith) }; once = refl };
@@ -111,7 +112,7 @@ runs-of tables start last m n p q Appended events (Err errors.WriteFault) h = re
 }
 
 -- the next command takes its turn, and its line is written
-pub goes-on : {S T E : Type 0} (w : S → Option (List ℕ)) {f : S → ℕ} (o : Option (List ℕ)) (a b : S) {tables : List Table} {start old new : State} {m n p t u v : ℕ} (events more : List Event) {event : Event} {x : T} (r : Result T E) → r ≡ Ok x →
+pub goes-on : {S T E : Type 0} (w : S → List CallOutcome) {f : S → ℕ} (o : List CallOutcome) (a b : S) {tables : List Table} {start old new : State} {m n p t u v : ℕ} (events more : List Event) {event : Event} {x : T} (r : Result T E) → r ≡ Ok x →
     HasRun (IsTriedRun tables start old m n t u) (Appends o (w a)) events → TakesTurn w f a b tables old new n p u v event r → more ≡ events ++ event ∷ [] →
     HasRun (IsTriedRun tables start new m p t v) (Appends o (w b)) more
 goes-on w {f = f} o a b {tables = tables} {start = start} {old = old} {new = new} {m = m} {n = n} {p = p} {t = tried} {v = tries} events more {event = event} r ok h t is =
@@ -125,7 +126,7 @@ goes-on w {f = f} o a b {tables = tables} {start = start} {old = old} {new = new
     }
 
 -- the next command takes its turn, and its line is cut off
-pub is-cut-off : {S T E : Type 0} (w : S → Option (List ℕ)) {f : S → ℕ} (o : Option (List ℕ)) (a b : S) {tables : List Table} {start old new : State} {m n p t u v : ℕ} {event : Event} {e : E} (events : List Event) (i : ℕ) (r : Result T E) → r ≡ Err e →
+pub is-cut-off : {S T E : Type 0} (w : S → List CallOutcome) {f : S → ℕ} (o : List CallOutcome) (a b : S) {tables : List Table} {start old new : State} {m n p t u v : ℕ} {event : Event} {e : E} (events : List Event) (i : ℕ) (r : Result T E) → r ≡ Err e →
     HasRun (IsTriedRun tables start old m n t u) (Appends o (w a)) (take i events) → TakesTurn w f a b tables old new n p u v event r → take (i + 1) events ≡ take i events ++ event ∷ [] →
     IsCutOff (IsTriedRun tables start new m p t v) (Appends o (w b)) events
 is-cut-off w {f = f} o a b {tables = tables} {start = start} {old = old} {new = new} {m = m} {n = n} {p = p} {t = tried} {v = tries} {event = event} events i r err h t is =
@@ -144,7 +145,7 @@ is-cut-off w {f = f} o a b {tables = tables} {start = start} {old = old} {new = 
     }
 
 -- the next command isn't done: nothing has changed
-pub stopped-before : {S : Type 0} (w : S → Option (List ℕ)) (o : Option (List ℕ)) (a b : S) {tables : List Table} {start s : State} {m n u v : ℕ} (t : State) (p tries : ℕ) (events : List Event) (i : ℕ) → t ≡ s → p ≡ n → tries ≡ v → b ≡ a →
+pub stopped-before : {S : Type 0} (w : S → List CallOutcome) (o : List CallOutcome) (a b : S) {tables : List Table} {start s : State} {m n u v : ℕ} (t : State) (p tries : ℕ) (events : List Event) (i : ℕ) → t ≡ s → p ≡ n → tries ≡ v → b ≡ a →
     HasRun (IsTriedRun tables start s m n u v) (Appends o (w a)) (take i events) → HasRunFront (IsTriedRun tables start t m p u tries) (Appends o (w b)) events
 stopped-before w o a b {tables = tables} {start = start} {s = s} {m = m} {n = n} {u = u} {v = v} t p tries events i state count tried out h = record {
   lines = h.lines;
@@ -164,10 +165,30 @@ write-failed (Ok n) is h = absurd is
 write-failed {Ran = Ran} {Appended = Appended} {events = events} (Err e) is h = subst (λ x. Outcome Ran Appended events (Err x)) (sym is) h
 
 -- no write failed where the line of a turn was written
-pub calm-turn : {S T E : Type 0} {w : S → Option (List ℕ)} {f : S → ℕ} {a b : S} {tables : List Table} {old new : State} {n p u v : ℕ} {event : Event} {x : T} (r : Result T E) → r ≡ Ok x →
+pub calm-turn : {S T E : Type 0} {w : S → List CallOutcome} {f : S → ℕ} {a b : S} {tables : List Table} {old new : State} {n p u v : ℕ} {event : Event} {x : T} (r : Result T E) → r ≡ Ok x →
     TakesTurn w f a b tables old new n p u v event r → f b ≡ f a
 calm-turn {w = w} {f = f} {a = a} {b = b} {tables = tables} {old = old} {event = event} r ok t =
     let writes = subst (Writes w f a b (line_of tables old event t.breaks)) ok t.line in writes.calm
+
+-- its writes took all of it
+pub written-turn : {S T E : Type 0} (w : S → List CallOutcome) {f : S → ℕ} (o : List CallOutcome) (a b : S) {tables : List Table} {old new : State} {n p u v : ℕ} {event : Event} {x : T} (r : Result T E) → r ≡ Ok x →
+    Extends o (w a) AreTaken → TakesTurn w f a b tables old new n p u v event r → Extends o (w b) AreTaken
+written-turn w {f = f} o a b {tables = tables} {old = old} {event = event} r ok so_far t =
+    let writes = subst (Writes w f a b (line_of tables old event t.breaks)) ok t.line in taken-then o (w a) (w b) so_far writes.tries
+
+-- or the last one failed, and stopped the run
+pub refused-turn : {S T E : Type 0} (w : S → List CallOutcome) {f : S → ℕ} (o : List CallOutcome) (a b : S) {tables : List Table} {old new : State} {n p u v : ℕ} {event : Event} {e : E} (r : Result T E) → r ≡ Err e →
+    Extends o (w a) AreTaken → TakesTurn w f a b tables old new n p u v event r → (result : Result ℕ DriveError) → IsErrAnd result (λ x. x ≡ errors.WriteFault) → Extends o (w b) (AreWritesOf result)
+refused-turn w o a b r err so_far t (Ok n) is = absurd is
+refused-turn w {f = f} o a b {tables = tables} {old = old} {event = event} r err so_far t (Err x) is =
+    let writes = subst (Writes w f a b (line_of tables old event t.breaks)) err t.line in
+    subst (λ (s : DriveError). Extends o (w b) (AreWritesOf (Err s))) (sym is) (refused-then o (w a) (w b) so_far writes.tries)
+
+-- where memory was refused none failed
+pub writes-out-of-memory : {S : Type 0} (w : S → List CallOutcome) (o : List CallOutcome) (a b : S) (result : Result ℕ DriveError) → IsErrAnd result (λ x. x ≡ errors.Memory) → b ≡ a → Extends o (w a) AreTaken → Extends o (w b) (AreWritesOf result)
+writes-out-of-memory w o a b (Ok n) is same so_far = absurd is
+writes-out-of-memory w o a b (Err x) is same so_far =
+    subst (λ (s : DriveError). Extends o (w b) (AreWritesOf (Err s))) (sym is) (subst (λ z. Extends o (w z) AreTaken) (sym same) so_far)
 
 -- nor where memory was refused
 pub calm-out-of-memory : {P : Type 0} (r : Result ℕ DriveError) → IsErrAnd r (λ e. e ≡ errors.Memory) → P → UnlessWriteFault r P

@@ -2,6 +2,7 @@
 use Rattle.std.proofs.Common.{◌≡◌, ℕ, ◌≤◌, true, false, List, length, Option, Some, None, Result, Ok, Err, inl, inr, refl, sym, ap, subst, ◌∙◌, arith}
 use Rattle.std.specs.Result.{result_ok}
 use Rattle.std.specs.Prelude.{◌↔◌, ok_or, IfOk, IfErr, OnOk, OnErr, is_some, option_map, if◌then◌else◌}
+use Rattle.razor_base.specs.Headline.Outcomes.{CallOutcome}
 use Rattle.razor_limits.specs.Counts.{counted, Rose}
 use Rattle.razor_base.specs.Output.{Writes}
 use Rattle.razor_base.proofs.Writing.{writes-is}
@@ -21,7 +22,7 @@ use Rattle.bank_update.specs.Runs.{RoseBy, begun_to_table, faults_of, line_of, n
 use Rattle.bank_update.specs.Turns.{TakesTurn, without_table}
 
 -- a command that doesn't write to the device
-pub takes-quietly : {S T E : Type 0} {w : S → Option (List ℕ)} {f : S → ℕ} {a b : S} {tables : List Table} {old new : State} {m n p q : ℕ} {event : script.Event} {x : Result T E} (line : List ℕ) →
+pub takes-quietly : {S T E : Type 0} {w : S → List CallOutcome} {f : S → ℕ} {a b : S} {tables : List Table} {old new : State} {m n p q : ℕ} {event : script.Event} {x : Result T E} (line : List ℕ) →
     new ≡ next tables old event false → faults_of old event false ≡ 0 → tries_of old event ≡ 0 → m ≡ n → p ≡ q → line ≡ line_of tables old event false → Writes w f a b line x →
     TakesTurn w f a b tables old new m n p q event x
 takes-quietly {w = w} {f = f} {a = a} {b = b} {m = m} {n = n} {p = p} line is none quiet same untried reads writes = record {
@@ -47,7 +48,7 @@ tried-by None p q once none = none refl
 tried-by (Some x) p q once none = once (λ e. absurd (let f = e in cc))
 
 -- a step that succeeds, that finds no swap pending, or that fails
-pub takes-step : {S T E : Type 0} {w : S → Option (List ℕ)} {f : S → ℕ} {a b : S} {tables : List Table} {old new : State} {m n p q : ℕ} {x : Result T E} (r : Result Stage StepRefusal) →
+pub takes-step : {S T E : Type 0} {w : S → List CallOutcome} {f : S → ℕ} {a b : S} {tables : List Table} {old new : State} {m n p q : ℕ} {x : Result T E} (r : Result Stage StepRefusal) →
     IfOk r (λ stage. step_answer old ≡ Some stage) → OnOk r (new ≡ stepped old) → (r ≡ Err refusals.Idle ↔ old.pending ≡ None) → OnErr r (new ≡ old) →
     (r ≡ Err refusals.DeviceFault → Rose m n) → m ≤ n → ((old.pending ≡ None → ⊥) → q ≡ counted p) → (old.pending ≡ None → q ≡ p) → Writes w f a b (step_line r) x →
     TakesTurn w f a b tables old new m n p q script.Step x
@@ -85,7 +86,7 @@ answer_as (Ok total) answer b ok err = sym ok
 answer_as (Err refused) answer b ok err = sym err.1
 
 -- a swap to a copy of a table begins, or is refused
-pub takes-begin : {S T E : Type 0} {w : S → Option (List ℕ)} {f : S → ℕ} {a b : S} {tables : List Table} {old new : State} {m n p q : ℕ} {x : Result T E} (number : ℕ) (table copy : Table) (r : Result ℕ (Table × BeginRefusal)) →
+pub takes-begin : {S T E : Type 0} {w : S → List CallOutcome} {f : S → ℕ} {a b : S} {tables : List Table} {old new : State} {m n p q : ℕ} {x : Result T E} (number : ℕ) (table copy : Table) (r : Result ℕ (Table × BeginRefusal)) →
     table_of_number tables number ≡ Some table → IsCopyOf table copy →
     IfOk r (λ total. begin_answer old (length copy.entries.items) ≡ Ok total) → IfErr r (λ refused. (refused.0 ≡ copy) × (begin_answer old (length copy.entries.items) ≡ Err refused.1)) →
     new ≡ begun old copy.entries.items copy.names → m ≡ n → p ≡ q → Writes w f a b (begin_line (without_table r)) x → TakesTurn w f a b tables old new m n p q (script.Begin number) x
@@ -102,6 +103,6 @@ stage-known None = refl
 stage-known (Some stage) = refl
 
 -- the same of the command as the code has it
-pub turn-is : {S T E : Type 0} {w : S → Option (List ℕ)} {f : S → ℕ} {a b : S} {tables : List Table} {old new : State} {m n p q : ℕ} {x : Result T E} {event other : script.Event} → other ≡ event →
+pub turn-is : {S T E : Type 0} {w : S → List CallOutcome} {f : S → ℕ} {a b : S} {tables : List Table} {old new : State} {m n p q : ℕ} {x : Result T E} {event other : script.Event} → other ≡ event →
     TakesTurn w f a b tables old new m n p q event x → TakesTurn w f a b tables old new m n p q other x
 turn-is {w = w} {f = f} {a = a} {b = b} {tables = tables} {old = old} {new = new} {m = m} {n = n} {p = p} {q = q} {x = x} is turn = subst (λ e. TakesTurn w f a b tables old new m n p q e x) (sym is) turn

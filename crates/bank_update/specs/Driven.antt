@@ -1,6 +1,8 @@
 -- How running a script ends, and what was written by then.
 use Rattle.std.specs.Prelude.{◌≡◌, ℕ, List, [], ◌∷◌, ◌++◌, length, Result, Ok, Err}
 use Rattle.std.specs.List.{concat}
+use Rattle.razor_base.specs.Headline.Outcomes.{CallOutcome}
+use Rattle.razor_base.specs.Output.{AreRefused, AreTaken}
 use Rattle.bank_update.specs.Script.{Event}
 use Rattle.bank_update.specs.declared.drive.DriveError.{DriveError}
 use Rattle.bank_update.specs.declared.drive.DriveError.TheVariants.{Memory, WriteFault}
@@ -45,3 +47,9 @@ abbrev pub UnlessWriteFault : Result ℕ DriveError → Type 0 → Type 0
 UnlessWriteFault (Ok count) P = P
 UnlessWriteFault (Err Memory) P = P
 UnlessWriteFault (Err WriteFault) P = Unit {0}
+
+-- the writes of a run: none failed, or the last one did, and that stopped it
+abbrev pub AreWritesOf : Result ℕ DriveError → List CallOutcome → Type 0
+AreWritesOf (Ok count) added = AreTaken added
+AreWritesOf (Err Memory) added = AreTaken added
+AreWritesOf (Err WriteFault) added = AreRefused added

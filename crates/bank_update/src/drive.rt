@@ -1,9 +1,10 @@
 //! Running a script: each command takes its turn, and its line is written.
 ghost use Rattle.std.specs.Prelude.{◌≡◌, ◌≤◌, [], length, All, IfOk, IsErrOf, OnErr};
-ghost use Rattle.std.specs.Io.KnownBytes.{Appends};
 ghost use Rattle.razor_limits.specs.Counts.{Rose};
+ghost use Rattle.razor_base.specs.Headline.Outcomes.{Extends};
+ghost use Rattle.razor_base.specs.Output.{Appends};
 ghost use Rattle.bank_update.specs.Commands.{event_of};
-ghost use Rattle.bank_update.specs.Driven.{Outcome, UnlessWriteFault};
+ghost use Rattle.bank_update.specs.Driven.{AreWritesOf, Outcome, UnlessWriteFault};
 ghost use Rattle.bank_update.specs.Runs.{IsTriedRun};
 ghost use Rattle.bank_update.specs.Script.{Begin, IsWithin};
 ghost use Rattle.bank_update.specs.Turns.{TakesTurn, without_table};
@@ -126,8 +127,9 @@ pub fn drive_on<K: Sink, V: Device>(
     ensures write_fault { IsErrOf result errors.WriteFault → Rose (K.faults out.old) (K.faults out.new) }
     ensures written { K.faults out.old ≤ K.faults out.new }
 
-    // However else it ends, also out of memory, no write failed.
+    // However else it ends, also out of memory, no write failed; one that failed is the last.
     ensures calm { UnlessWriteFault result (K.faults out.new ≡ K.faults out.old) }
+    ensures writes { Extends (K.written out.old) (K.written out.new) (AreWritesOf result) }
 {
     let mut pending = Pending::new();
     for command in &script.commands {

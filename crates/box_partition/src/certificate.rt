@@ -1,6 +1,7 @@
 //! The certificate of a list and a table.
 ghost use Rattle.std.specs.Prelude.{◌≡◌, ◌≤◌, List, [], ◌∷◌, ◌++◌, length, IfOk, IfErr, OnOk, IsErrOf};
 ghost use Rattle.razor_limits.specs.Counts.{Rose};
+ghost use Rattle.razor_base.specs.Headline.Outcomes.{Extends};
 ghost use Rattle.razor_base.specs.Output.{Puts};
 ghost use Rattle.field_boxes.specs.Headline.Fields.{stated};
 ghost use Rattle.node_store.specs.Diagram.{level_of};
@@ -8,7 +9,7 @@ ghost use Rattle.partition_check.specs.Agreement.{Agree};
 ghost use Rattle.partition_check.specs.Checking.{Statement};
 ghost use Rattle.partition_check.specs.Good.{certificate_text, last_text};
 ghost use Rattle.partition_check.specs.PrefixWords.{ArePrefixes};
-ghost use Rattle.box_partition.specs.Outcome.{Ends, IsWriting, IsWritten};
+ghost use Rattle.box_partition.specs.Outcome.{AreWritesOf, Ends, IsWriting, IsWritten};
 ghost use Rattle.box_partition.specs.Output.{PutsUntil};
 ghost use Rattle.box_partition.specs.Rows.{AreRowsOf};
 ghost use Rattle.box_partition.specs.declared.error.CertError.TheVariants.{Fault, Memory};
@@ -49,6 +50,9 @@ pub fn write_certificate<K: Sink>(
     ensures fault { IsErrOf result Fault → Rose (K.faults out.old) (K.faults out.new) }
     ensures memory { IsErrOf result Memory → K.faults out.new ≡ K.faults out.old }
     ensures counts { K.faults out.old ≤ K.faults out.new }
+
+    // No write failed but the last one of a call that ends by it.
+    ensures writes { Extends (K.written out.old) (K.written out.new) (AreWritesOf result) }
 {
     only_prefixes(table)?;
     match differ(alloc, list, table)? {

@@ -1,10 +1,12 @@
 -- What the walk needs of the nodes that it goes through.
-use Rattle.std.proofs.Common.{◌≡◌, ◌∷◌, ◌++◌, ℕ, ◌^◌, ◌<◌, ◌≤◌, List, [], Bool, true, false, cond, Option, Ok, refl, ap, sym, ◌∙◌, subst, arith, append-nil, length, get_or, map, nat_eq, not, flat_map, decimal}
+use Rattle.std.proofs.Common.{◌≡◌, ◌∷◌, ◌++◌, ℕ, ◌^◌, ◌<◌, ◌≤◌, List, [], Bool, true, false, cond, Ok, refl, ap, sym, ◌∙◌, subst, arith, append-nil, length, get_or, map, nat_eq, not, flat_map, decimal}
 use Rattle.std.specs.Bool.{OnTrue}
 use Rattle.std.proofs.lemmas.Bool.{OnTrue_from, not-true}
 use Rattle.std.proofs.lemmas.Bool.Decides.{Decides-eqb}
-use Rattle.razor_base.specs.Output.{Puts}
+use Rattle.razor_base.specs.Headline.Outcomes.{CallOutcome}
+use Rattle.razor_base.specs.Output.{Puts, Writes}
 use Rattle.razor_base.proofs.Output.{leaves_out-none}
+use Rattle.razor_base.proofs.Writing.{made-none}
 use Rattle.field_boxes.specs.Headline.Classifier.{Interval}
 use Rattle.field_boxes.specs.Headline.Fields.{stated}
 use Rattle.node_store.specs.declared.edge.Edge.{Edge}
@@ -79,20 +81,24 @@ single-empty nodes level rest id es d false h r e some one none = tt
 -- What was put.
 
 -- nothing
-pub puts-zero : {S T E : Type 0} {w : S → Option (List ℕ)} {f : S → ℕ} {a : S} {waited : List ℕ} {x : T} → Puts {T = T} {E = E} w f a a waited waited [] (Ok x)
+pub puts-zero : {S T E : Type 0} {w : S → List CallOutcome} {f : S → ℕ} {a : S} {waited : List ℕ} {x : T} → Puts {T = T} {E = E} w f a a waited waited [] (Ok x)
 puts-zero {w = w} {a = a} {waited = waited} = record {
   ok = rw (append-nil waited) (leaves_out-none (w a) waited);
   err = tt;
   lost = tt;
   failed = tt;
   calm = refl;
+  tries = made-none (w a);
   counts = omega arith;
 }
 
 -- the answer has no part in it
-pub puts-ok : {S T U E : Type 0} {w : S → Option (List ℕ)} {f : S → ℕ} {a b : S} {waited waits text : List ℕ} {x : T} {y : U} →
+pub puts-ok : {S T U E : Type 0} {w : S → List CallOutcome} {f : S → ℕ} {a b : S} {waited waits text : List ℕ} {x : T} {y : U} →
     Puts {T = T} {E = E} w f a b waited waits text (Ok x) → Puts {T = U} {E = E} w f a b waited waits text (Ok y)
-puts-ok p = record { ok = p.ok; err = tt; lost = tt; failed = tt; calm = p.calm; counts = p.counts }
+puts-ok p = record { ok = p.ok; err = tt; lost = tt; failed = tt; calm = p.calm; tries = p.tries; counts = p.counts }
+
+pub writes-ok : {S T U E : Type 0} {w : S → List CallOutcome} {f : S → ℕ} {a b : S} {text : List ℕ} {x : T} {y : U} → Writes {T = T} {E = E} w f a b text (Ok x) → Writes {T = U} {E = E} w f a b text (Ok y)
+writes-ok p = record { ok = p.ok; err = tt; failed = tt; calm = p.calm; tries = p.tries; counts = p.counts }
 
 -- no field has a value above 32 bits
 pub top-small : (level : List ℕ) → HasField level → top_of level ≤ 4294967295

@@ -1,6 +1,7 @@
 //! The boxes in which a list decides as asked.
 ghost use Rattle.std.specs.Prelude.{◌≡◌, ◌≤◌, length, IfOk, IfErr, OnOk, IsErrOf};
 ghost use Rattle.razor_limits.specs.Counts.{Rose};
+ghost use Rattle.razor_base.specs.Headline.Outcomes.{Extends};
 ghost use Rattle.razor_base.specs.Output.{Writes};
 ghost use Rattle.field_boxes.specs.Headline.Fields.{stated};
 ghost use Rattle.field_boxes.specs.Names.{name_at};
@@ -9,7 +10,7 @@ ghost use Rattle.field_boxes.specs.Lists.{filter_list};
 ghost use Rattle.node_store.specs.Diagram.{level_of};
 ghost use Rattle.box_query.specs.BoxText.{boxes_text};
 ghost use Rattle.box_query.specs.NodeBoxes.{node_boxes};
-ghost use Rattle.box_query.specs.Outcome.{Ends, IsWritten};
+ghost use Rattle.box_query.specs.Outcome.{AreWritesOf, Ends, IsWritten};
 ghost use Rattle.box_query.specs.declared.error.QueryError.TheVariants.{Fault, Memory};
 
 use crate::diagram::wanted;
@@ -45,6 +46,9 @@ pub fn query<K: Sink>(
     ensures memory { IsErrOf result Memory → K.faults out.new ≡ K.faults out.old }
     ensures calm { OnOk result (K.faults out.new ≡ K.faults out.old) }
     ensures counts { K.faults out.old ≤ K.faults out.new }
+
+    // No write failed but the last one of a query that ends by it.
+    ensures writes { Extends (K.written out.old) (K.written out.new) (AreWritesOf result) }
 {
     let mut store = Store::new(alloc);
     let diagram = wanted(alloc, &mut store, &list.rules, spans, decision)?;

@@ -1,13 +1,15 @@
 -- Runs of the commands of a session, one turn after another.
-use Rattle.std.proofs.Common.{◌≡◌, ℕ, ◌+◌, ◌≤◌, ◌<◌, Bool, List, [], ◌∷◌, ◌++◌, Option, Result, Ok, Err, inl, refl, sym, ap, subst, ◌∙◌, append-nil, append_assoc, length, get_or, take, drop, take-append-drop, arith}
+use Rattle.std.proofs.Common.{◌≡◌, ℕ, ◌+◌, ◌≤◌, ◌<◌, Bool, List, [], ◌∷◌, ◌++◌, Result, Ok, Err, inl, refl, sym, ap, subst, ◌∙◌, append-nil, append_assoc, length, get_or, take, drop, take-append-drop, arith}
 use Rattle.std.specs.List.{concat}
 use Rattle.std.specs.Prelude.{All, IsErrAnd}
 use Rattle.std.proofs.lemmas.List.{get_or-map, length-map, map-append, take_more}
 use Rattle.std.proofs.lemmas.List.Elements.{All-get_or}
 use Rattle.std.proofs.lemmas.List.Folds.{concat-append}
-use Rattle.std.specs.Io.KnownBytes.{Appends}
-use Rattle.std.proofs.KnownBytes.{Appends-nil, Appends-trans}
-use Rattle.razor_base.specs.Output.{Writes}
+use Rattle.razor_base.proofs.Output.{Appends-nil, Appends-trans}
+use Rattle.razor_base.proofs.Writing.{refused-then, taken-then}
+use Rattle.razor_base.specs.Headline.Outcomes.{CallOutcome, Extends}
+use Rattle.razor_base.specs.Output.{Appends, AreTaken, Writes}
+use Rattle.bank_update.specs.Driven.{AreWritesOf}
 use Rattle.bank_update.specs.Runs.{RoseBy}
 use Rattle.tcam_sim.specs.Tries.{counted_times}
 use Rattle.bank_update.proofs.Driving.{counted-more, rose-more}
@@ -93,7 +95,7 @@ runs-of start last m n p q Appended events (Err errors.WriteFault) h = record {
 }
 
 -- the next command takes its turn, and its line is written
-pub goes-on : {S T E : Type 0} (w : S → Option (List ℕ)) {f : S → ℕ} (o : Option (List ℕ)) (a b : S) {start old new : SessionState} {m n p t u v : ℕ} (events more : List SessionEvent) {event : SessionEvent} {x : T} (r : Result T E) → r ≡ Ok x →
+pub goes-on : {S T E : Type 0} (w : S → List CallOutcome) {f : S → ℕ} (o : List CallOutcome) (a b : S) {start old new : SessionState} {m n p t u v : ℕ} (events more : List SessionEvent) {event : SessionEvent} {x : T} (r : Result T E) → r ≡ Ok x →
     HasRunSession (Led start m n t u) (Appends o (w a)) old events → TakesTurn w f a b old new n p u v event r → more ≡ events ++ event ∷ [] →
     HasRunSession (Led start m p t v) (Appends o (w b)) new more
 goes-on w {f = f} o a b {start = start} {old = old} {new = new} {m = m} {n = n} {p = p} {t = tried} {v = tries} events more {event = event} r ok h t is =
@@ -106,7 +108,7 @@ goes-on w {f = f} o a b {start = start} {old = old} {new = new} {m = m} {n = n} 
     }
 
 -- the next command takes its turn, and its line is cut off
-pub is-cut-off : {S T E : Type 0} (w : S → Option (List ℕ)) {f : S → ℕ} (o : Option (List ℕ)) (a b : S) {start old new : SessionState} {m n p t u v : ℕ} {event : SessionEvent} {e : E} (events : List SessionEvent) (i : ℕ) (r : Result T E) → r ≡ Err e →
+pub is-cut-off : {S T E : Type 0} (w : S → List CallOutcome) {f : S → ℕ} (o : List CallOutcome) (a b : S) {start old new : SessionState} {m n p t u v : ℕ} {event : SessionEvent} {e : E} (events : List SessionEvent) (i : ℕ) (r : Result T E) → r ≡ Err e →
     HasRunSession (Led start m n t u) (Appends o (w a)) old (take i events) → TakesTurn w f a b old new n p u v event r → take (i + 1) events ≡ take i events ++ event ∷ [] →
     IsCutOffSession (Led start m p t v) (Appends o (w b)) new events
 is-cut-off w {f = f} o a b {start = start} {old = old} {new = new} {m = m} {n = n} {p = p} {t = tried} {v = tries} {event = event} events i r err h t is =
@@ -126,7 +128,7 @@ is-cut-off w {f = f} o a b {start = start} {old = old} {new = new} {m = m} {n = 
     }
 
 -- the next command wanted memory
-pub stopped-before : {S : Type 0} (w : S → Option (List ℕ)) (o : Option (List ℕ)) (a b : S) {start old : SessionState} {m n u v : ℕ} (last : SessionState) (p tries : ℕ) (event : SessionEvent) (events : List SessionEvent) (i : ℕ) →
+pub stopped-before : {S : Type 0} (w : S → List CallOutcome) (o : List CallOutcome) (a b : S) {start old : SessionState} {m n u v : ℕ} (last : SessionState) (p tries : ℕ) (event : SessionEvent) (events : List SessionEvent) (i : ℕ) →
     StandsBefore event old last → p ≡ n → tries ≡ v → b ≡ a → take (i + 1) events ≡ take i events ++ event ∷ [] →
     HasRunSession (Led start m n u v) (Appends o (w a)) old (take i events) → HasRunBefore (Led start m p u tries) (Appends o (w b)) last events
 stopped-before w o a b {start = start} {old = old} {m = m} {n = n} {u = u} {v = v} last p tries event events i left count tried out is h = record {
@@ -142,7 +144,7 @@ stopped-before w o a b {start = start} {old = old} {m = m} {n = n} {u = u} {v = 
 }
 
 -- no command ran yet, and nothing was written
-pub has-run-none : {S : Type 0} (w : S → Option (List ℕ)) (a : S) {s : SessionState} {n p : ℕ} → HasRunSession (Led s n n p p) (Appends (w a) (w a)) s []
+pub has-run-none : {S : Type 0} (w : S → List CallOutcome) (a : S) {s : SessionState} {n p : ℕ} → HasRunSession (Led s n n p p) (Appends (w a) (w a)) s []
 has-run-none w a {s = s} {n = n} {p = p} = record { lines = []; ran = run-none s n p; written = Appends-nil (w a) }
 
 -- how a session ends, where its error was handed on
@@ -155,10 +157,24 @@ write-failed (Ok n) is h = absurd is
 write-failed {Ran = Ran} {Appended = Appended} {last = last} {events = events} (Err e) is h = subst (λ x. SessionOutcome Ran Appended last events (Err x)) (sym is) h
 
 -- no write failed where the line of a turn was written
-pub calm-turn : {S T E : Type 0} {w : S → Option (List ℕ)} {f : S → ℕ} {a b : S} {old new : SessionState} {n p u v : ℕ} {event : SessionEvent} {x : T} (r : Result T E) → r ≡ Ok x →
+pub calm-turn : {S T E : Type 0} {w : S → List CallOutcome} {f : S → ℕ} {a b : S} {old new : SessionState} {n p u v : ℕ} {event : SessionEvent} {x : T} (r : Result T E) → r ≡ Ok x →
     TakesTurn w f a b old new n p u v event r → f b ≡ f a
 calm-turn {w = w} {f = f} {a = a} {b = b} r ok t =
     let writes = subst (Writes w f a b t.printed) ok t.line in writes.calm
+
+-- its writes took all of it
+pub written-turn : {S T E : Type 0} (w : S → List CallOutcome) {f : S → ℕ} (o : List CallOutcome) (a b : S) {old new : SessionState} {n p u v : ℕ} {event : SessionEvent} {x : T} (r : Result T E) → r ≡ Ok x →
+    Extends o (w a) AreTaken → TakesTurn w f a b old new n p u v event r → Extends o (w b) AreTaken
+written-turn w {f = f} o a b r ok so_far t =
+    let writes = subst (Writes w f a b t.printed) ok t.line in taken-then o (w a) (w b) so_far writes.tries
+
+-- or the last one failed, and stopped the session
+pub refused-turn : {S T E : Type 0} (w : S → List CallOutcome) {f : S → ℕ} (o : List CallOutcome) (a b : S) {old new : SessionState} {n p u v : ℕ} {event : SessionEvent} {e : E} (r : Result T E) → r ≡ Err e →
+    Extends o (w a) AreTaken → TakesTurn w f a b old new n p u v event r → (result : Result ℕ DriveError) → IsErrAnd result (λ x. x ≡ errors.WriteFault) → Extends o (w b) (AreWritesOf result)
+refused-turn w o a b r err so_far t (Ok n) is = absurd is
+refused-turn w {f = f} o a b r err so_far t (Err x) is =
+    let writes = subst (Writes w f a b t.printed) err t.line in
+    subst (λ (s : DriveError). Extends o (w b) (AreWritesOf (Err s))) (sym is) (refused-then o (w a) (w b) so_far writes.tries)
 
 -- the command at a place of a session
 event_at : (session : List SessionEvent) (items : List SessionCommand) (i : ℕ) (item : SessionCommand) → events_of items ≡ session → i < length items → item ≡ get_or items i item → (i < length session) × (get_or session i (event_of item) ≡ event_of item)

@@ -1,6 +1,7 @@
 -- A command of a session takes its turn, or is left where memory is refused.
-use Rattle.std.proofs.Common.{◌≡◌, ℕ, ◌≤◌, true, false, List, Option, Some, None, Result, Ok, Err, inl, inr, refl, sym, ap, subst, ◌∙◌, arith}
+use Rattle.std.proofs.Common.{◌≡◌, ℕ, ◌≤◌, true, false, List, Some, None, Result, Ok, Err, inl, inr, refl, sym, ap, subst, ◌∙◌, arith}
 use Rattle.std.specs.Prelude.{◌↔◌, ◌⊎◌, IfOk, IfErr, OnOk, OnErr, option_map, if◌then◌else◌}
+use Rattle.razor_base.specs.Headline.Outcomes.{CallOutcome}
 use Rattle.razor_limits.specs.Counts.{counted, Rose}
 use Rattle.razor_base.specs.Output.{Writes}
 use Rattle.tcam_sim.specs.Tries.{counted_times}
@@ -27,7 +28,7 @@ use Rattle.edit_session.specs.declared.refusal.PlaceRefusal.TheVariants as place
 use Rattle.bank_update.proofs.Taking.{some_of, rose_one, tried-by}
 
 -- a command that doesn't write to the device
-pub takes-quietly : {S T E : Type 0} {w : S → Option (List ℕ)} {f : S → ℕ} {a b : S} {old new : SessionState} {m n p q : ℕ} {event : texts.SessionEvent} {x : Result T E} (line : List ℕ) →
+pub takes-quietly : {S T E : Type 0} {w : S → List CallOutcome} {f : S → ℕ} {a b : S} {old new : SessionState} {m n p q : ℕ} {event : texts.SessionEvent} {x : Result T E} (line : List ℕ) →
     IsTurn old event false new line → faults_of old event false ≡ 0 → tries_of old event ≡ 0 → m ≡ n → p ≡ q → Writes w f a b line x → TakesTurn w f a b old new m n p q event x
 takes-quietly {p = p} line turn none quiet same untried writes = record {
   breaks = false;
@@ -50,7 +51,7 @@ add_turn old new place rule (Err places.Full) answer list refused is known =
 add_turn old new place rule (Err places.Memory) answer list refused is known = absurd known
 
 -- a rule is added, or there is no place for it
-pub takes-add : {S T E X : Type 0} (w : S → Option (List ℕ)) (f : S → ℕ) (a b : S) (old new : SessionState) (m n p q : ℕ) (place : ℕ) (rule : Rule (List ℕ)) (r : Result ℕ PlaceRefusal) (x : Result (Result T E) X) →
+pub takes-add : {S T E X : Type 0} (w : S → List CallOutcome) (f : S → ℕ) (a b : S) (old new : SessionState) (m n p q : ℕ) (place : ℕ) (rule : Rule (List ℕ)) (r : Result ℕ PlaceRefusal) (x : Result (Result T E) X) →
     IfOk r (λ count. add_answer old.list place ≡ Ok count) → OnOk r (new.list ≡ with_rule old.list place rule) →
     IfErr r (λ e. IsAddRefused old.list new.list place rule.decision e) → new ≡ with_list old new.list → m ≡ n → p ≡ q →
     OnOk x (IsKnownAdd r) → IfOk x (λ written. Writes w f a b (add_line r) written) →
@@ -60,7 +61,7 @@ takes-add w f a b old new m n p q place rule r (Ok written) answer list refused 
 takes-add w f a b old new m n p q place rule r (Err e) answer list refused is same untried known writes = tt
 
 -- a commit begins a swap, or is refused for another reason than memory
-pub takes-commit : {S T E X : Type 0} (w : S → Option (List ℕ)) (f : S → ℕ) (a b : S) (old new : SessionState) (m n p q : ℕ) (r : Result ℕ CommitRefusal) (x : Result (Result T E) X) →
+pub takes-commit : {S T E X : Type 0} (w : S → List CallOutcome) (f : S → ℕ) (a b : S) (old new : SessionState) (m n p q : ℕ) (r : Result ℕ CommitRefusal) (x : Result (Result T E) X) →
     IsCommit old new r → m ≡ n → p ≡ q → OnOk x (IsKnownCommit r) → IfOk x (λ written. Writes w f a b (commit_line r) written) →
     IfOk x (λ written. TakesTurn w f a b old new m n p q texts.Commit written)
 takes-commit w f a b old new m n p q r (Ok written) commit same untried known writes =
@@ -72,7 +73,7 @@ idle-step s idle =
     ap (λ p. with_state s (swaps.reached_by moved s.state p) (copies_by s.copies (option_map (λ swap. stage_of (moved swap)) p))) (sym idle)
 
 -- a step that succeeds, that finds no swap pending, or that fails
-pub takes-step : {S T E : Type 0} {w : S → Option (List ℕ)} {f : S → ℕ} {a b : S} {old new : SessionState} {m n p q : ℕ} {x : Result T E} (r : Result Stage StepRefusal) →
+pub takes-step : {S T E : Type 0} {w : S → List CallOutcome} {f : S → ℕ} {a b : S} {old new : SessionState} {m n p q : ℕ} {x : Result T E} (r : Result Stage StepRefusal) →
     IfOk r (λ stage. step_answer old.state ≡ Some stage) → OnOk r (new ≡ stepped old) → (r ≡ Err refusals.Idle ↔ old.state.pending ≡ None) → OnErr r (new ≡ old) →
     (r ≡ Err refusals.DeviceFault → Rose m n) → m ≤ n → ((old.state.pending ≡ None → ⊥) → q ≡ counted p) → (old.state.pending ≡ None → q ≡ p) →
     Writes w f a b (step_line r) x → TakesTurn w f a b old new m n p q texts.Step x
@@ -109,12 +110,12 @@ takes-step {old = old} {m = m} {n = n} {p = p} {q = q} (Err refusals.DeviceFault
     }
 
 -- the same of the command as the code has it
-pub turn-is : {S T E : Type 0} {w : S → Option (List ℕ)} {f : S → ℕ} {a b : S} {old new : SessionState} {m n p q : ℕ} {x : Result T E} {event other : texts.SessionEvent} → other ≡ event →
+pub turn-is : {S T E : Type 0} {w : S → List CallOutcome} {f : S → ℕ} {a b : S} {old new : SessionState} {m n p q : ℕ} {x : Result T E} {event other : texts.SessionEvent} → other ≡ event →
     TakesTurn w f a b old new m n p q event x → TakesTurn w f a b old new m n p q other x
 turn-is {w = w} {f = f} {a = a} {b = b} {old = old} {new = new} {m = m} {n = n} {p = p} {q = q} {x = x} is turn = subst (λ e. TakesTurn w f a b old new m n p q e x) (sym is) turn
 
 -- the same where the answer is handed on
-pub turns-are : {S T E X : Type 0} (w : S → Option (List ℕ)) (f : S → ℕ) (a b : S) (old new : SessionState) (m n p q : ℕ) (event other : texts.SessionEvent) (r : Result (Result T E) X) → other ≡ event →
+pub turns-are : {S T E X : Type 0} (w : S → List CallOutcome) (f : S → ℕ) (a b : S) (old new : SessionState) (m n p q : ℕ) (event other : texts.SessionEvent) (r : Result (Result T E) X) → other ≡ event →
     IfOk r (λ x. TakesTurn w f a b old new m n p q event x) → IfOk r (λ x. TakesTurn w f a b old new m n p q other x)
 turns-are w f a b old new m n p q event other (Ok x) is turn = turn-is is turn
 turns-are w f a b old new m n p q event other (Err e) is turn = tt

@@ -1,6 +1,7 @@
 -- How running an editing session ends, and what was written by then.
-use Rattle.std.specs.Prelude.{◌≡◌, ◌⊎◌, ℕ, ◌≤◌, Bool, List, [], ◌∷◌, ◌++◌, length, count_by, Option, Result, Ok, Err}
+use Rattle.std.specs.Prelude.{◌≡◌, ◌⊎◌, ℕ, ◌≤◌, Bool, List, [], ◌∷◌, ◌++◌, length, count_by, Result, Ok, Err}
 use Rattle.std.specs.List.{concat}
+use Rattle.razor_base.specs.Headline.Outcomes.{CallOutcome}
 use Rattle.razor_base.specs.Output.{Writes}
 use Rattle.tcam_sim.specs.Tries.{counted_times}
 use Rattle.bank_update.specs.Runs.{RoseBy}
@@ -70,7 +71,7 @@ SessionOutcome Ran Appended last events (Err WriteFault) = IsCutOffSession Ran A
 
 -- the command took its turn, and its line is written: the session goes on, and so do the device's counts of faults and of
 -- tries
-pub record TakesTurn {S T E : Type 0} (written : S → Option (List ℕ)) (faults : S → ℕ) (before after : S) (old new : SessionState) (failed fails tried tries : ℕ) (event : SessionEvent) (answer : Result T E) : Type 0 where
+pub record TakesTurn {S T E : Type 0} (written : S → List CallOutcome) (faults : S → ℕ) (before after : S) (old new : SessionState) (failed fails tried tries : ℕ) (event : SessionEvent) (answer : Result T E) : Type 0 where
   pub breaks : Bool
   pub printed : List ℕ
   pub turn : IsTurn old event breaks new printed

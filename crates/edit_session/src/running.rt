@@ -1,12 +1,13 @@
 //! Running an editing session: each command takes its turn, and its line is written.
 ghost use Rattle.std.specs.Prelude.{◌≡◌, ◌≤◌, ◌<◌, ◌+◌, [], length, All, IfOk, IsErrOf, IsTrue, OnErr};
-ghost use Rattle.std.specs.Io.KnownBytes.{Appends};
 ghost use Rattle.std.specs.String.{string_bytes};
 ghost use Rattle.razor_limits.specs.Counts.{Rose};
+ghost use Rattle.razor_base.specs.Headline.Outcomes.{Extends};
+ghost use Rattle.razor_base.specs.Output.{Appends};
 ghost use Rattle.razor_limits.specs.declared.limits.TheConstants.{MOST_ENTRIES};
 ghost use Rattle.field_boxes.specs.Names.{is_decision_word};
 ghost use Rattle.field_boxes.specs.FilterRules.{IsFilterRule};
-ghost use Rattle.bank_update.specs.Driven.{UnlessWriteFault};
+ghost use Rattle.bank_update.specs.Driven.{AreWritesOf, UnlessWriteFault};
 ghost use Rattle.bank_update.specs.declared.drive.DriveError.TheVariants as errors;
 ghost use Rattle.edit_session.specs.Lists.{rule_named};
 ghost use Rattle.edit_session.specs.SessionEnds.{IsLeft, SessionOutcome, TakesTurn, adds_of};
@@ -112,8 +113,9 @@ pub fn session_on<K: Sink, V: Device, T: Replaced>(
     ensures write_fault { IsErrOf result errors.WriteFault → Rose (K.faults out.old) (K.faults out.new) }
     ensures written { K.faults out.old ≤ K.faults out.new }
 
-    // However else it ends, also out of memory, no write failed.
+    // However else it ends, also out of memory, no write failed; one that failed is the last.
     ensures calm { UnlessWriteFault result (K.faults out.new ≡ K.faults out.old) }
+    ensures writes { Extends (K.written out.old) (K.written out.new) (AreWritesOf result) }
 {
     let mut pending = Pending::new();
     let commands = session.commands();

@@ -1,7 +1,10 @@
 //! Checking a certificate as it is read.
-ghost use Rattle.std.specs.Prelude.{◌≡◌, ◌≢◌, ◌≤◌, ◌<◌, ◌+◌, ◌-◌, ℕ, List, Err, IfSome, IfOk, OnOk, IsErrOf, MatchResult, OnErr, length, take, drop, min};
-ghost use Rattle.std.specs.Io.KnownBytes.{Consumes, IsAtEnd, Keeps};
+ghost use Rattle.std.specs.Prelude.{◌≡◌, ◌≢◌, ◌≤◌, ◌<◌, ◌+◌, ◌-◌, ◌++◌, ℕ, List, true, Err, IfOk, OnOk, IsErrOf, MatchResult, OnErr, length, take, drop, min, [], ◌∷◌};
 ghost use Rattle.razor_limits.specs.Counts.{Rose};
+ghost use Rattle.razor_base.specs.Headline.Readings.{ended, given, reading};
+ghost use Rattle.razor_base.specs.Headline.Outcomes.{outcome_by, Extends};
+ghost use Rattle.razor_base.specs.Texts.{MayHold, StaysUnread, left_in};
+ghost use Rattle.partition_check.specs.StreamTurn.{IsTurnOfStream};
 ghost use Rattle.razor_base.specs.Input.{TakesAtMost};
 ghost use Rattle.razor_limits.specs.declared.limits.TheConstants.{MOST_CERTIFICATE_BYTES};
 ghost use Rattle.partition_check.specs.declared.row.Wrong.{Wrong as wrong_row};
@@ -12,7 +15,7 @@ use crate::checker::Checker;
 use crate::reader::Reader;
 use crate::row::Wrong;
 use razor_base::limits::MOST_CERTIFICATE_BYTES;
-use razor_base::{Desk, Failed};
+use razor_base::{Desk, Failed, read_piece};
 use thiserror::Error;
 
 /// As many bytes of an unfinished line as are kept: more than any line has that isn't wrong.
@@ -62,16 +65,17 @@ fn read_behind<D: Desk>(
     kept: usize,
 ) -> Result<usize, Failed>
     requires { kept < length buffer.old }
-    ensures bytes { IfOk result (λ n. Consumes (D.remaining desk.old name.now) (D.remaining desk.new name.now) (take n (drop kept buffer.new))
-        × (n ≡ 0 → IsAtEnd (D.remaining desk.new name.now)) × (kept + n ≤ length buffer.new)) }
+    ensures added { D.reads desk.new ≡ D.reads desk.old ++ reading name.now (outcome_by result (drop kept buffer.new)) ∷ [] }
+    ensures bytes { IfOk result (λ n. (given (D.reads desk.new) name.now ≡ given (D.reads desk.old) name.now ++ take n (drop kept buffer.new))
+        × (n ≡ 0 → ended (D.reads desk.new) name.now ≡ true) × (kept + n ≤ length buffer.new)) }
     ensures failed { OnErr result (Rose (D.faults desk.old name.now) (D.faults desk.new name.now)
-        × Keeps (D.remaining desk.old name.now) (D.remaining desk.new name.now)) }
+        × (given (D.reads desk.new) name.now ≡ given (D.reads desk.old) name.now)) }
     ensures calm { OnOk result ((other : List ℕ) → D.faults desk.new other ≡ D.faults desk.old other) }
     ensures kept { take kept buffer.new ≡ take kept buffer.old }
-    ensures others { (other : List ℕ) → other ≢ name.now → Keeps (D.remaining desk.old other) (D.remaining desk.new other) }
+    ensures others { (other : List ℕ) → other ≢ name.now → StaysUnread (D.reads desk.old) (D.reads desk.new) other }
     ensures counts { (other : List ℕ) → D.faults desk.old other ≤ D.faults desk.new other }
 {
-    desk.read(name, &mut buffer[kept..])
+    read_piece(desk, name, &mut buffer[kept..])
 }
 
 /// Moves what lies from `start` to `end` to the front of the buffer, at most 129 bytes of it, and gives
@@ -100,25 +104,26 @@ pub fn check_stream<D: Desk>(
 ) -> Result<u64, Stop>
     requires buffer { 256 ≤ length buffer.old }
     requires rows { checker.accepted ≡ 0 }
-    ensures valid { IfOk result (λ rows. IfSome (D.remaining desk.old name.now)
-        (λ all. ReadsValid checker.entry MOST_CERTIFICATE_BYTES all (D.remaining desk.new name.now) rows)) }
+    ensures turn { Extends (D.reads desk.old) (D.reads desk.new) (λ added. IsTurnOfStream name.now result added) }
+    ensures valid { (text : List ℕ) → MayHold (D.reads desk.new) name.now text → IfOk result (λ rows.
+        ReadsValid checker.entry MOST_CERTIFICATE_BYTES (left_in text (given (D.reads desk.old) name.now)) (left_in text (given (D.reads desk.new) name.now)) rows) }
     ensures agree { OnOk result (Agree checker.entry.list checker.entry.table) }
-    ensures wrong { (w : wrong_row) → result ≡ Err (Stop.Wrong w) → IfSome (D.remaining desk.old name.now)
-        (λ all. ReadsWrong checker.entry MOST_CERTIFICATE_BYTES all w) }
+    ensures wrong { (text : List ℕ) → MayHold (D.reads desk.new) name.now text → (w : wrong_row) → result ≡ Err (Stop.Wrong w) →
+        ReadsWrong checker.entry MOST_CERTIFICATE_BYTES (left_in text (given (D.reads desk.old) name.now)) w }
     ensures named { (w : wrong_row) → result ≡ Err (Stop.Wrong w) → HaveNames checker.entry.list checker.entry.table w.why }
-    ensures too_long { IsErrOf result Stop.TooLong → IfSome (D.remaining desk.old name.now)
-        (λ all. ReadsTooMuch checker.entry MOST_CERTIFICATE_BYTES all) }
-    ensures fault { IsErrOf result Stop.ReadFault → Rose (D.faults desk.old name.now) (D.faults desk.new name.now)
-        × IfSome (D.remaining desk.old name.now) (λ all. ReadsUpTo checker.entry MOST_CERTIFICATE_BYTES all (D.remaining desk.new name.now)) }
+    ensures too_long { (text : List ℕ) → MayHold (D.reads desk.new) name.now text → IsErrOf result Stop.TooLong →
+        ReadsTooMuch checker.entry MOST_CERTIFICATE_BYTES (left_in text (given (D.reads desk.old) name.now)) }
+    ensures fault { (text : List ℕ) → MayHold (D.reads desk.new) name.now text → IsErrOf result Stop.ReadFault → Rose (D.faults desk.old name.now) (D.faults desk.new name.now)
+        × ReadsUpTo checker.entry MOST_CERTIFICATE_BYTES (left_in text (given (D.reads desk.old) name.now)) (left_in text (given (D.reads desk.new) name.now)) }
 
     // However else it ends, no read failed.
     ensures calm { UnlessFault result ((other : List ℕ) → D.faults desk.new other ≡ D.faults desk.old other) }
 
     // Past the limit at most what the buffer holds is read.
-    ensures near { TakesAtMost (D.remaining desk.old name.now) (D.remaining desk.new name.now) (MOST_CERTIFICATE_BYTES + length buffer.old) }
+    ensures near { (text : List ℕ) → MayHold (D.reads desk.new) name.now text → TakesAtMost (left_in text (given (D.reads desk.old) name.now)) (left_in text (given (D.reads desk.new) name.now)) (MOST_CERTIFICATE_BYTES + length buffer.old) }
 
     // The other inputs keep what they had, and no count falls.
-    ensures others { (other : List ℕ) → other ≢ name.now → Keeps (D.remaining desk.old other) (D.remaining desk.new other) }
+    ensures others { (other : List ℕ) → other ≢ name.now → StaysUnread (D.reads desk.old) (D.reads desk.new) other }
     ensures counts { (other : List ℕ) → D.faults desk.old other ≤ D.faults desk.new other }
 {
     let mut reader = Reader {

@@ -1,6 +1,7 @@
 -- What is known of files and standard input.
 use Rattle.std.specs.Prelude.{ℕ, List, Option}
-use Rattle.razor_base.specs.StreamDesk.{open_name}
+use Rattle.razor_base.specs.Headline.Readings.{Reading}
+use Rattle.razor_base.specs.StreamDesk.{desk_reads, open_name}
 use Rattle.razor_base.specs.declared.host_desk.HostDesk.{HostDesk}
 
 -- how many reads failed
@@ -10,3 +11,7 @@ file_faults desk = desk.desk.faults
 -- the name under which a file or standard input is open, if any is
 abbrev pub host_name : {R F D I : Type 0} → HostDesk R F D I → Option (List ℕ)
 host_name desk = open_name desk.desk
+
+-- the reads so far
+abbrev pub file_reads : {R F D I : Type 0} → HostDesk R F D I → List Reading
+file_reads desk = desk_reads desk.desk

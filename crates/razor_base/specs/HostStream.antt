@@ -1,5 +1,7 @@
 -- What the streams of the system are, and the bytes that they tell.
 use Rattle.std.specs.Prelude.{ℕ, List, Option}
+use Rattle.razor_base.specs.Headline.Outcomes.{CallOutcome}
+use Rattle.razor_base.specs.Recorders.{recorded_writes}
 use Rattle.razor_base.specs.declared.host_stream.HostDrain.{HostDrain}
 use Rattle.razor_base.specs.declared.host_stream.HostSource.{HostSource}
 use Rattle.razor_base.specs.declared.host_stream.HostSource.TheVariants.{File, Input}
@@ -14,6 +16,6 @@ abbrev pub source_left : {F I : Type 0} → (F → Option (List ℕ)) → (I →
 source_left of_file of_input (File file) = of_file file
 source_left of_file of_input (Input input) = of_input input
 
--- what is written to
-abbrev pub writer_of : {W : Type 0} → HostDrain W → W
-writer_of drain = drain.writer
+-- the writes so far
+abbrev pub drain_writes : {W : Type 0} → HostDrain W → List CallOutcome
+drain_writes drain = recorded_writes drain.recorder

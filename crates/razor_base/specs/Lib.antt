@@ -1,3 +1,4 @@
+pub mod Headline
 pub mod CalmDesk
 pub mod FaultPlan
 pub mod HostDesk
@@ -8,6 +9,11 @@ pub mod MemDesk
 pub mod MemSink
 pub mod Output
 pub mod Parts
+pub mod Standing
 pub mod StreamDesk
 pub mod Streams
 pub mod StreamSink
+pub mod Texts
+pub mod Turns
+pub mod CountSink
+pub mod Recorders

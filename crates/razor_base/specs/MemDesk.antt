@@ -1,13 +1,23 @@
 -- What a desk in memory has left of its inputs, and what a read of it answers.
 use Rattle.std.specs.Prelude.{ℕ, ◌==◌, List, length, min, Option, Some, None, Result, Ok, Err, if◌then◌else◌}
+use Rattle.razor_base.specs.Headline.Readings.{Reading}
 use Rattle.std.specs.BTreeMap.{get_by_text}
+use Rattle.razor_base.specs.Standing.{all_at, left_at}
 use Rattle.razor_base.specs.FaultPlan.{fails_next}
 use Rattle.razor_limits.specs.declared.failure.Failed.{Failed}
 use Rattle.razor_base.specs.declared.mem_desk.MemDesk.{MemDesk}
 
 -- the bytes that are left under a name, if it is there
 abbrev pub left_under : MemDesk → List ℕ → Option (List ℕ)
-left_under desk name = get_by_text desk.inputs name
+left_under desk name = left_at (get_by_text desk.inputs name)
+
+-- all bytes that were put under a name
+abbrev pub put_under : MemDesk → List ℕ → Option (List ℕ)
+put_under desk name = all_at (get_by_text desk.inputs name)
+
+-- the reads so far
+abbrev pub reads_under : MemDesk → List Reading
+reads_under desk = desk.history.reads
 
 -- at most so many bytes are given at once
 abbrev pub most_at_once : MemDesk → ℕ

@@ -1,14 +1,15 @@
 //! What gives the bytes of named inputs.
-ghost use Rattle.std.specs.Prelude.{◌≡◌, ◌≢◌, ◌≤◌, ℕ, List, Option, length, Ok, IfOk, OnOk, OnErr};
-ghost use Rattle.std.specs.Io.KnownBytes.{ReadConsumes, Keeps};
+ghost use Rattle.std.specs.Prelude.{◌≡◌, ◌≤◌, ◌<◌, ℕ, List, [], ◌∷◌, ◌++◌, length, Ok, IfOk, OnOk, OnErr};
+ghost use Rattle.razor_base.specs.Headline.Outcomes.{outcome_by};
+ghost use Rattle.razor_base.specs.Headline.Readings.{Reading, reading};
 ghost use Rattle.razor_limits.specs.Counts.{Rose};
 
 use razor_limits::Failed;
 
 /// Gives the bytes of inputs that are named.
 pub trait Desk {
-    /// The bytes that are left to read under a name, where the desk tells them.
-    ghost remaining: { Self → List ℕ → Option (List ℕ) };
+    /// The reads so far, in the order in which they were made.
+    ghost reads: { Self → List Reading };
 
     /// How often a read under a name has failed; the count stays at 2^64 - 1 once it is there.
     ghost faults: { Self → List ℕ → ℕ };
@@ -17,10 +18,9 @@ pub trait Desk {
     ///
     /// It answers 0 for a piece that isn't empty only at the end of the input.
     fn read(&mut self, name: &str, piece: &mut [u8]) -> Result<usize, Failed>
-        ensures bytes { ReadConsumes (remaining self.old name.now) (remaining self.new name.now) result piece.new }
+        ensures added { 0 < length piece.old → reads self.new ≡ reads self.old ++ reading name.now (outcome_by result piece.new) ∷ [] }
+        ensures empty { length piece.old ≡ 0 → (result ≡ Ok 0) × (reads self.new ≡ reads self.old) }
         ensures within { IfOk result (λ n. n ≤ length piece.new) }
-        ensures empty { length piece.old ≡ 0 → result ≡ Ok 0 }
-        ensures others { (other : List ℕ) → other ≢ name.now → Keeps (remaining self.old other) (remaining self.new other) }
 
         // A failure is counted and nothing else is, and no count falls.
         ensures failed { OnErr result (Rose (faults self.old name.now) (faults self.new name.now)) }

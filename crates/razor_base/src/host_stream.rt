@@ -4,7 +4,9 @@ ghost use Rattle.std.specs.IoError.{error_kind};
 ghost use Rattle.razor_base.specs.declared.stream.Cut.TheVariants.{Interrupted};
 
 use crate::opener::Opener;
+use crate::read_recorder::ReadRecorder;
 use crate::stream::{Cut, Drain, Source};
+use crate::write_recorder::WriteRecorder;
 use razor_limits::Failed;
 use std::io::{ErrorKind, Read, Write};
 use std::rt::Files;
@@ -23,10 +25,11 @@ pub(crate) enum HostSource<F, I> {
     Input(I),
 }
 
-/// A writer, such as what the runtime prints to.
+/// A writer, such as what the runtime prints to, and a record of what it took.
 #[derive(Drop)]
 pub(crate) struct HostDrain<W> {
     writer: W,
+    recorder: WriteRecorder<W>,
 }
 
 /// What the runtime prints to, as a writer.
@@ -42,8 +45,17 @@ impl<R> HostFiles<R> {
 }
 
 impl<W> HostDrain<W> {
-    pub(crate) fn new(writer: W) -> Self {
-        HostDrain { writer }
+    ghost use Rattle.std.specs.Prelude.{◌≡◌, []};
+    ghost use Rattle.razor_base.specs.HostStream.{drain_writes};
+
+    /// Nothing was written yet.
+    pub(crate) fn new(writer: W) -> Self
+        ensures { drain_writes result ≡ [] }
+    {
+        HostDrain {
+            writer,
+            recorder: WriteRecorder::new(),
+        }
     }
 }
 
@@ -91,14 +103,23 @@ impl<F: Read, I: Read> Source for HostSource<F, I> {
     ghost use Rattle.std.specs.Prelude.{None};
     ghost use Rattle.razor_base.specs.HostStream.{source_left};
 
+    type File = F;
+
+    type Input = I;
+
     ghost left = { source_left F.remaining I.remaining };
 
     ghost calls = { λ _. None };
 
-    fn read(&mut self, piece: &mut [u8]) -> Result<usize, Cut> {
+    fn read(
+        &mut self,
+        recorder: &mut ReadRecorder<F, I>,
+        name: &str,
+        piece: &mut [u8],
+    ) -> Result<usize, Cut> {
         let outcome = match self {
-            HostSource::File(file) => file.read(piece),
-            HostSource::Input(input) => input.read(piece),
+            HostSource::File(file) => recorder.read_file(file, name, piece),
+            HostSource::Input(input) => recorder.read_input(input, name, piece),
         };
         outcome.map_err(cut)
     }
@@ -106,14 +127,18 @@ impl<F: Read, I: Read> Source for HostSource<F, I> {
 
 impl<W: Write> Drain for HostDrain<W> {
     ghost use Rattle.std.specs.Prelude.{None};
-    ghost use Rattle.razor_base.specs.HostStream.{writer_of};
+    ghost use Rattle.razor_base.specs.HostStream.{drain_writes};
 
-    ghost taken = { λ drain. W.contents (writer_of drain) };
+    ghost taken = { drain_writes };
 
     ghost calls = { λ _. None };
 
     fn write(&mut self, piece: &[u8]) -> Result<usize, Cut> {
-        self.writer.write(piece).map_err(cut)
+        self.recorder.write(&mut self.writer, piece).map_err(cut)
+    }
+
+    fn fail(&mut self, piece: &[u8]) {
+        self.recorder.fail(piece);
     }
 }
 

@@ -1,8 +1,11 @@
 //! Reading an input to its end.
-ghost use Rattle.std.specs.Prelude.{◌≡◌, ◌≢◌, ◌≤◌, ◌<◌, ◌+◌, ℕ, List, [], ◌++◌, length, take, OnOk, IsErrOf};
-ghost use Rattle.std.specs.Io.KnownBytes.{Consumes, Keeps};
+ghost use Rattle.std.specs.Prelude.{◌≡◌, ◌≢◌, ◌≤◌, ◌<◌, ◌+◌, ℕ, List, [], ◌∷◌, ◌++◌, length, take, true, OnOk, OnErr, IfOk, IsErrOf};
 ghost use Rattle.razor_limits.specs.Counts.{Rose};
-ghost use Rattle.razor_base.specs.Input.{ReadsWhole, ReadsFront, PassesLimit, TakesAtMost, UnlessFault};
+ghost use Rattle.razor_base.specs.Headline.Outcomes.{Extends, outcome_by};
+ghost use Rattle.razor_base.specs.Headline.Readings.{ended, given, reading};
+ghost use Rattle.razor_base.specs.Texts.{Gives, MayHold, StaysUnread, left_in};
+ghost use Rattle.razor_base.specs.Turns.{IsTurnOf};
+ghost use Rattle.razor_base.specs.Input.{PassesLimit, ReadsFront, ReadsWhole, TakesFront, TakesAtMost, UnlessFault};
 ghost use Rattle.razor_base.specs.declared.read.ReadError.TheVariants.{Fault, TooLong, Memory};
 ghost use Rattle.razor_limits.specs.declared.limits.TheConstants.{MOST_CERTIFICATE_BYTES, PIECE_BYTES};
 
@@ -51,32 +54,37 @@ pub fn read_all<D: Desk>(
 ) -> Result<(), ReadError>
     requires empty { into.old.items ≡ [] }
     requires limit { limit ≤ MOST_CERTIFICATE_BYTES }
-    ensures ok { OnOk result
-        (ReadsWhole (D.remaining desk.old name.now) (D.remaining desk.new name.now) into.new.items) }
+    // The reads that it adds, all of this name.
+    ensures turn { Extends (D.reads desk.old) (D.reads desk.new) (λ added. IsTurnOf name.now result added) }
+
+    ensures ended { OnOk result (ended (D.reads desk.new) name.now ≡ true) }
+    ensures grows { (more : List ℕ) × (given (D.reads desk.new) name.now ≡ given (D.reads desk.old) name.now ++ more) }
+    ensures ok { (text : List ℕ) → MayHold (D.reads desk.new) name.now text → OnOk result
+        (ReadsWhole (left_in text (given (D.reads desk.old) name.now)) (left_in text (given (D.reads desk.new) name.now)) into.new.items) }
     ensures within { length into.new.items ≤ limit }
 
     // When each error comes, and what was read before it.
-    ensures fault { IsErrOf result ReadError.Fault
+    ensures fault { (text : List ℕ) → MayHold (D.reads desk.new) name.now text → IsErrOf result ReadError.Fault
         → Rose (D.faults desk.old name.now) (D.faults desk.new name.now)
-        × Consumes (D.remaining desk.old name.now) (D.remaining desk.new name.now) into.new.items }
-    ensures too_long { IsErrOf result ReadError.TooLong
-        → PassesLimit (D.remaining desk.old name.now) limit into.new.items × (length into.new.items ≡ limit) }
-    ensures memory { IsErrOf result ReadError.Memory
-        → ReadsFront (D.remaining desk.old name.now) into.new.items }
+        × TakesFront (left_in text (given (D.reads desk.old) name.now)) (left_in text (given (D.reads desk.new) name.now)) into.new.items }
+    ensures too_long { (text : List ℕ) → MayHold (D.reads desk.new) name.now text → IsErrOf result ReadError.TooLong
+        → PassesLimit (left_in text (given (D.reads desk.old) name.now)) limit into.new.items × (length into.new.items ≡ limit) }
+    ensures memory { (text : List ℕ) → MayHold (D.reads desk.new) name.now text → IsErrOf result ReadError.Memory
+        → ReadsFront (left_in text (given (D.reads desk.old) name.now)) into.new.items }
 
     // Past the limit at most one piece is read.
-    ensures near { TakesAtMost (D.remaining desk.old name.now) (D.remaining desk.new name.now) (limit + PIECE_BYTES) }
+    ensures near { (text : List ℕ) → MayHold (D.reads desk.new) name.now text → TakesAtMost (left_in text (given (D.reads desk.old) name.now)) (left_in text (given (D.reads desk.new) name.now)) (limit + PIECE_BYTES) }
 
     // However else it ends, no read failed.
     ensures calm { UnlessFault result ((other : List ℕ) → D.faults desk.new other ≡ D.faults desk.old other) }
 
     // The other inputs keep what they had, and no count falls.
-    ensures others { (other : List ℕ) → other ≢ name.now → Keeps (D.remaining desk.old other) (D.remaining desk.new other) }
+    ensures others { (other : List ℕ) → other ≢ name.now → StaysUnread (D.reads desk.old) (D.reads desk.new) other }
     ensures counts { (other : List ℕ) → D.faults desk.old other ≤ D.faults desk.new other }
 {
     let mut piece = [0; BUFFER_BYTES];
     'pieces: loop {
-        let count = desk.read(name, &mut piece)?;
+        let count = read_piece(desk, name, &mut piece)?;
         if count == 0 {
             return Ok(());
         }
@@ -101,4 +109,21 @@ fn append(into: &mut Vec<u8>, bytes: &[u8], limit: u64) -> Result<(), ReadError>
     }
     into.extend_from_slice(bytes)?;
     Ok(())
+}
+
+/// Reads once into a piece with room.
+pub fn read_piece<D: Desk>(desk: &mut D, name: &str, piece: &mut [u8]) -> Result<usize, Failed>
+    requires { 0 < length piece.old }
+    ensures added { D.reads desk.new ≡ D.reads desk.old ++ reading name.now (outcome_by result piece.new) ∷ [] }
+    ensures within { IfOk result (λ n. n ≤ length piece.new) }
+
+    // What that is of what was given.
+    ensures gives { Gives (given (D.reads desk.old) name.now) (given (D.reads desk.new) name.now) (ended (D.reads desk.old) name.now) (ended (D.reads desk.new) name.now) result piece.new }
+    ensures others { (other : List ℕ) → other ≢ name.now → StaysUnread (D.reads desk.old) (D.reads desk.new) other }
+
+    ensures failed { OnErr result (Rose (D.faults desk.old name.now) (D.faults desk.new name.now)) }
+    ensures calm { OnOk result ((other : List ℕ) → D.faults desk.new other ≡ D.faults desk.old other) }
+    ensures counts { (other : List ℕ) → D.faults desk.old other ≤ D.faults desk.new other }
+{
+    desk.read(name, piece)
 }

@@ -5,6 +5,7 @@ ghost use Rattle.razor_base.specs.StreamDesk.{IsOpening, name_of};
 
 use crate::desk::Desk;
 use crate::opener::Opener;
+use crate::read_recorder::ReadRecorder;
 use crate::stream::{Source, read_some};
 use razor_limits::Failed;
 use std::alloc::Global;
@@ -12,14 +13,14 @@ use std::alloc::Global;
 /// A desk over streams that are opened by their names.
 ///
 /// One stream is open at a time: it is opened at the first read of its name, and stays open until another
-/// name is read. The bytes that are left under a name aren't told, since a stream that is opened anew
-/// begins anew.
+/// name is read. What is given under a name is told, over all streams that were opened for it.
 #[derive(Drop)]
-pub(crate) struct StreamDesk<O, S> {
+pub(crate) struct StreamDesk<O, S: Source> {
     opener: O,
     alloc: Global,
     opened: Option<Opened<S>>,
     faults: u64,
+    recorder: ReadRecorder<S::File, S::Input>,
 }
 
 /// What is open, and its name.
@@ -30,28 +31,35 @@ pub(crate) struct Opened<S> {
 }
 
 impl<O: Opener<Stream = S>, S: Source + Drop> StreamDesk<O, S> {
-    ghost use Rattle.std.specs.Prelude.{◌≡◌, ◌≤◌, ◌≢◌, ℕ, List, length, None, Some, IfOk, OnOk};
+    ghost use Rattle.razor_base.specs.Headline.Outcomes.{outcome_of};
+    ghost use Rattle.razor_base.specs.Headline.Readings.{reading};
+    ghost use Rattle.std.specs.Prelude.{◌≡◌, ◌≤◌, ◌<◌, ◌≢◌, ◌∷◌, ◌++◌, [], ℕ, List, length, take, None, Some, IfOk, OnOk, MatchResult};
     ghost use Rattle.std.specs.Io.KnownBytes.{ReadConsumes};
-    ghost use Rattle.razor_base.specs.StreamDesk.{IsOpening, open_name, left_open, open_faults, opener_of};
+    ghost use Rattle.razor_base.specs.StreamDesk.{IsOpening, desk_reads, open_name, left_open, open_faults, opener_of};
 
     /// Nothing is open yet.
     pub(crate) fn new(opener: O, alloc: Global) -> Self
         ensures over { opener_of result ≡ opener }
         ensures none { open_name result ≡ None }
         ensures calm { open_faults result ≡ 0 }
+        ensures unread { desk_reads result ≡ [] }
     {
         StreamDesk {
             opener,
             alloc,
             opened: None,
             faults: 0,
+            recorder: ReadRecorder::new(),
         }
     }
 
     /// Reads from what is open under the name, or opens it first.
     fn read_named(&mut self, name: &str, piece: &mut [u8]) -> Result<usize, Failed>
+        requires room { 0 < length piece.old }
         ensures within { IfOk result (λ n. n ≤ length piece.new) }
         ensures faults { open_faults self.new ≡ open_faults self.old }
+        ensures noted { MatchResult result (λ n. desk_reads self.new ≡ desk_reads self.old ++ reading name.now (outcome_of (take n piece.new)) ∷ []) (λ _. desk_reads self.new ≡ desk_reads self.old) }
+        ensures length { length piece.new ≡ length piece.old }
 
         // Nothing is opened where the name is open, and else one stream is.
         ensures keeps { open_name self.old ≡ Some name.now → opener_of self.new ≡ opener_of self.old }
@@ -70,7 +78,7 @@ impl<O: Opener<Stream = S>, S: Source + Drop> StreamDesk<O, S> {
     {
         let kept = self.opened.take();
         let mut opened = reopen(&mut self.opener, self.alloc, kept, name)?;
-        let outcome = read_some(&mut opened.stream, piece);
+        let outcome = read_some(&mut opened.stream, &mut self.recorder, name, piece);
         self.opened = Some(opened);
         outcome
     }
@@ -116,20 +124,21 @@ fn open<O: Opener<Stream = S>, S: Source + Drop>(
 }
 
 impl<O: Opener<Stream = S>, S: Source + Drop> Desk for StreamDesk<O, S> {
-    ghost use Rattle.std.specs.Prelude.{◌≡◌, ◌≢◌, ◌≤◌, ◌<◌, ◌==◌, ℕ, List, length, Ok, None, Some, IfOk, OnOk, OnErr, is_ok, if◌then◌else◌};
-    ghost use Rattle.std.specs.Io.KnownBytes.{ReadConsumes, Keeps};
-    ghost use Rattle.razor_limits.specs.Counts.{Rose, counted};
-    ghost use Rattle.razor_base.specs.StreamDesk.{IsOpening, open_name, left_open, open_faults, opener_of};
+    ghost use Rattle.std.specs.Prelude.{◌≡◌, ◌≢◌, ◌≤◌, ◌<◌, ◌==◌, ℕ, List, length, Ok, Some, IfOk, OnOk, OnErr, is_ok, if◌then◌else◌, [], ◌∷◌, ◌++◌};
+    ghost use Rattle.std.specs.Io.KnownBytes.{ReadConsumes};
+    ghost use Rattle.razor_base.specs.Headline.Readings.{reading};
+    ghost use Rattle.razor_base.specs.Headline.Outcomes.{outcome_by};
+    ghost use Rattle.razor_limits.specs.Counts.{counted, Rose};
+    ghost use Rattle.razor_base.specs.StreamDesk.{IsOpening, desk_reads, open_name, left_open, open_faults, opener_of};
 
-    ghost remaining = { λ _ _. None };
+    ghost reads = { desk_reads };
 
     ghost faults = { λ desk _. open_faults desk };
 
     fn read(&mut self, name: &str, piece: &mut [u8]) -> Result<usize, Failed>
-        ensures bytes { ReadConsumes None None result piece.new }
+        ensures added { 0 < length piece.old → desk_reads self.new ≡ desk_reads self.old ++ reading name.now (outcome_by result piece.new) ∷ [] }
+        ensures empty { length piece.old ≡ 0 → (result ≡ Ok 0) × (desk_reads self.new ≡ desk_reads self.old) }
         ensures within { IfOk result (λ n. n ≤ length piece.new) }
-        ensures empty { length piece.old ≡ 0 → result ≡ Ok 0 }
-        ensures others { (other : List ℕ) → other ≢ name.now → Keeps None None }
         ensures failed { OnErr result (Rose (open_faults self.old) (open_faults self.new)) }
         ensures calm { OnOk result ((other : List ℕ) → open_faults self.new ≡ open_faults self.old) }
         ensures counts { (other : List ℕ) → open_faults self.old ≤ open_faults self.new }
@@ -159,6 +168,7 @@ impl<O: Opener<Stream = S>, S: Source + Drop> Desk for StreamDesk<O, S> {
         match self.read_named(name, piece) {
             Ok(count) => Ok(count),
             Err(_) => {
+                self.recorder.fail(name);
                 self.faults = self.faults.saturating_add(1);
                 Err(Failed)
             }

@@ -1,11 +1,17 @@
 //! The program `razor`: hands the words, the real files and the standard streams to the top call.
 //!
-//! It is proved safe and to end. What a status and an output mean is the contract of [`razor`]; a real desk and real
-//! streams tell none of their bytes, so of real files that is argued from the same code over every desk, and tested.
+//! What a status, what was read and what was written mean is the contract of [`run_over`]. Left to trust is what stands
+//! here: that the words are those of the call, that the files are the system's, that the output is standard output and the
+//! messages go to standard error, and that the status is handed on.
+//!
+//! [`run_over`]: program::run_over
 #![tactic(auto)]
 
+mod program;
+
+use program::run_over;
 use razor_base::{HostDesk, HostSink};
-use razor_core::{Words, razor};
+use razor_core::Words;
 use std::alloc::Global;
 use std::env;
 use std::process::ExitCode;
@@ -40,5 +46,5 @@ fn main(rt: HostRuntime) -> ExitCode {
     let mut desk = HostDesk::new(&rt, alloc);
     let mut out = HostSink::out(&rt);
     let mut err = HostSink::err(&rt);
-    ExitCode::from(razor(alloc, &words, &mut desk, &mut out, &mut err))
+    ExitCode::from(run_over(alloc, &words, &mut desk, &mut out, &mut err))
 }

@@ -16,7 +16,7 @@ use Rattle.razor_core.specs.Commands.{meaning}
 use Rattle.razor_core.specs.Commands.Make.{making}
 
 -- 144 trits, and as many entries as a memory has
-abbrev usual : Sizes
+abbrev pub usual : Sizes
 usual = record { limit = 262144; slot = 144 }
 
 kept_by : (words : List (List ℕ)) (command : Command) (before after : Outside) (line : List ℕ) (status : ℕ) → command_of words ≡ Some command → status ≡ 0 →
@@ -25,7 +25,7 @@ kept_by words command before after line status is done keeps =
     let at : KeepsPromiseOf (Some command) before after line status = subst (λ (o : Option Command). KeepsPromiseOf o before after line status) is keeps in
     subst (λ (n : ℕ). KeepsPromise (meaning command) before after line n) done at
 
-module _ (words : List (List ℕ)) (before after : Outside) (Heard : List ℕ → Type 0) (status : ℕ) (promise : Promise words before after Heard status) (file text : List ℕ) (done : status ≡ 0) (known : before.remaining file ≡ Some text) where
+module _ (words : List (List ℕ)) (before after : Outside) (Heard : List ℕ → Type 0) (status : ℕ) (promise : Promise words before after Heard status) (file text : List ℕ) (done : status ≡ 0) (known : before.remaining file ≡ text) where
   kept : (method : Method) → command_of words ≡ Some (Make method usual file) → KeepsPromise (making method usual file) before after promise.line 0
   kept method is = kept_by words (Make method usual file) before after promise.line status is done promise.command
 

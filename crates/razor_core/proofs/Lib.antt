@@ -24,3 +24,8 @@ pub mod StateLines
 pub mod AnsweredBoxes
 pub mod WordLengths
 pub mod FileWords
+mod PossibleTexts
+mod Calls
+mod FileCalls
+mod CallsOf
+mod TakenReads

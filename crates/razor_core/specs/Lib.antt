@@ -17,3 +17,6 @@ pub mod Ending
 pub mod Behind
 pub mod Says
 pub mod Promise
+pub mod Calls
+pub mod CallsByStatus
+pub mod PossibleTexts

@@ -4,8 +4,10 @@
 //! ended. The last function of its file does nothing: it is the law that says what status 0 of the command means over
 //! bytes, from what the top call promises of the command alone.
 ghost use Rattle.std.specs.Prelude.{ℕ, List};
-ghost use Rattle.std.specs.Io.KnownBytes.{Keeps};
 ghost use Rattle.command_words.specs.Commands.{command_seen};
+ghost use Rattle.razor_base.specs.Texts.{StaysUnread, left_of};
+ghost use Rattle.razor_core.specs.PossibleTexts.{MayBeTexts};
+ghost use Rattle.razor_core.specs.Calls.{MakesCalls, names_of};
 ghost use Rattle.razor_core.specs.Commands.{meaning};
 ghost use Rattle.razor_core.specs.Outside.{seen, IsNoInput};
 ghost use Rattle.razor_core.specs.Ending.{Ends};
@@ -65,11 +67,12 @@ pub(crate) fn run<'a, D: Desk, K: Sink>(
     desk: &mut D,
     out: &mut K,
 ) -> Ending<'a>
-    ensures ends { Ends (meaning (command_seen command.now))
-        (seen D.remaining D.faults K.written K.faults desk.old out.old)
-        (seen D.remaining D.faults K.written K.faults desk.new out.new)
+    ensures ends { (texts : List ℕ → List ℕ) → MayBeTexts (D.reads desk.new) texts → Ends (meaning (command_seen command.now))
+        (seen (left_of D.reads texts) D.faults K.written K.faults desk.old out.old)
+        (seen (left_of D.reads texts) D.faults K.written K.faults desk.new out.new)
         result }
-    ensures others { (other : List ℕ) → IsNoInput (meaning (command_seen command.now)).inputs other → Keeps (D.remaining desk.old other) (D.remaining desk.new other) }
+    ensures others { (other : List ℕ) → IsNoInput (meaning (command_seen command.now)).inputs other → StaysUnread (D.reads desk.old) (D.reads desk.new) other }
+    ensures calls { MakesCalls (meaning (command_seen command.now)).writes (names_of (meaning (command_seen command.now))) (D.reads desk.old) (D.reads desk.new) (K.written out.old) (K.written out.new) result }
 {
     match command {
         Command::Make {

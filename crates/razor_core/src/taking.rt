@@ -1,7 +1,11 @@
 //! Taking the turn of an input that is read whole.
 ghost use Rattle.std.specs.Prelude.{◌≡◌, ◌≢◌, ◌≤◌, ℕ, List, IfOk, MatchResult, Ok, length};
-ghost use Rattle.std.specs.Io.KnownBytes.{Keeps};
 ghost use Rattle.razor_limits.specs.declared.limits.TheConstants.{MOST_CERTIFICATE_BYTES};
+ghost use Rattle.razor_base.specs.Headline.Outcomes.{Extends};
+ghost use Rattle.razor_base.specs.Headline.Readings.{given};
+ghost use Rattle.razor_base.specs.Texts.{MayHold, StaysUnread, left_in};
+ghost use Rattle.razor_base.specs.Turns.{IsWholeTurn};
+ghost use Rattle.razor_core.specs.Calls.{EndsTurnReads};
 ghost use Rattle.razor_core.specs.Inputs.{Kind, Value, input_of, most_bytes, spelled_by};
 ghost use Rattle.razor_core.specs.Taking.{EndsTurn, IsFaultOf, IsReadWhole, IsUnspelled, TakesTurn};
 
@@ -63,12 +67,13 @@ pub fn take<'a, T: WholeText, D: Desk>(
     file: &'a str,
     desk: &mut D,
 ) -> Result<T::Spelled, Ending<'a>>
-    ensures turn { MatchResult result
-        (λ spelled. TakesTurn (input_of (T.kind kind.now) file.now) (D.remaining desk.old file.now) (D.remaining desk.new file.now) (T.value spelled))
-        (λ ending. EndsTurn (input_of (T.kind kind.now) file.now) (D.remaining desk.old file.now) (D.remaining desk.new file.now) (D.faults desk.old file.now) (D.faults desk.new file.now) ending) }
+    ensures turn { (text : List ℕ) → MayHold (D.reads desk.new) file.now text → MatchResult result
+        (λ spelled. TakesTurn (input_of (T.kind kind.now) file.now) (left_in text (given (D.reads desk.old) file.now)) (left_in text (given (D.reads desk.new) file.now)) (T.value spelled))
+        (λ ending. EndsTurn (input_of (T.kind kind.now) file.now) (left_in text (given (D.reads desk.old) file.now)) (left_in text (given (D.reads desk.new) file.now)) (D.faults desk.old file.now) (D.faults desk.new file.now) ending) }
+    ensures reads { Extends (D.reads desk.old) (D.reads desk.new) (λ added. MatchResult result (λ spelled. IsWholeTurn file.now added) (λ ending. EndsTurnReads file.now ending added)) }
     ensures holds { IfOk result (λ spelled. T.holds kind.now spelled) }
     ensures counts { (other : List ℕ) → D.faults desk.old other ≤ D.faults desk.new other }
-    ensures others { (other : List ℕ) → other ≢ file.now → Keeps (D.remaining desk.old other) (D.remaining desk.new other) }
+    ensures others { (other : List ℕ) → other ≢ file.now → StaysUnread (D.reads desk.old) (D.reads desk.new) other }
 {
     let limit = kind.most();
     let mut text = Vec::new(alloc);

@@ -1,9 +1,14 @@
 //! The top call: words in, status out.
-ghost use Rattle.std.specs.Prelude.{◌≡◌, ℕ, List, [], ◌∷◌, Some, codes};
-ghost use Rattle.std.specs.Io.KnownBytes.{Appends};
+ghost use Rattle.std.specs.Prelude.{◌≡◌, ℕ, List, [], ◌∷◌, true, codes};
+ghost use Rattle.razor_base.specs.Headline.Outcomes.{Extends, taken};
+ghost use Rattle.razor_base.specs.Headline.Readings.{ended, given};
+ghost use Rattle.razor_base.specs.Texts.{left_of};
+ghost use Rattle.command_words.specs.Spelling.{command_of};
+ghost use Rattle.razor_core.specs.CallsByStatus.{AreReads, AreWritten};
 ghost use Rattle.razor_core.specs.Headline.Further.{IsArranged, IsShortened};
 ghost use Rattle.razor_core.specs.Headline.Tables.{IsCompiled};
 ghost use Rattle.razor_core.specs.Outside.{seen};
+ghost use Rattle.razor_core.specs.PossibleTexts.{MayBeTexts};
 ghost use Rattle.razor_core.specs.Says.{Says};
 ghost use Rattle.razor_core.specs.Promise.{Promise};
 
@@ -32,15 +37,23 @@ pub fn razor<D: Desk, K: Sink, E: Sink>(
     out: &mut K,
     err: &mut E,
 ) -> u8
-    ensures headline { (file bytes : List ℕ) → words.now ≡ codes "compile" ∷ codes "--" ∷ file ∷ [] → result ≡ 0 → D.remaining desk.old file ≡ Some bytes →
-        (written : List ℕ) × Appends (K.written out.old) (K.written out.new) written × IsCompiled bytes written }
-    ensures arranged { (file bytes : List ℕ) → words.now ≡ codes "arrange" ∷ codes "--" ∷ file ∷ [] → result ≡ 0 → D.remaining desk.old file ≡ Some bytes →
-        (written : List ℕ) × Appends (K.written out.old) (K.written out.new) written × IsArranged bytes written }
-    ensures shortened { (file bytes : List ℕ) → words.now ≡ codes "shorten" ∷ codes "--" ∷ file ∷ [] → result ≡ 0 → D.remaining desk.old file ≡ Some bytes →
-        (written : List ℕ) × Appends (K.written out.old) (K.written out.new) written × IsShortened bytes written }
-    ensures promise { let before = seen D.remaining D.faults K.written K.faults desk.old out.old in
-        let after = seen D.remaining D.faults K.written K.faults desk.new out.new in
+    // The file was read to its end in this call, and what was written then is the text of a table for what was read of it.
+    ensures headline { (file : List ℕ) → words.now ≡ codes "compile" ∷ codes "--" ∷ file ∷ [] → result ≡ 0 →
+        Extends (D.reads desk.old) (D.reads desk.new) (λ read. (ended read file ≡ true) × Extends (K.written out.old) (K.written out.new) (λ written. IsCompiled (given read file) (taken written))) }
+    ensures arranged { (file : List ℕ) → words.now ≡ codes "arrange" ∷ codes "--" ∷ file ∷ [] → result ≡ 0 →
+        Extends (D.reads desk.old) (D.reads desk.new) (λ read. (ended read file ≡ true) × Extends (K.written out.old) (K.written out.new) (λ written. IsArranged (given read file) (taken written))) }
+    ensures shortened { (file : List ℕ) → words.now ≡ codes "shorten" ∷ codes "--" ∷ file ∷ [] → result ≡ 0 →
+        Extends (D.reads desk.old) (D.reads desk.new) (λ read. (ended read file ≡ true) × Extends (K.written out.old) (K.written out.new) (λ written. IsShortened (given read file) (taken written))) }
+
+    // The promise for each command, whatever the inputs may hold by what was read of them.
+    ensures promise { (texts : List ℕ → List ℕ) → MayBeTexts (D.reads desk.new) texts →
+        let before = seen (left_of D.reads texts) D.faults K.written K.faults desk.old out.old in
+        let after = seen (left_of D.reads texts) D.faults K.written K.faults desk.new out.new in
         Promise words.now before after (Says E.written E.faults err.old err.new) result }
+
+    // Which reads and writes it made.
+    ensures reads { Extends (D.reads desk.old) (D.reads desk.new) (AreReads (command_of words.now) result) }
+    ensures writes { Extends (K.written out.old) (K.written out.new) (AreWritten result) }
 {
     let Some(command) = spelled_command(words) else {
         say_usage(err);

@@ -1,21 +1,24 @@
 //! Running a trace over a memory: its answers are written while it is read.
 ghost use Rattle.std.specs.Prelude.{◌≡◌, ◌≢◌, ◌≤◌, ◌+◌, ℕ, List, [], IsErrOf};
-ghost use Rattle.std.specs.Io.KnownBytes.{Appends, Keeps};
 ghost use Rattle.razor_limits.specs.Counts.{Rose};
+ghost use Rattle.razor_base.specs.Headline.Readings.{given};
+ghost use Rattle.razor_base.specs.Texts.{MayHold, StaysUnread, left_in};
+ghost use Rattle.trace_run.specs.Turn.{IsTurnOfTrace};
 ghost use Rattle.razor_base.specs.Input.{TakesAtMost};
-ghost use Rattle.razor_base.specs.Output.{AppendsFront};
+ghost use Rattle.razor_base.specs.Output.{Appends, AppendsFront};
+ghost use Rattle.razor_base.specs.Headline.Outcomes.{Extends};
 ghost use Rattle.razor_limits.specs.declared.limits.TheConstants.{MOST_TRACE_BYTES, PIECE_BYTES};
 ghost use Rattle.trace_run.specs.Answers.{HaveNames, answers_text};
 ghost use Rattle.trace_run.specs.Outcome.{Begun, Outcome, Written};
 ghost use Rattle.trace_run.specs.Pace.{IsPaced};
-ghost use Rattle.trace_run.specs.Progress.{OnWriteFault, UnlessFault, UnlessWriteFault, is_lost};
+ghost use Rattle.trace_run.specs.Progress.{AreTried, OnWriteFault, UnlessFault, UnlessWriteFault, is_lost};
 ghost use Rattle.trace_run.specs.declared.error.TraceError.TheVariants.{ReadFault};
 
 use crate::error::TraceError;
 use crate::progress::Progress;
 use field_boxes::Decisions;
 use razor_base::limits::{BUFFER_BYTES, MOST_TRACE_BYTES};
-use razor_base::{Desk, Pending, Sink};
+use razor_base::{Desk, Pending, Sink, read_piece};
 use std::alloc::Global;
 use tcam_sim::Device;
 
@@ -32,23 +35,25 @@ fn put_answers<V: Device, D: Desk, K: Sink>(
 ) -> Result<u64, TraceError>
     requires names { HaveNames names.now (V.held device.now) }
     requires none { pending.old ≡ [] }
-    ensures outcome { Outcome (Written K.written out.old out.new pending.old pending.new) (Begun K.written out.old out.new pending.old)
-        (answers_text names.now (V.held device.now)) MOST_TRACE_BYTES (D.remaining desk.old name.now) (D.remaining desk.new name.now) result }
+    ensures turn { Extends (D.reads desk.old) (D.reads desk.new) (λ added. IsTurnOfTrace name.now result added) }
+    ensures tries { Extends (K.written out.old) (K.written out.new) (AreTried result) }
+    ensures outcome { (text : List ℕ) → MayHold (D.reads desk.new) name.now text → Outcome (Written K.written out.old out.new pending.old pending.new) (Begun K.written out.old out.new pending.old)
+        (answers_text names.now (V.held device.now)) MOST_TRACE_BYTES (left_in text (given (D.reads desk.old) name.now)) (left_in text (given (D.reads desk.new) name.now)) result }
     ensures write_fault { OnWriteFault result (Rose (K.faults out.old) (K.faults out.new)) }
     ensures calm { UnlessWriteFault result (K.faults out.new ≡ K.faults out.old) }
     ensures written { K.faults out.old ≤ K.faults out.new }
     ensures read_fault { IsErrOf result ReadFault → Rose (D.faults desk.old name.now) (D.faults desk.new name.now) }
     ensures none_failed { UnlessFault result ((other : List ℕ) → D.faults desk.new other ≡ D.faults desk.old other) }
-    ensures near { TakesAtMost (D.remaining desk.old name.now) (D.remaining desk.new name.now) (MOST_TRACE_BYTES + PIECE_BYTES) }
-    ensures paced { IsPaced (answers_text names.now (V.held device.now)) (K.written out.old) (K.written out.new) (D.remaining desk.old name.now) (D.remaining desk.new name.now) }
-    ensures others { (other : List ℕ) → other ≢ name.now → Keeps (D.remaining desk.old other) (D.remaining desk.new other) }
+    ensures near { (text : List ℕ) → MayHold (D.reads desk.new) name.now text → TakesAtMost (left_in text (given (D.reads desk.old) name.now)) (left_in text (given (D.reads desk.new) name.now)) (MOST_TRACE_BYTES + PIECE_BYTES) }
+    ensures paced { (text : List ℕ) → MayHold (D.reads desk.new) name.now text → IsPaced (answers_text names.now (V.held device.now)) (K.written out.old) (K.written out.new) (left_in text (given (D.reads desk.old) name.now)) (left_in text (given (D.reads desk.new) name.now)) }
+    ensures others { (other : List ℕ) → other ≢ name.now → StaysUnread (D.reads desk.old) (D.reads desk.new) other }
     ensures counts { (other : List ℕ) → D.faults desk.old other ≤ D.faults desk.new other }
 {
     let mut progress = Progress::new(alloc);
     let mut piece = [0; BUFFER_BYTES];
     let mut room = MOST_TRACE_BYTES as usize;
     'pieces: loop {
-        let Ok(count) = desk.read(name, &mut piece) else {
+        let Ok(count) = read_piece(desk, name, &mut piece) else {
             return Err(TraceError::ReadFault);
         };
         if count == 0 {
@@ -95,8 +100,10 @@ pub fn run<V: Device, D: Desk, K: Sink>(
     out: &mut K,
 ) -> Result<u64, TraceError>
     requires { HaveNames names.now (V.held device.now) }
-    ensures outcome { Outcome (Appends (K.written out.old) (K.written out.new)) (AppendsFront (K.written out.old) (K.written out.new))
-        (answers_text names.now (V.held device.now)) MOST_TRACE_BYTES (D.remaining desk.old name.now) (D.remaining desk.new name.now) result }
+    ensures turn { Extends (D.reads desk.old) (D.reads desk.new) (λ added. IsTurnOfTrace name.now result added) }
+    ensures tries { Extends (K.written out.old) (K.written out.new) (AreTried result) }
+    ensures outcome { (text : List ℕ) → MayHold (D.reads desk.new) name.now text → Outcome (Appends (K.written out.old) (K.written out.new)) (AppendsFront (K.written out.old) (K.written out.new))
+        (answers_text names.now (V.held device.now)) MOST_TRACE_BYTES (left_in text (given (D.reads desk.old) name.now)) (left_in text (given (D.reads desk.new) name.now)) result }
 
     // A fault comes only where its count rose, and no count falls.
     ensures read_fault { IsErrOf result ReadFault → Rose (D.faults desk.old name.now) (D.faults desk.new name.now) }
@@ -107,13 +114,13 @@ pub fn run<V: Device, D: Desk, K: Sink>(
     ensures none_failed { UnlessFault result ((other : List ℕ) → D.faults desk.new other ≡ D.faults desk.old other) }
 
     // Past the limit at most one piece is read, and past what was answered, however it ends.
-    ensures near { TakesAtMost (D.remaining desk.old name.now) (D.remaining desk.new name.now) (MOST_TRACE_BYTES + PIECE_BYTES) }
-    ensures paced { IsPaced (answers_text names.now (V.held device.now)) (K.written out.old) (K.written out.new) (D.remaining desk.old name.now) (D.remaining desk.new name.now) }
+    ensures near { (text : List ℕ) → MayHold (D.reads desk.new) name.now text → TakesAtMost (left_in text (given (D.reads desk.old) name.now)) (left_in text (given (D.reads desk.new) name.now)) (MOST_TRACE_BYTES + PIECE_BYTES) }
+    ensures paced { (text : List ℕ) → MayHold (D.reads desk.new) name.now text → IsPaced (answers_text names.now (V.held device.now)) (K.written out.old) (K.written out.new) (left_in text (given (D.reads desk.old) name.now)) (left_in text (given (D.reads desk.new) name.now)) }
     ensures counts { (other : List ℕ) → D.faults desk.old other ≤ D.faults desk.new other }
     ensures written { K.faults out.old ≤ K.faults out.new }
 
     // The other inputs keep what they had.
-    ensures others { (other : List ℕ) → other ≢ name.now → Keeps (D.remaining desk.old other) (D.remaining desk.new other) }
+    ensures others { (other : List ℕ) → other ≢ name.now → StaysUnread (D.reads desk.old) (D.reads desk.new) other }
 {
     let mut pending = Pending::new();
     let ended = put_answers(alloc, device, names, desk, name, &mut pending, out);

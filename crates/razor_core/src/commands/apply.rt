@@ -1,13 +1,17 @@
 //! `apply`: a memory after the writes of a plan.
-ghost use Rattle.std.specs.Prelude.{◌≡◌, ◌≢◌, ℕ, List, [], ◌∷◌, Some};
-ghost use Rattle.std.specs.Io.KnownBytes.{Keeps};
+ghost use Rattle.std.specs.Prelude.{◌≡◌, ◌≢◌, ℕ, List, [], ◌∷◌};
+ghost use Rattle.razor_base.specs.Headline.Outcomes.{Extends};
 ghost use Rattle.memory_text.specs.Views.{memory_of, plan_of};
+ghost use Rattle.razor_base.specs.Texts.{StaysUnread, left_of};
+ghost use Rattle.razor_core.specs.PossibleTexts.{MayBeTexts};
 ghost use Rattle.razor_core.specs.Behind.{EndsOver};
 ghost use Rattle.razor_core.specs.Ending.{Ends};
 ghost use Rattle.razor_core.specs.Outside.{seen, Adds, Outside};
 ghost use Rattle.razor_core.specs.Commands.Apply.{misfit, applying, IsAppliedText};
 ghost use Rattle.razor_core.specs.Taking.{memory_value_of, plan_value_of};
 ghost use Rattle.razor_core.specs.Promise.{KeepsPromise};
+ghost use Rattle.razor_core.specs.Calls.{MakesCalls, WritesBehind};
+ghost use Rattle.razor_core.specs.Meaning.{at_the_end};
 
 use crate::ending::{Ending, written};
 use crate::line_reason::LineReason;
@@ -26,11 +30,12 @@ pub(crate) fn apply_plan<'a, D: Desk, K: Sink>(
     desk: &mut D,
     out: &mut K,
 ) -> Ending<'a>
-    ensures ends { Ends (applying files.entry.first.now files.entry.second.now)
-        (seen D.remaining D.faults K.written K.faults desk.old out.old)
-        (seen D.remaining D.faults K.written K.faults desk.new out.new)
+    ensures ends { (texts : List ℕ → List ℕ) → MayBeTexts (D.reads desk.new) texts → Ends (applying files.entry.first.now files.entry.second.now)
+        (seen (left_of D.reads texts) D.faults K.written K.faults desk.old out.old)
+        (seen (left_of D.reads texts) D.faults K.written K.faults desk.new out.new)
         result }
-    ensures others { (other : List ℕ) → other ≢ files.entry.first.now → other ≢ files.entry.second.now → Keeps (D.remaining desk.old other) (D.remaining desk.new other) }
+    ensures others { (other : List ℕ) → other ≢ files.entry.first.now → other ≢ files.entry.second.now → StaysUnread (D.reads desk.old) (D.reads desk.new) other }
+    ensures calls { MakesCalls at_the_end (files.entry.first.now ∷ files.entry.second.now ∷ []) (D.reads desk.old) (D.reads desk.new) (K.written out.old) (K.written out.new) result }
 {
     let memory = match take(alloc, &MemoryText, files.first, desk) {
         Ok(memory) => memory,
@@ -50,8 +55,9 @@ fn apply_over<'a, K: Sink>(
     file: &'a str,
     out: &mut K,
 ) -> Ending<'a>
-    ensures { (first : List ℕ) → EndsOver (applying first file.now) (memory_value_of memory ∷ plan_value_of plan.now ∷ [])
+    ensures ends { (first : List ℕ) → EndsOver (applying first file.now) (memory_value_of memory ∷ plan_value_of plan.now ∷ [])
         (K.written out.old) (K.written out.new) (K.faults out.old) (K.faults out.new) result }
+    ensures writes { Extends (K.written out.old) (K.written out.new) (WritesBehind result) }
 {
     if let Some(reason) = misfit(&memory, plan) {
         return Ending::BadLine {
@@ -83,6 +89,6 @@ fn misfit(memory: &SlotMemory, plan: &SlotPlan) -> Option<LineReason>
 /// What `apply` has written is the memory after the writes of the plan.
 pub fn applied_plans_are_written()
     ensures { (before after : Outside) (line : List ℕ) (memory plan first second : List ℕ) →
-        KeepsPromise (applying memory plan) before after line 0 → before.remaining memory ≡ Some first → before.remaining plan ≡ Some second →
+        KeepsPromise (applying memory plan) before after line 0 → before.remaining memory ≡ first → before.remaining plan ≡ second →
         Adds before after (IsAppliedText first second) }
 {}

@@ -1,13 +1,17 @@
 //! `audit`: the state of each rule of a list.
-ghost use Rattle.std.specs.Prelude.{◌≢◌, ◌≡◌, ℕ, List, Some};
-ghost use Rattle.std.specs.Io.KnownBytes.{Keeps};
+ghost use Rattle.std.specs.Prelude.{◌≢◌, ◌≡◌, ℕ, List, [], ◌∷◌};
+ghost use Rattle.razor_base.specs.Headline.Outcomes.{Extends};
 ghost use Rattle.field_boxes.specs.Lists.{filter_list};
 ghost use Rattle.razor_base.specs.Output.{Puts, Writes};
+ghost use Rattle.razor_base.specs.Texts.{StaysUnread, left_of};
+ghost use Rattle.razor_core.specs.PossibleTexts.{MayBeTexts};
 ghost use Rattle.razor_core.specs.Commands.Audit.{found_state, state_line, states_text, AreStated, auditing, IsAudited};
 ghost use Rattle.razor_core.specs.Ending.{Ends};
 ghost use Rattle.razor_core.specs.OneText.{IsEndOf};
 ghost use Rattle.razor_core.specs.Outside.{seen, Adds, Outside};
 ghost use Rattle.razor_core.specs.Promise.{KeepsPromise};
+ghost use Rattle.razor_core.specs.Calls.{MakesCalls, WritesBehind};
+ghost use Rattle.razor_core.specs.Meaning.{at_the_end};
 
 use crate::ending::{Ending, Summary};
 use crate::taking::take;
@@ -25,11 +29,12 @@ pub(crate) fn audit_list<'a, D: Desk, K: Sink>(
     desk: &mut D,
     out: &mut K,
 ) -> Ending<'a>
-    ensures ends { Ends (auditing file.now)
-        (seen D.remaining D.faults K.written K.faults desk.old out.old)
-        (seen D.remaining D.faults K.written K.faults desk.new out.new)
+    ensures ends { (texts : List ℕ → List ℕ) → MayBeTexts (D.reads desk.new) texts → Ends (auditing file.now)
+        (seen (left_of D.reads texts) D.faults K.written K.faults desk.old out.old)
+        (seen (left_of D.reads texts) D.faults K.written K.faults desk.new out.new)
         result }
-    ensures others { (other : List ℕ) → other ≢ file.now → Keeps (D.remaining desk.old other) (D.remaining desk.new other) }
+    ensures others { (other : List ℕ) → other ≢ file.now → StaysUnread (D.reads desk.old) (D.reads desk.new) other }
+    ensures calls { MakesCalls at_the_end (file.now ∷ []) (D.reads desk.old) (D.reads desk.new) (K.written out.old) (K.written out.new) result }
 {
     let list = match take(alloc, &ListText, file, desk) {
         Ok(list) => list,
@@ -40,7 +45,8 @@ pub(crate) fn audit_list<'a, D: Desk, K: Sink>(
 
 /// Writes the states, and says how the command ends.
 fn answer_audit<'a, K: Sink>(alloc: Global, list: &RuleList, out: &mut K) -> Ending<'a>
-    ensures { IsEndOf (AreStated (filter_list list.now).rules) (K.written out.old) (K.written out.new) (K.faults out.old) (K.faults out.new) result }
+    ensures ends { IsEndOf (AreStated (filter_list list.now).rules) (K.written out.old) (K.written out.new) (K.faults out.old) (K.faults out.new) result }
+    ensures writes { Extends (K.written out.old) (K.written out.new) (WritesBehind result) }
 {
     let states = match audit(alloc, list) {
         Ok(states) => states,
@@ -135,6 +141,6 @@ fn put_found<'a, K: Sink>(
 /// What `audit` has written is the state of each rule.
 pub fn states_are_those_of_the_rules()
     ensures { (before after : Outside) (line : List ℕ) (file text : List ℕ) →
-        KeepsPromise (auditing file) before after line 0 → before.remaining file ≡ Some text →
+        KeepsPromise (auditing file) before after line 0 → before.remaining file ≡ text →
         Adds before after (IsAudited text) }
 {}

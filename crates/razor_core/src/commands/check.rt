@@ -1,13 +1,16 @@
 //! `check`: whether a certificate shows that a list and a table decide every header alike.
-ghost use Rattle.std.specs.Prelude.{◌≡◌, ◌≢◌, ◌∷◌, ◌++◌, [], ℕ, List, Some};
-ghost use Rattle.std.specs.Io.KnownBytes.{Keeps};
+ghost use Rattle.std.specs.Prelude.{◌≡◌, ◌≢◌, ◌∷◌, ◌++◌, [], ℕ, List};
 ghost use Rattle.razor_base.specs.Output.{Writes};
 ghost use Rattle.partition_check.specs.Agreement.{HaveNames};
 ghost use Rattle.partition_check.specs.Checking.{begun};
+ghost use Rattle.razor_base.specs.Texts.{StaysUnread, left_of};
+ghost use Rattle.razor_core.specs.PossibleTexts.{MayBeTexts};
 ghost use Rattle.razor_core.specs.Commands.Check.{row_line, valid_line, wrong_line, IsEndOfCheck, checking, AgreeByName};
 ghost use Rattle.razor_core.specs.Outside.{seen, Outside};
 ghost use Rattle.razor_core.specs.Ending.{Ends};
 ghost use Rattle.razor_core.specs.Promise.{KeepsPromise};
+ghost use Rattle.razor_core.specs.Calls.{MakesCalls};
+ghost use Rattle.razor_core.specs.Meaning.{at_the_end};
 
 use crate::ending::{Ending, Summary};
 use crate::taking::take;
@@ -106,11 +109,12 @@ fn check_by<'a, D: Desk, K: Sink>(
     out: &mut K,
 ) -> Ending<'a>
     requires { checker ≡ begun list.now table.now }
-    ensures ends { IsEndOfCheck list.now table.now file.now
-        (seen D.remaining D.faults K.written K.faults desk.old out.old)
-        (seen D.remaining D.faults K.written K.faults desk.new out.new)
+    ensures ends { (texts : List ℕ → List ℕ) → MayBeTexts (D.reads desk.new) texts → IsEndOfCheck list.now table.now file.now
+        (seen (left_of D.reads texts) D.faults K.written K.faults desk.old out.old)
+        (seen (left_of D.reads texts) D.faults K.written K.faults desk.new out.new)
         result }
-    ensures others { (other : List ℕ) → other ≢ file.now → Keeps (D.remaining desk.old other) (D.remaining desk.new other) }
+    ensures others { (other : List ℕ) → other ≢ file.now → StaysUnread (D.reads desk.old) (D.reads desk.new) other }
+    ensures calls { MakesCalls at_the_end (file.now ∷ []) (D.reads desk.old) (D.reads desk.new) (K.written out.old) (K.written out.new) result }
 {
     let mut buffer = [0; BUFFER_BYTES];
     match check_stream(checker, desk, file, &mut buffer) {
@@ -139,11 +143,12 @@ fn check_rows<'a, D: Desk, K: Sink>(
     desk: &mut D,
     out: &mut K,
 ) -> Ending<'a>
-    ensures ends { IsEndOfCheck list.now table.now file.now
-        (seen D.remaining D.faults K.written K.faults desk.old out.old)
-        (seen D.remaining D.faults K.written K.faults desk.new out.new)
+    ensures ends { (texts : List ℕ → List ℕ) → MayBeTexts (D.reads desk.new) texts → IsEndOfCheck list.now table.now file.now
+        (seen (left_of D.reads texts) D.faults K.written K.faults desk.old out.old)
+        (seen (left_of D.reads texts) D.faults K.written K.faults desk.new out.new)
         result }
-    ensures others { (other : List ℕ) → other ≢ file.now → Keeps (D.remaining desk.old other) (D.remaining desk.new other) }
+    ensures others { (other : List ℕ) → other ≢ file.now → StaysUnread (D.reads desk.old) (D.reads desk.new) other }
+    ensures calls { MakesCalls at_the_end (file.now ∷ []) (D.reads desk.old) (D.reads desk.new) (K.written out.old) (K.written out.new) result }
 {
     match Checker::any(alloc, list, table) {
         Ok(checker) => check_by(checker, list, table, file, desk, out),
@@ -159,11 +164,12 @@ pub(crate) fn check_certificate<'a, D: Desk, K: Sink>(
     desk: &mut D,
     out: &mut K,
 ) -> Ending<'a>
-    ensures ends { Ends (checking files.entry.first.now files.entry.second.now files.entry.third.now)
-        (seen D.remaining D.faults K.written K.faults desk.old out.old)
-        (seen D.remaining D.faults K.written K.faults desk.new out.new)
+    ensures ends { (texts : List ℕ → List ℕ) → MayBeTexts (D.reads desk.new) texts → Ends (checking files.entry.first.now files.entry.second.now files.entry.third.now)
+        (seen (left_of D.reads texts) D.faults K.written K.faults desk.old out.old)
+        (seen (left_of D.reads texts) D.faults K.written K.faults desk.new out.new)
         result }
-    ensures others { (other : List ℕ) → other ≢ files.entry.first.now → other ≢ files.entry.second.now → other ≢ files.entry.third.now → Keeps (D.remaining desk.old other) (D.remaining desk.new other) }
+    ensures others { (other : List ℕ) → other ≢ files.entry.first.now → other ≢ files.entry.second.now → other ≢ files.entry.third.now → StaysUnread (D.reads desk.old) (D.reads desk.new) other }
+    ensures calls { MakesCalls at_the_end (files.entry.first.now ∷ files.entry.second.now ∷ files.entry.third.now ∷ []) (D.reads desk.old) (D.reads desk.new) (K.written out.old) (K.written out.new) result }
 {
     let list = match take(alloc, &ListText, files.first, desk) {
         Ok(list) => list,
@@ -181,6 +187,6 @@ pub(crate) fn check_certificate<'a, D: Desk, K: Sink>(
 pub fn valid_certificates_show_agreement()
     ensures { (before after : Outside) (line : List ℕ) (list table certificate first second third : List ℕ) →
         KeepsPromise (checking list table certificate) before after line 0 →
-        before.remaining list ≡ Some first → before.remaining table ≡ Some second → before.remaining certificate ≡ Some third →
+        before.remaining list ≡ first → before.remaining table ≡ second → before.remaining certificate ≡ third →
         AgreeByName first second }
 {}

@@ -1,15 +1,20 @@
 //! `drive`: a script of updates, run over tables in a memory.
-ghost use Rattle.std.specs.Prelude.{◌≡◌, ◌≢◌, ◌≤◌, ◌<◌, ◌++◌, ◌∷◌, ℕ, List, IfErr, IsTrue, OnOk, Some, length, map};
-ghost use Rattle.std.specs.Io.KnownBytes.{Keeps};
+ghost use Rattle.std.specs.Prelude.{◌≡◌, ◌≢◌, ◌≤◌, ◌<◌, ◌++◌, ◌∷◌, ℕ, List, IfErr, IsTrue, MatchResult, OnOk, length, map};
+ghost use Rattle.razor_base.specs.Headline.Outcomes.{Extends};
+ghost use Rattle.razor_base.specs.Turns.{AreWholeTurns};
 ghost use Rattle.command_words.specs.Commands.{Drive};
 ghost use Rattle.command_words.specs.Files.{all_differ, script_and_tables};
 ghost use Rattle.command_words.specs.PlainWords.{plain_seen};
+ghost use Rattle.razor_base.specs.Texts.{StaysUnread, left_of};
+ghost use Rattle.razor_core.specs.PossibleTexts.{MayBeTexts};
 ghost use Rattle.razor_core.specs.Commands.{meaning};
-ghost use Rattle.razor_core.specs.Outside.{seen, IsNoInput, Adds, Outside, Tells};
+ghost use Rattle.razor_core.specs.Outside.{seen, IsNoInput, Adds, Outside};
 ghost use Rattle.razor_core.specs.Ending.{Ends};
 ghost use Rattle.razor_core.specs.Commands.Drive.{IsEndOfDrive, swapping, IsDriven};
 ghost use Rattle.razor_core.specs.Tables.{AreAdded, IsNone, FailsAmong};
 ghost use Rattle.razor_core.specs.Promise.{KeepsPromise};
+ghost use Rattle.razor_core.specs.Calls.{EndsAmong, MakesCalls, names_of};
+ghost use Rattle.razor_core.specs.Meaning.{by_lines};
 
 use crate::ending::{Ending, Summary};
 use crate::taking::take;
@@ -30,10 +35,11 @@ fn take_tables<'a, D: Desk>(
     tables: &mut Vec<Table>,
 ) -> Result<(), Ending<'a>>
     requires { IsTrue (all_differ (map (λ word. word.now) files.now)) }
-    ensures taken { OnOk result (AreAdded (map (λ word. word.now) files.now) (D.remaining desk.old) (D.remaining desk.new) tables.old.items tables.new.items) }
-    ensures ended { IfErr result (λ ending. FailsAmong (map (λ word. word.now) files.now) (D.remaining desk.old) (D.remaining desk.new) (D.faults desk.old) (D.faults desk.new) ending) }
+    ensures taken { (texts : List ℕ → List ℕ) → MayBeTexts (D.reads desk.new) texts → OnOk result (AreAdded (map (λ word. word.now) files.now) (left_of D.reads texts desk.old) (left_of D.reads texts desk.new) tables.old.items tables.new.items) }
+    ensures ended { (texts : List ℕ → List ℕ) → MayBeTexts (D.reads desk.new) texts → IfErr result (λ ending. FailsAmong (map (λ word. word.now) files.now) (left_of D.reads texts desk.old) (left_of D.reads texts desk.new) (D.faults desk.old) (D.faults desk.new) ending) }
+    ensures reads { Extends (D.reads desk.old) (D.reads desk.new) (λ added. MatchResult result (λ none. AreWholeTurns (map (λ word. word.now) files.now) added) (λ ending. EndsAmong (map (λ word. word.now) files.now) ending added)) }
     ensures counts { (other : List ℕ) → D.faults desk.old other ≤ D.faults desk.new other }
-    ensures others { (other : List ℕ) → IsNone other (map (λ word. word.now) files.now) → Keeps (D.remaining desk.old other) (D.remaining desk.new other) }
+    ensures others { (other : List ℕ) → IsNone other (map (λ word. word.now) files.now) → StaysUnread (D.reads desk.old) (D.reads desk.new) other }
 {
     let [file, rest @ ..] = files else {
         return Ok(());
@@ -67,11 +73,13 @@ pub(crate) fn run_script<'a, D: Desk, K: Sink>(
     desk: &mut D,
     out: &mut K,
 ) -> Ending<'a>
-    ensures ends { Ends (meaning (script_and_tables (Drive run.now.slots.count) (plain_seen run.now.words)))
-        (seen D.remaining D.faults K.written K.faults desk.old out.old)
-        (seen D.remaining D.faults K.written K.faults desk.new out.new)
+    ensures ends { (texts : List ℕ → List ℕ) → MayBeTexts (D.reads desk.new) texts → Ends (meaning (script_and_tables (Drive run.now.slots.count) (plain_seen run.now.words)))
+        (seen (left_of D.reads texts) D.faults K.written K.faults desk.old out.old)
+        (seen (left_of D.reads texts) D.faults K.written K.faults desk.new out.new)
         result }
-    ensures others { (other : List ℕ) → IsNoInput (meaning (script_and_tables (Drive run.now.slots.count) (plain_seen run.now.words))).inputs other → Keeps (D.remaining desk.old other) (D.remaining desk.new other) }
+    ensures others { (other : List ℕ) → IsNoInput (meaning (script_and_tables (Drive run.now.slots.count) (plain_seen run.now.words))).inputs other → StaysUnread (D.reads desk.old) (D.reads desk.new) other }
+    ensures calls { let command = meaning (script_and_tables (Drive run.now.slots.count) (plain_seen run.now.words)) in
+        MakesCalls command.writes (names_of command) (D.reads desk.old) (D.reads desk.new) (K.written out.old) (K.written out.new) result }
 {
     run_words(alloc, run.slots, run.words.as_slice(), desk, out)
 }
@@ -87,11 +95,13 @@ fn run_words<'a, D: Desk, K: Sink>(
     requires some { 0 < length files.now }
     requires few { length files.now ≤ 9 }
     requires apart { IsTrue (all_differ (map (λ word. word.now) files.now)) }
-    ensures ends { Ends (meaning (script_and_tables (Drive slots.count) (map (λ word. word.now) files.now)))
-        (seen D.remaining D.faults K.written K.faults desk.old out.old)
-        (seen D.remaining D.faults K.written K.faults desk.new out.new)
+    ensures ends { (texts : List ℕ → List ℕ) → MayBeTexts (D.reads desk.new) texts → Ends (meaning (script_and_tables (Drive slots.count) (map (λ word. word.now) files.now)))
+        (seen (left_of D.reads texts) D.faults K.written K.faults desk.old out.old)
+        (seen (left_of D.reads texts) D.faults K.written K.faults desk.new out.new)
         result }
-    ensures others { (other : List ℕ) → IsNoInput (meaning (script_and_tables (Drive slots.count) (map (λ word. word.now) files.now))).inputs other → Keeps (D.remaining desk.old other) (D.remaining desk.new other) }
+    ensures others { (other : List ℕ) → IsNoInput (meaning (script_and_tables (Drive slots.count) (map (λ word. word.now) files.now))).inputs other → StaysUnread (D.reads desk.old) (D.reads desk.new) other }
+    ensures calls { let command = meaning (script_and_tables (Drive slots.count) (map (λ word. word.now) files.now)) in
+        MakesCalls command.writes (names_of command) (D.reads desk.old) (D.reads desk.new) (K.written out.old) (K.written out.new) result }
 {
     let [script, tables @ ..] = files else {
         unreachable!()
@@ -110,11 +120,12 @@ fn run_tables<'a, D: Desk, K: Sink>(
 ) -> Ending<'a>
     requires few { length files.now ≤ 8 }
     requires apart { IsTrue (all_differ (script.now ∷ map (λ word. word.now) files.now)) }
-    ensures ends { Ends (swapping slots.count script.now (map (λ word. word.now) files.now))
-        (seen D.remaining D.faults K.written K.faults desk.old out.old)
-        (seen D.remaining D.faults K.written K.faults desk.new out.new)
+    ensures ends { (texts : List ℕ → List ℕ) → MayBeTexts (D.reads desk.new) texts → Ends (swapping slots.count script.now (map (λ word. word.now) files.now))
+        (seen (left_of D.reads texts) D.faults K.written K.faults desk.old out.old)
+        (seen (left_of D.reads texts) D.faults K.written K.faults desk.new out.new)
         result }
-    ensures others { (other : List ℕ) → IsNoInput (swapping slots.count script.now (map (λ word. word.now) files.now)).inputs other → Keeps (D.remaining desk.old other) (D.remaining desk.new other) }
+    ensures others { (other : List ℕ) → IsNoInput (swapping slots.count script.now (map (λ word. word.now) files.now)).inputs other → StaysUnread (D.reads desk.old) (D.reads desk.new) other }
+    ensures calls { MakesCalls by_lines (names_of (swapping slots.count script.now (map (λ word. word.now) files.now))) (D.reads desk.old) (D.reads desk.new) (K.written out.old) (K.written out.new) result }
 {
     let tables = files.len() as u32;
     let script = match take(alloc, &ScriptText { tables }, script, desk) {
@@ -138,6 +149,6 @@ fn run_tables<'a, D: Desk, K: Sink>(
 /// What `drive` has written is the line of each command of the script, run over the tables.
 pub fn scripts_print_their_sessions()
     ensures { (before after : Outside) (line : List ℕ) (slots : ℕ) (script : List ℕ) (tables : List (List ℕ)) (text : List ℕ) →
-        KeepsPromise (swapping slots script tables) before after line 0 → Tells before (swapping slots script tables).inputs → before.remaining script ≡ Some text →
+        KeepsPromise (swapping slots script tables) before after line 0 → before.remaining script ≡ text →
         Adds before after (IsDriven slots before tables text) }
 {}

@@ -1,15 +1,19 @@
 //! `equiv`: whether two lists decide every header alike, or on which they first differ.
-ghost use Rattle.std.specs.Prelude.{◌≢◌, ℕ, List, [], ◌∷◌, ◌≡◌, Some};
-ghost use Rattle.std.specs.Io.KnownBytes.{Keeps};
+ghost use Rattle.std.specs.Prelude.{◌≢◌, ℕ, List, [], ◌∷◌, ◌≡◌};
+ghost use Rattle.razor_base.specs.Headline.Outcomes.{Extends};
 ghost use Rattle.field_boxes.specs.Lists.{filter_list};
 ghost use Rattle.list_equiv.specs.Verdict.{IsListVerdict};
 ghost use Rattle.razor_base.specs.Output.{Writes};
+ghost use Rattle.razor_base.specs.Texts.{StaysUnread, left_of};
+ghost use Rattle.razor_core.specs.PossibleTexts.{MayBeTexts};
 ghost use Rattle.razor_core.specs.Behind.{EndsOver};
 ghost use Rattle.razor_core.specs.Ending.{Ends};
 ghost use Rattle.razor_core.specs.Commands.Equiv.{verdict_text, IsAnswer, comparing, AreEqualLists};
 ghost use Rattle.razor_core.specs.Outside.{seen, Outside};
 ghost use Rattle.razor_core.specs.Taking.{value_of};
 ghost use Rattle.razor_core.specs.Promise.{KeepsPromise};
+ghost use Rattle.razor_core.specs.Calls.{MakesCalls, WritesBehind};
+ghost use Rattle.razor_core.specs.Meaning.{at_the_end};
 
 use crate::commands::difference::write_difference;
 use crate::ending::{Ending, Summary};
@@ -29,11 +33,12 @@ pub(crate) fn compare_lists<'a, D: Desk, K: Sink>(
     desk: &mut D,
     out: &mut K,
 ) -> Ending<'a>
-    ensures ends { Ends (comparing files.entry.first.now files.entry.second.now)
-        (seen D.remaining D.faults K.written K.faults desk.old out.old)
-        (seen D.remaining D.faults K.written K.faults desk.new out.new)
+    ensures ends { (texts : List ℕ → List ℕ) → MayBeTexts (D.reads desk.new) texts → Ends (comparing files.entry.first.now files.entry.second.now)
+        (seen (left_of D.reads texts) D.faults K.written K.faults desk.old out.old)
+        (seen (left_of D.reads texts) D.faults K.written K.faults desk.new out.new)
         result }
-    ensures others { (other : List ℕ) → other ≢ files.entry.first.now → other ≢ files.entry.second.now → Keeps (D.remaining desk.old other) (D.remaining desk.new other) }
+    ensures others { (other : List ℕ) → other ≢ files.entry.first.now → other ≢ files.entry.second.now → StaysUnread (D.reads desk.old) (D.reads desk.new) other }
+    ensures calls { MakesCalls at_the_end (files.entry.first.now ∷ files.entry.second.now ∷ []) (D.reads desk.old) (D.reads desk.new) (K.written out.old) (K.written out.new) result }
 {
     let left = match take(alloc, &ListText, files.first, desk) {
         Ok(list) => list,
@@ -48,8 +53,9 @@ pub(crate) fn compare_lists<'a, D: Desk, K: Sink>(
 
 /// Writes what comparing the lists comes to, and says how the command ends.
 fn compare<'a, K: Sink>(alloc: Global, left: &RuleList, right: &RuleList, out: &mut K) -> Ending<'a>
-    ensures { (one two : List ℕ) → EndsOver (comparing one two) (value_of left.now ∷ value_of right.now ∷ [])
+    ensures ends { (one two : List ℕ) → EndsOver (comparing one two) (value_of left.now ∷ value_of right.now ∷ [])
         (K.written out.old) (K.written out.new) (K.faults out.old) (K.faults out.new) result }
+    ensures writes { Extends (K.written out.old) (K.written out.new) (WritesBehind result) }
 {
     let verdict = match equal(alloc, left, right) {
         Ok(verdict) => verdict,
@@ -99,6 +105,6 @@ fn answered<'a>(verdict: Verdict) -> Ending<'a>
 /// Where `equiv` says that two lists are equal, they decide every header alike.
 pub fn equal_lists_decide_alike()
     ensures { (before after : Outside) (line : List ℕ) (left right first second : List ℕ) →
-        KeepsPromise (comparing left right) before after line 0 → before.remaining left ≡ Some first → before.remaining right ≡ Some second →
+        KeepsPromise (comparing left right) before after line 0 → before.remaining left ≡ first → before.remaining right ≡ second →
         AreEqualLists first second }
 {}

@@ -1,13 +1,16 @@
 //! What `expand`, `compile`, `arrange` and `shorten` share: a list is read, and its table is written.
-ghost use Rattle.std.specs.Prelude.{◌≡◌, ◌≢◌, ◌≤◌, ℕ, List, IfOk, MatchResult, length};
-ghost use Rattle.std.specs.Io.KnownBytes.{Keeps};
+ghost use Rattle.std.specs.Prelude.{◌≡◌, ◌≢◌, ◌≤◌, ℕ, List, [], ◌∷◌, IfOk, MatchResult, length};
 ghost use Rattle.command_words.specs.Commands.{method_seen};
 ghost use Rattle.command_words.specs.Settings.{sizes_of};
 ghost use Rattle.field_boxes.specs.Lists.{filter_list};
 ghost use Rattle.ternary_words.specs.Views.{table_of};
+ghost use Rattle.razor_base.specs.Texts.{StaysUnread, left_of};
+ghost use Rattle.razor_core.specs.PossibleTexts.{MayBeTexts};
 ghost use Rattle.razor_core.specs.Outside.{seen};
 ghost use Rattle.razor_core.specs.Ending.{Ends, summary_text};
 ghost use Rattle.razor_core.specs.Commands.Make.{IsMade, IsNeeded, IsNotMade, IsOrderOf, IsRoom, made_line, making};
+ghost use Rattle.razor_core.specs.Calls.{MakesCalls};
+ghost use Rattle.razor_core.specs.Meaning.{at_the_end};
 
 use crate::commands::arrange::arrange_list;
 use crate::commands::compile::compile_list;
@@ -33,11 +36,12 @@ pub fn make_table<'a, D: Desk, K: Sink>(
     desk: &mut D,
     out: &mut K,
 ) -> Ending<'a>
-    ensures ends { Ends (making (method_seen method) (sizes_of sizes) file.now)
-        (seen D.remaining D.faults K.written K.faults desk.old out.old)
-        (seen D.remaining D.faults K.written K.faults desk.new out.new)
+    ensures ends { (texts : List ℕ → List ℕ) → MayBeTexts (D.reads desk.new) texts → Ends (making (method_seen method) (sizes_of sizes) file.now)
+        (seen (left_of D.reads texts) D.faults K.written K.faults desk.old out.old)
+        (seen (left_of D.reads texts) D.faults K.written K.faults desk.new out.new)
         result }
-    ensures others { (other : List ℕ) → other ≢ file.now → Keeps (D.remaining desk.old other) (D.remaining desk.new other) }
+    ensures others { (other : List ℕ) → other ≢ file.now → StaysUnread (D.reads desk.old) (D.reads desk.new) other }
+    ensures calls { MakesCalls at_the_end (file.now ∷ []) (D.reads desk.old) (D.reads desk.new) (K.written out.old) (K.written out.new) result }
 {
     let list = match take(alloc, &ListText, file, desk) {
         Ok(list) => list,

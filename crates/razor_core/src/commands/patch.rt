@@ -1,13 +1,17 @@
 //! `patch`: a plan that leads from a memory to a table.
-ghost use Rattle.std.specs.Prelude.{◌≢◌, ℕ, List, [], ◌∷◌, ◌≡◌, Some};
-ghost use Rattle.std.specs.Io.KnownBytes.{Keeps};
+ghost use Rattle.std.specs.Prelude.{◌≢◌, ℕ, List, [], ◌∷◌, ◌≡◌};
+ghost use Rattle.razor_base.specs.Headline.Outcomes.{Extends};
 ghost use Rattle.memory_text.specs.Kept.{AreSpelled};
+ghost use Rattle.razor_base.specs.Texts.{StaysUnread, left_of};
+ghost use Rattle.razor_core.specs.PossibleTexts.{MayBeTexts};
 ghost use Rattle.razor_core.specs.Behind.{EndsOver};
 ghost use Rattle.razor_core.specs.Ending.{Ends};
 ghost use Rattle.razor_core.specs.Outside.{seen, Adds, Outside};
 ghost use Rattle.razor_core.specs.Commands.Patch.{patching, IsPatchText};
 ghost use Rattle.razor_core.specs.Taking.{memory_value_of, table_value_of};
 ghost use Rattle.razor_core.specs.Promise.{KeepsPromise};
+ghost use Rattle.razor_core.specs.Calls.{MakesCalls, WritesBehind};
+ghost use Rattle.razor_core.specs.Meaning.{at_the_end};
 
 use crate::ending::{Ending, written};
 use crate::line_reason::LineReason;
@@ -27,11 +31,12 @@ pub(crate) fn plan_patch<'a, D: Desk, K: Sink>(
     desk: &mut D,
     out: &mut K,
 ) -> Ending<'a>
-    ensures ends { Ends (patching files.entry.first.now files.entry.second.now)
-        (seen D.remaining D.faults K.written K.faults desk.old out.old)
-        (seen D.remaining D.faults K.written K.faults desk.new out.new)
+    ensures ends { (texts : List ℕ → List ℕ) → MayBeTexts (D.reads desk.new) texts → Ends (patching files.entry.first.now files.entry.second.now)
+        (seen (left_of D.reads texts) D.faults K.written K.faults desk.old out.old)
+        (seen (left_of D.reads texts) D.faults K.written K.faults desk.new out.new)
         result }
-    ensures others { (other : List ℕ) → other ≢ files.entry.first.now → other ≢ files.entry.second.now → Keeps (D.remaining desk.old other) (D.remaining desk.new other) }
+    ensures others { (other : List ℕ) → other ≢ files.entry.first.now → other ≢ files.entry.second.now → StaysUnread (D.reads desk.old) (D.reads desk.new) other }
+    ensures calls { MakesCalls at_the_end (files.entry.first.now ∷ files.entry.second.now ∷ []) (D.reads desk.old) (D.reads desk.new) (K.written out.old) (K.written out.new) result }
 {
     let memory = match take(alloc, &MemoryText, files.first, desk) {
         Ok(memory) => memory,
@@ -53,8 +58,9 @@ fn patch_over<'a, K: Sink>(
     out: &mut K,
 ) -> Ending<'a>
     requires { AreSpelled table.now.names }
-    ensures { (first : List ℕ) → EndsOver (patching first file.now) (memory_value_of memory ∷ table_value_of table.now ∷ [])
+    ensures ends { (first : List ℕ) → EndsOver (patching first file.now) (memory_value_of memory ∷ table_value_of table.now ∷ [])
         (K.written out.old) (K.written out.new) (K.faults out.old) (K.faults out.new) result }
+    ensures writes { Extends (K.written out.old) (K.written out.new) (WritesBehind result) }
 {
     if table.slot.bits != memory.width.bits {
         return Ending::BadLine {
@@ -81,6 +87,6 @@ fn patch_over<'a, K: Sink>(
 /// before the first one or as behind the last one, and there are slots enough for both.
 pub fn patches_lead_to_their_tables()
     ensures { (before after : Outside) (line : List ℕ) (memory table first second : List ℕ) →
-        KeepsPromise (patching memory table) before after line 0 → before.remaining memory ≡ Some first → before.remaining table ≡ Some second →
+        KeepsPromise (patching memory table) before after line 0 → before.remaining memory ≡ first → before.remaining table ≡ second →
         Adds before after (IsPatchText first second) }
 {}

@@ -1,10 +1,13 @@
 //! `place`: a memory in which a table stands.
-ghost use Rattle.std.specs.Prelude.{◌≡◌, ◌≢◌, ℕ, List, Some};
-ghost use Rattle.std.specs.Io.KnownBytes.{Keeps};
+ghost use Rattle.std.specs.Prelude.{◌≡◌, ◌≢◌, ℕ, List, [], ◌∷◌};
+ghost use Rattle.razor_base.specs.Texts.{StaysUnread, left_of};
+ghost use Rattle.razor_core.specs.PossibleTexts.{MayBeTexts};
 ghost use Rattle.razor_core.specs.Ending.{Ends};
 ghost use Rattle.razor_core.specs.Outside.{seen, Adds, Outside};
 ghost use Rattle.razor_core.specs.Commands.Place.{placing, IsPlaced};
 ghost use Rattle.razor_core.specs.Promise.{KeepsPromise};
+ghost use Rattle.razor_core.specs.Calls.{MakesCalls};
+ghost use Rattle.razor_core.specs.Meaning.{at_the_end};
 
 use crate::ending::{Ending, written};
 use crate::taking::take;
@@ -23,11 +26,12 @@ pub(crate) fn place_table<'a, D: Desk, K: Sink>(
     desk: &mut D,
     out: &mut K,
 ) -> Ending<'a>
-    ensures ends { Ends (placing slots.count file.now)
-        (seen D.remaining D.faults K.written K.faults desk.old out.old)
-        (seen D.remaining D.faults K.written K.faults desk.new out.new)
+    ensures ends { (texts : List ℕ → List ℕ) → MayBeTexts (D.reads desk.new) texts → Ends (placing slots.count file.now)
+        (seen (left_of D.reads texts) D.faults K.written K.faults desk.old out.old)
+        (seen (left_of D.reads texts) D.faults K.written K.faults desk.new out.new)
         result }
-    ensures others { (other : List ℕ) → other ≢ file.now → Keeps (D.remaining desk.old other) (D.remaining desk.new other) }
+    ensures others { (other : List ℕ) → other ≢ file.now → StaysUnread (D.reads desk.old) (D.reads desk.new) other }
+    ensures calls { MakesCalls at_the_end (file.now ∷ []) (D.reads desk.old) (D.reads desk.new) (K.written out.old) (K.written out.new) result }
 {
     let table = match take(alloc, &TableText, file, desk) {
         Ok(table) => table,
@@ -49,6 +53,6 @@ pub(crate) fn place_table<'a, D: Desk, K: Sink>(
 /// What `place` has written is a memory in whose slots the table that was read stands in order, evenly.
 pub fn placed_tables_stand_in_their_slots()
     ensures { (before after : Outside) (line : List ℕ) (slots : ℕ) (file text : List ℕ) →
-        KeepsPromise (placing slots file) before after line 0 → before.remaining file ≡ Some text →
+        KeepsPromise (placing slots file) before after line 0 → before.remaining file ≡ text →
         Adds before after (IsPlaced slots text) }
 {}

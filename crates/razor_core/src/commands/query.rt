@@ -1,16 +1,20 @@
 //! `query`: the boxes inside a box in which a list decides as asked.
-ghost use Rattle.std.specs.Prelude.{◌≢◌, ◌≡◌, ℕ, List, Option, Some};
-ghost use Rattle.std.specs.Io.KnownBytes.{Keeps};
+ghost use Rattle.std.specs.Prelude.{◌≢◌, ◌≡◌, ℕ, List, [], ◌∷◌, Option};
+ghost use Rattle.razor_base.specs.Headline.Outcomes.{Extends};
 ghost use Rattle.command_words.specs.Questions.{name_in};
 ghost use Rattle.field_boxes.specs.Spans.{intervals_of};
 ghost use Rattle.field_boxes.specs.Headline.Classifier.{Interval};
 ghost use Rattle.field_boxes.specs.Lists.{filter_list};
 ghost use Rattle.razor_base.specs.Output.{Writes};
+ghost use Rattle.razor_base.specs.Texts.{StaysUnread, left_of};
+ghost use Rattle.razor_core.specs.PossibleTexts.{MayBeTexts};
 ghost use Rattle.razor_core.specs.Ending.{Ends};
 ghost use Rattle.razor_core.specs.Outside.{seen, Adds, Outside};
 ghost use Rattle.razor_core.specs.OneText.{IsEndOf};
 ghost use Rattle.razor_core.specs.Commands.Query.{count_line, AreAnswered, IsCounted, querying, IsQueried};
 ghost use Rattle.razor_core.specs.Promise.{KeepsPromise};
+ghost use Rattle.razor_core.specs.Calls.{MakesCalls, WritesBehind};
+ghost use Rattle.razor_core.specs.Meaning.{at_the_end};
 
 use crate::ending::{Ending, Summary};
 use crate::taking::take;
@@ -29,11 +33,12 @@ pub(crate) fn query_list<'a, D: Desk, K: Sink>(
     desk: &mut D,
     out: &mut K,
 ) -> Ending<'a>
-    ensures ends { Ends (querying question.entry.list.now (intervals_of question.entry.spans) (name_in question.entry.decision.now))
-        (seen D.remaining D.faults K.written K.faults desk.old out.old)
-        (seen D.remaining D.faults K.written K.faults desk.new out.new)
+    ensures ends { (texts : List ℕ → List ℕ) → MayBeTexts (D.reads desk.new) texts → Ends (querying question.entry.list.now (intervals_of question.entry.spans) (name_in question.entry.decision.now))
+        (seen (left_of D.reads texts) D.faults K.written K.faults desk.old out.old)
+        (seen (left_of D.reads texts) D.faults K.written K.faults desk.new out.new)
         result }
-    ensures others { (other : List ℕ) → other ≢ question.entry.list.now → Keeps (D.remaining desk.old other) (D.remaining desk.new other) }
+    ensures others { (other : List ℕ) → other ≢ question.entry.list.now → StaysUnread (D.reads desk.old) (D.reads desk.new) other }
+    ensures calls { MakesCalls at_the_end (question.entry.list.now ∷ []) (D.reads desk.old) (D.reads desk.new) (K.written out.old) (K.written out.new) result }
 {
     let list = match take(alloc, &ListText, question.list, desk) {
         Ok(list) => list,
@@ -49,8 +54,9 @@ fn answer_question<'a, K: Sink>(
     question: Question<'a>,
     out: &mut K,
 ) -> Ending<'a>
-    ensures { IsEndOf (AreAnswered (intervals_of question.entry.spans) (name_in question.entry.decision.now) (filter_list list.now).rules)
+    ensures ends { IsEndOf (AreAnswered (intervals_of question.entry.spans) (name_in question.entry.decision.now) (filter_list list.now).rules)
         (K.written out.old) (K.written out.new) (K.faults out.old) (K.faults out.new) result }
+    ensures writes { Extends (K.written out.old) (K.written out.new) (WritesBehind result) }
 {
     let Some(number) = list.names.number(question.decision) else {
         return counted(0, out);
@@ -74,7 +80,8 @@ fn write_count<K: Sink>(boxes: u128, out: &mut K) -> Result<(), Failed>
 
 /// Writes how many boxes there are, and says how the command ends.
 fn counted<'a, K: Sink>(boxes: u128, out: &mut K) -> Ending<'a>
-    ensures { IsCounted boxes (K.written out.old) (K.written out.new) (K.faults out.old) (K.faults out.new) result }
+    ensures ends { IsCounted boxes (K.written out.old) (K.written out.new) (K.faults out.old) (K.faults out.new) result }
+    ensures writes { Extends (K.written out.old) (K.written out.new) (WritesBehind result) }
 {
     match write_count(boxes, out) {
         Ok(()) => Ending::Done(Summary::Nothing),
@@ -85,6 +92,6 @@ fn counted<'a, K: Sink>(boxes: u128, out: &mut K) -> Ending<'a>
 /// What `query` has written are the boxes in which the list decides as asked, and how many they are.
 pub fn boxes_are_where_the_list_decides_so()
     ensures { (before after : Outside) (line : List ℕ) (box : List Interval) (name : Option (List ℕ)) (file text : List ℕ) →
-        KeepsPromise (querying file box name) before after line 0 → before.remaining file ≡ Some text →
+        KeepsPromise (querying file box name) before after line 0 → before.remaining file ≡ text →
         Adds before after (IsQueried box name text) }
 {}

@@ -1,6 +1,6 @@
 //! `session`: a list that is edited, and whose tables are replaced in a memory.
-ghost use Rattle.std.specs.Prelude.{◌≡◌, ◌≢◌, ◌≤◌, ◌<◌, ◌+◌, ◌*◌, ℕ, List, count_by, length, Some};
-ghost use Rattle.std.specs.Io.KnownBytes.{Keeps};
+ghost use Rattle.std.specs.Prelude.{◌≡◌, ◌≢◌, ◌≤◌, ◌<◌, ◌+◌, ◌*◌, ℕ, List, [], ◌∷◌, count_by, length};
+ghost use Rattle.razor_base.specs.Headline.Outcomes.{Extends};
 ghost use Rattle.razor_limits.specs.declared.limits.TheConstants.{MOST_ENTRIES, MOST_SCRIPT_BYTES};
 ghost use Rattle.field_boxes.specs.Headline.Classifier.{Rule};
 ghost use Rattle.filter_reader.specs.FirstSeen.{first_seen};
@@ -11,10 +11,14 @@ ghost use Rattle.command_words.specs.Settings.{making_seen, terms_seen};
 ghost use Rattle.edit_session.specs.Methods.{method_seen};
 ghost use Rattle.edit_session.specs.SessionEnds.{adds_of};
 ghost use Rattle.edit_session.specs.SessionText.{is_add};
+ghost use Rattle.razor_base.specs.Texts.{StaysUnread, left_of};
+ghost use Rattle.razor_core.specs.PossibleTexts.{MayBeTexts};
 ghost use Rattle.razor_core.specs.Ending.{Ends};
 ghost use Rattle.razor_core.specs.Outside.{seen, Adds, Outside};
 ghost use Rattle.razor_core.specs.Commands.Session.{IsEndOfSession, editing, first_state, method_of, IsEdited};
 ghost use Rattle.razor_core.specs.Promise.{KeepsPromise};
+ghost use Rattle.razor_core.specs.Calls.{MakesCalls, WritesBehind};
+ghost use Rattle.razor_core.specs.Meaning.{by_lines};
 
 use crate::commands::drive::drive_ended;
 use crate::ending::Ending;
@@ -35,8 +39,9 @@ fn run_over<'a, K: Sink, T: Replaced>(
     out: &mut K,
 ) -> Ending<'a>
     requires { length editor.session.list.names + adds_of session.now < MOST_ENTRIES }
-    ensures { (terms : SeenTerms) (rules : List (Rule (List ℕ))) → editor.entry.session ≡ first_state terms rules →
+    ensures ends { (terms : SeenTerms) (rules : List (Rule (List ℕ))) → editor.entry.session ≡ first_state terms rules →
         IsEndOfSession terms rules session.now (K.written out.old) (K.written out.new) (K.faults out.old) (K.faults out.new) result }
+    ensures writes { Extends (K.written out.old) (K.written out.new) (WritesBehind result) }
 {
     let ended = session_on(alloc, session, &mut editor, out);
     drive_ended(ended)
@@ -62,7 +67,8 @@ fn run_in<'a, K: Sink>(
 ) -> Ending<'a>
     requires few { 40 * count_by is_add session.now ≤ MOST_SCRIPT_BYTES }
     requires names { list.names ≡ first_seen (filter_list list).rules }
-    ensures { IsEndOfSession (terms_seen terms.now) (filter_list list).rules session.now (K.written out.old) (K.written out.new) (K.faults out.old) (K.faults out.new) result }
+    ensures ends { IsEndOfSession (terms_seen terms.now) (filter_list list).rules session.now (K.written out.old) (K.written out.new) (K.faults out.old) (K.faults out.new) result }
+    ensures writes { Extends (K.written out.old) (K.written out.new) (WritesBehind result) }
 {
     let bank = match Bank::new(alloc, terms.slots.count) {
         Ok(bank) => bank,
@@ -93,11 +99,12 @@ pub(crate) fn run_session<'a, D: Desk, K: Sink>(
     desk: &mut D,
     out: &mut K,
 ) -> Ending<'a>
-    ensures ends { Ends (editing (terms_seen terms.now) files.entry.first.now files.entry.second.now)
-        (seen D.remaining D.faults K.written K.faults desk.old out.old)
-        (seen D.remaining D.faults K.written K.faults desk.new out.new)
+    ensures ends { (texts : List ℕ → List ℕ) → MayBeTexts (D.reads desk.new) texts → Ends (editing (terms_seen terms.now) files.entry.first.now files.entry.second.now)
+        (seen (left_of D.reads texts) D.faults K.written K.faults desk.old out.old)
+        (seen (left_of D.reads texts) D.faults K.written K.faults desk.new out.new)
         result }
-    ensures others { (other : List ℕ) → other ≢ files.entry.first.now → other ≢ files.entry.second.now → Keeps (D.remaining desk.old other) (D.remaining desk.new other) }
+    ensures others { (other : List ℕ) → other ≢ files.entry.first.now → other ≢ files.entry.second.now → StaysUnread (D.reads desk.old) (D.reads desk.new) other }
+    ensures calls { MakesCalls by_lines (files.entry.first.now ∷ files.entry.second.now ∷ []) (D.reads desk.old) (D.reads desk.new) (K.written out.old) (K.written out.new) result }
 {
     let session = match take(alloc, &SessionText, files.first, desk) {
         Ok(session) => session,
@@ -113,6 +120,6 @@ pub(crate) fn run_session<'a, D: Desk, K: Sink>(
 /// What `session` has written is the line of each command of the session, run over the list.
 pub fn sessions_print_their_runs()
     ensures { (before after : Outside) (line : List ℕ) (terms : SeenTerms) (script list first second : List ℕ) →
-        KeepsPromise (editing terms script list) before after line 0 → before.remaining script ≡ Some first → before.remaining list ≡ Some second →
+        KeepsPromise (editing terms script list) before after line 0 → before.remaining script ≡ first → before.remaining list ≡ second →
         Adds before after (IsEdited terms first second) }
 {}

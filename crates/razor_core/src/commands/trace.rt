@@ -1,10 +1,13 @@
 //! `trace`: what a table answers to the headers of a trace.
-ghost use Rattle.std.specs.Prelude.{◌≢◌, ◌≡◌, ℕ, List, Some};
-ghost use Rattle.std.specs.Io.KnownBytes.{Keeps};
+ghost use Rattle.std.specs.Prelude.{◌≢◌, ◌≡◌, ℕ, List, [], ◌∷◌};
+ghost use Rattle.razor_base.specs.Texts.{StaysUnread, left_of};
+ghost use Rattle.razor_core.specs.PossibleTexts.{MayBeTexts};
 ghost use Rattle.razor_core.specs.Outside.{seen, Adds, Outside};
 ghost use Rattle.razor_core.specs.Ending.{Ends};
 ghost use Rattle.razor_core.specs.Commands.Trace.{IsEndOfRun, tracing, IsAnswered};
 ghost use Rattle.razor_core.specs.Promise.{KeepsPromise};
+ghost use Rattle.razor_core.specs.Calls.{MakesCalls};
+ghost use Rattle.razor_core.specs.Meaning.{in_turn};
 
 use crate::ending::{Ending, Summary};
 use crate::line_reason::LineReason;
@@ -47,11 +50,12 @@ pub(crate) fn answer_trace<'a, D: Desk, K: Sink>(
     desk: &mut D,
     out: &mut K,
 ) -> Ending<'a>
-    ensures ends { Ends (tracing files.entry.first.now files.entry.second.now)
-        (seen D.remaining D.faults K.written K.faults desk.old out.old)
-        (seen D.remaining D.faults K.written K.faults desk.new out.new)
+    ensures ends { (texts : List ℕ → List ℕ) → MayBeTexts (D.reads desk.new) texts → Ends (tracing files.entry.first.now files.entry.second.now)
+        (seen (left_of D.reads texts) D.faults K.written K.faults desk.old out.old)
+        (seen (left_of D.reads texts) D.faults K.written K.faults desk.new out.new)
         result }
-    ensures others { (other : List ℕ) → other ≢ files.entry.first.now → other ≢ files.entry.second.now → Keeps (D.remaining desk.old other) (D.remaining desk.new other) }
+    ensures others { (other : List ℕ) → other ≢ files.entry.first.now → other ≢ files.entry.second.now → StaysUnread (D.reads desk.old) (D.reads desk.new) other }
+    ensures calls { MakesCalls in_turn (files.entry.first.now ∷ files.entry.second.now ∷ []) (D.reads desk.old) (D.reads desk.new) (K.written out.old) (K.written out.new) result }
 {
     let table = match take(alloc, &TableText, files.first, desk) {
         Ok(table) => table,
@@ -70,6 +74,6 @@ pub(crate) fn answer_trace<'a, D: Desk, K: Sink>(
 /// What `trace` has written is what the table answers to each header in order.
 pub fn traces_are_answered_by_the_table()
     ensures { (before after : Outside) (line : List ℕ) (table trace first second : List ℕ) →
-        KeepsPromise (tracing table trace) before after line 0 → before.remaining table ≡ Some first → before.remaining trace ≡ Some second →
+        KeepsPromise (tracing table trace) before after line 0 → before.remaining table ≡ first → before.remaining trace ≡ second →
         Adds before after (IsAnswered first second) }
 {}

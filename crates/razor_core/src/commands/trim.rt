@@ -1,12 +1,15 @@
 //! `trim`: a table without its redundant entries.
-ghost use Rattle.std.specs.Prelude.{◌≡◌, ◌≢◌, ℕ, List, IfOk, Some};
-ghost use Rattle.std.specs.Io.KnownBytes.{Keeps};
+ghost use Rattle.std.specs.Prelude.{◌≡◌, ◌≢◌, ℕ, List, [], ◌∷◌, IfOk};
 ghost use Rattle.partition_check.specs.PrefixWords.{ArePrefixes};
 ghost use Rattle.ternary_words.specs.Views.{table_of};
+ghost use Rattle.razor_base.specs.Texts.{StaysUnread, left_of};
+ghost use Rattle.razor_core.specs.PossibleTexts.{MayBeTexts};
 ghost use Rattle.razor_core.specs.Ending.{Ends};
 ghost use Rattle.razor_core.specs.Outside.{seen, Adds, Outside};
 ghost use Rattle.razor_core.specs.Commands.Trim.{IsTrimmedTable, trimming, IsTrimmedText};
 ghost use Rattle.razor_core.specs.Promise.{KeepsPromise};
+ghost use Rattle.razor_core.specs.Calls.{MakesCalls};
+ghost use Rattle.razor_core.specs.Meaning.{at_the_end};
 
 use crate::ending::{Ending, written};
 use crate::line_reason::LineReason;
@@ -28,11 +31,12 @@ pub(crate) fn trim_table<'a, D: Desk, K: Sink>(
     desk: &mut D,
     out: &mut K,
 ) -> Ending<'a>
-    ensures ends { Ends (trimming file.now)
-        (seen D.remaining D.faults K.written K.faults desk.old out.old)
-        (seen D.remaining D.faults K.written K.faults desk.new out.new)
+    ensures ends { (texts : List ℕ → List ℕ) → MayBeTexts (D.reads desk.new) texts → Ends (trimming file.now)
+        (seen (left_of D.reads texts) D.faults K.written K.faults desk.old out.old)
+        (seen (left_of D.reads texts) D.faults K.written K.faults desk.new out.new)
         result }
-    ensures others { (other : List ℕ) → other ≢ file.now → Keeps (D.remaining desk.old other) (D.remaining desk.new other) }
+    ensures others { (other : List ℕ) → other ≢ file.now → StaysUnread (D.reads desk.old) (D.reads desk.new) other }
+    ensures calls { MakesCalls at_the_end (file.now ∷ []) (D.reads desk.old) (D.reads desk.new) (K.written out.old) (K.written out.new) result }
 {
     let table = match take(alloc, &TableText, file, desk) {
         Ok(table) => table,
@@ -71,6 +75,6 @@ fn trimmed(alloc: Global, table: Table) -> Result<Table, Memory>
 /// What `trim` has written is the table that was read without its redundant entries, which answers as it does.
 pub fn trimmed_tables_answer_alike()
     ensures { (before after : Outside) (line : List ℕ) (file text : List ℕ) →
-        KeepsPromise (trimming file) before after line 0 → before.remaining file ≡ Some text →
+        KeepsPromise (trimming file) before after line 0 → before.remaining file ≡ text →
         Adds before after (IsTrimmedText text) }
 {}

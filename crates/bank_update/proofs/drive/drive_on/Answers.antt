@@ -1,10 +1,17 @@
 use Rattle.std.proofs.Common.{length, ap, refl, ◌∙◌, arith}
+use Rattle.razor_base.proofs.Writing.{made-none}
 use Rattle.bank_update.specs.Swapping.{Swapping}
-use Rattle.bank_update.proofs.Driving.{calm-out-of-memory, calm-turn, calm-write-failed, event-within, goes-on, has-run-none, is-cut-off, next-event, out-of-memory, stopped-before, write-failed}
+use Rattle.bank_update.proofs.Driving.{calm-out-of-memory, calm-turn, calm-write-failed, event-within, goes-on, has-run-none, is-cut-off, next-event, out-of-memory, refused-turn, stopped-before, write-failed, writes-out-of-memory, written-turn}
 use Rattle.bank_update.proofs.drive.drive_on.Goals as goal
 
 pub loop-command-init : goal.loop-command-init
-loop-command-init g c = record { ran = has-run-none g.K.Sink.written c.args.out.now; nothing = c.new-pending.ensures; counts = omega arith; calm = refl }
+loop-command-init g c = record {
+  ran = has-run-none g.K.Sink.written c.args.out.now;
+  nothing = c.new-pending.ensures;
+  counts = omega arith;
+  calm = refl;
+  writes = made-none (g.K.Sink.written c.args.out.now);
+}
 
 pub take_turn-requires-clause-within : goal.take_turn-requires-clause-within
 take_turn-requires-clause-within g c =
@@ -43,4 +50,13 @@ loop-command-preserved g c =
       nothing = c.in_ok-take_turn.ensures.none;
       counts = omega (arith, c.loop-command.invariant.counts, turn.counts);
       calm = calm-turn c.in_ok-take_turn.field-0 c.in_ok-branch.was turn ∙ c.loop-command.invariant.calm;
+      writes = written-turn g.K.Sink.written (g.K.Sink.written c.args.out.now) c.loop-command.out c.take_turn.new.out c.in_ok-take_turn.field-0 c.in_ok-branch.was c.loop-command.invariant.writes turn;
     }
+
+pub returns-in_err-take_turn-clause-writes : goal.returns-in_err-take_turn-clause-writes
+returns-in_err-take_turn-clause-writes g c =
+    writes-out-of-memory g.K.Sink.written (g.K.Sink.written c.args.out.now) c.loop-command.out c.take_turn.new.out c.from_residual.result c.from_residual.ensures.1 c.in_err-take_turn.ensures.refused.1 c.loop-command.invariant.writes
+
+pub returns-in_err-branch-clause-writes : goal.returns-in_err-branch-clause-writes
+returns-in_err-branch-clause-writes g c =
+    refused-turn g.K.Sink.written (g.K.Sink.written c.args.out.now) c.loop-command.out c.take_turn.new.out c.in_ok-take_turn.field-0 c.in_err-branch.was c.loop-command.invariant.writes c.in_ok-take_turn.ensures.turn c.from_residual-in_err-branch.result c.from_residual-in_err-branch.ensures.1

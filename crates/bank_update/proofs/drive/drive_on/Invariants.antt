@@ -1,5 +1,6 @@
 use Rattle.std.proofs.Common.{◌≡◌, ◌≤◌, [], take}
-use Rattle.std.specs.Io.KnownBytes.{Appends}
+use Rattle.razor_base.specs.Headline.Outcomes.{Extends}
+use Rattle.razor_base.specs.Output.{Appends, AreTaken}
 use Rattle.bank_update.specs.Driven.{HasRun}
 use Rattle.bank_update.specs.Runs.{IsTriedRun}
 use Rattle.bank_update.proofs.drive.drive_on.Given as goal
@@ -12,4 +13,5 @@ invariant-loop-command g l = record {
   nothing : l.pending ≡ [];
   counts : g.V.Device.faults l.initial.swapper.device ≤ g.V.Device.faults l.swapper.device;
   calm : g.K.Sink.faults l.out ≡ g.K.Sink.faults l.initial.out;
+  writes : Extends (g.K.Sink.written l.initial.out) (g.K.Sink.written l.out) AreTaken;
 }

@@ -8,7 +8,7 @@ use Rattle.field_boxes.specs.Lists.{filter_list}
 use Rattle.fdd_build.specs.Rules.{decided}
 use Rattle.box_query.specs.Asked.{label}
 use Rattle.box_query.specs.NodeBoxes.{node_boxes}
-use Rattle.box_query.proofs.Ended.{refused, cut-off, all-written}
+use Rattle.box_query.proofs.Ended.{all-written, cut-off, last-failed, refused, unwritten}
 use Rattle.box_query.proofs.Meant.{boxes-of}
 use Rattle.box_query.proofs.boxes.query.Goals as goal
 
@@ -36,3 +36,10 @@ returns-clause-ok g c =
     (λ header is. c.in_ok-diagram.ensures.answers header is
     ∙ ap (λ (rs : List Rule). cond (box_holds (box_of c.args.spans.now) header) (label c.args.decision (decided stated rs header)) 2) c.deref.ensures.value))
     c.in_ok-boxes.ensures.text c.in_ok-boxes.ensures.count
+
+pub returns-in_err-diagram-clause-writes : goal.returns-in_err-diagram-clause-writes
+returns-in_err-diagram-clause-writes g c = unwritten (g.K.Sink.written c.args.out.now) c.from_residual.result c.from_residual.ensures.1
+
+pub returns-in_err-boxes-clause-writes : goal.returns-in_err-boxes-clause-writes
+returns-in_err-boxes-clause-writes g c =
+    last-failed (g.K.Sink.written c.args.out.now) (g.K.Sink.written c.write_boxes.new.out) c.from_residual-in_err-boxes.result c.from_residual-in_err-boxes.ensures.1 c.in_err-boxes.ensures.text.tries

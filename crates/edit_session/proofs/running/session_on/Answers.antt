@@ -1,7 +1,8 @@
 use Rattle.std.proofs.Common.{◌∙◌, ap, arith, refl}
-use Rattle.bank_update.proofs.Driving.{calm-out-of-memory, calm-write-failed}
+use Rattle.razor_base.proofs.Writing.{made-none}
+use Rattle.bank_update.proofs.Driving.{calm-out-of-memory, calm-write-failed, writes-out-of-memory}
 use Rattle.edit_session.specs.SessionViews.{event_of}
-use Rattle.edit_session.proofs.SessionDriving.{calm-turn, goes-on, good-command, has-run-none, is-cut-off, next-event, out-of-memory, stopped-before, write-failed}
+use Rattle.edit_session.proofs.SessionDriving.{calm-turn, goes-on, good-command, has-run-none, is-cut-off, next-event, out-of-memory, refused-turn, stopped-before, write-failed, written-turn}
 use Rattle.edit_session.proofs.SessionNames.{adds-next, turn-names, wants-room}
 use Rattle.edit_session.proofs.running.session_on.Goals as goal
 
@@ -12,6 +13,7 @@ loop-command-init g c = record {
   nothing = c.new-pending.ensures;
   counts = omega arith;
   calm = refl;
+  writes = made-none (g.K.Sink.written c.args.out.now);
 }
 
 pub take_turn-requires-clause-good : goal.take_turn-requires-clause-good
@@ -60,4 +62,13 @@ loop-command-preserved g c =
       nothing = c.in_ok-take_turn.ensures.none;
       counts = omega (arith, c.loop-command.invariant.counts, turn.counts);
       calm = calm-turn c.in_ok-take_turn.field-0 c.in_ok-branch.was turn ∙ c.loop-command.invariant.calm;
+      writes = written-turn g.K.Sink.written (g.K.Sink.written c.args.out.now) c.loop-command.out c.take_turn.new.out c.in_ok-take_turn.field-0 c.in_ok-branch.was c.loop-command.invariant.writes turn;
     }
+
+pub returns-in_err-take_turn-clause-writes : goal.returns-in_err-take_turn-clause-writes
+returns-in_err-take_turn-clause-writes g c =
+    writes-out-of-memory g.K.Sink.written (g.K.Sink.written c.args.out.now) c.loop-command.out c.take_turn.new.out c.from_residual.result c.from_residual.ensures.1 c.in_err-take_turn.ensures.refused.1 c.loop-command.invariant.writes
+
+pub returns-in_err-branch-clause-writes : goal.returns-in_err-branch-clause-writes
+returns-in_err-branch-clause-writes g c =
+    refused-turn g.K.Sink.written (g.K.Sink.written c.args.out.now) c.loop-command.out c.take_turn.new.out c.in_ok-take_turn.field-0 c.in_err-branch.was c.loop-command.invariant.writes c.in_ok-take_turn.ensures.turn c.from_residual-in_err-branch.result c.from_residual-in_err-branch.ensures.1

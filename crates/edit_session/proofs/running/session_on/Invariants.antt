@@ -1,5 +1,6 @@
 use Rattle.std.proofs.Common.{◌≡◌, ◌+◌, ◌≤◌, [], length, take}
-use Rattle.std.specs.Io.KnownBytes.{Appends}
+use Rattle.razor_base.specs.Headline.Outcomes.{Extends}
+use Rattle.razor_base.specs.Output.{Appends, AreTaken}
 use Rattle.edit_session.specs.SessionEnds.{HasRunSession, adds_of}
 use Rattle.edit_session.proofs.SessionDriving.{Led}
 use Rattle.edit_session.proofs.running.session_on.Given as goal
@@ -12,4 +13,5 @@ invariant-loop-command g l = record {
   nothing : l.pending ≡ [];
   counts : g.V.Device.faults l.initial.editor.device ≤ g.V.Device.faults l.editor.device;
   calm : g.K.Sink.faults l.out ≡ g.K.Sink.faults l.initial.out;
+  writes : Extends (g.K.Sink.written l.initial.out) (g.K.Sink.written l.out) AreTaken;
 }

@@ -1,14 +1,18 @@
-use Rattle.std.proofs.Common.{◌≡◌, ◌≢◌, ◌≤◌, ℕ, List, take}
-use Rattle.std.specs.Io.KnownBytes as known
+use Rattle.razor_base.specs.Turns.{ArePieces}
+use Rattle.razor_base.specs.Headline.Outcomes.{Extends}
+use Rattle.razor_base.specs.Headline.Readings.{ended, given}
+use Rattle.std.proofs.Common.{◌≡◌, ◌≢◌, ◌≤◌, ℕ, List, take, false}
+use Rattle.razor_base.specs.Texts.{MayHave, left_in}
 use Rattle.partition_check.specs.Readers.{reading}
 use Rattle.partition_check.proofs.Streaming.{IsRead}
 use Rattle.partition_check.proofs.stream.check_stream.Given as goal
 
 abbrev pub invariant-pieces : goal.invariant-pieces
 invariant-pieces g l = record {
-  read : IsRead l.fn.checker 268435456 (g.D.Desk.remaining l.initial.desk l.name) (g.D.Desk.remaining l.desk l.name) l.room (take l.kept l.buffer) (reading l.reader);
+  turn : Extends (g.D.Desk.reads l.initial.desk) (g.D.Desk.reads l.desk) (ArePieces l.name);
+  read : (text : List ℕ) → MayHave (given (g.D.Desk.reads l.desk) l.name) false text → IsRead l.fn.checker 268435456 (left_in text (given (g.D.Desk.reads l.initial.desk) l.name)) (left_in text (given (g.D.Desk.reads l.desk) l.name)) l.room (take l.kept l.buffer) (reading l.reader);
   few : l.kept ≤ 129;
-  others : (other : List ℕ) → other ≢ l.name → known.Keeps (g.D.Desk.remaining l.initial.desk other) (g.D.Desk.remaining l.desk other);
+  others : (other : List ℕ) → other ≢ l.name → (given (g.D.Desk.reads l.desk) other ≡ given (g.D.Desk.reads l.initial.desk) other) × (ended (g.D.Desk.reads l.desk) other ≡ ended (g.D.Desk.reads l.initial.desk) other);
   counts : (other : List ℕ) → g.D.Desk.faults l.initial.desk other ≤ g.D.Desk.faults l.desk other;
   calm : (other : List ℕ) → g.D.Desk.faults l.desk other ≡ g.D.Desk.faults l.initial.desk other;
 }

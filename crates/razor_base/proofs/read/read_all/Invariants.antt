@@ -1,12 +1,15 @@
-use Rattle.std.proofs.Common.{◌≡◌, ◌≢◌, ◌≤◌, ◌-◌, ℕ, List, length}
-use Rattle.std.specs.Io.KnownBytes.{Consumes, Keeps}
+use Rattle.std.proofs.Common.{◌≡◌, ◌≢◌, ◌≤◌, ◌-◌, ◌++◌, ℕ, List, length}
+use Rattle.razor_base.specs.Headline.Readings.{ended, given}
+use Rattle.razor_base.specs.Turns.{ArePieces}
+use Rattle.razor_base.specs.Headline.Outcomes.{Extends}
 use Rattle.razor_base.proofs.read.read_all.Given as goal
 
 abbrev pub invariant-pieces : goal.invariant-pieces
 invariant-pieces g l = record {
-  moved : Consumes (g.D.Desk.remaining l.initial.desk l.name) (g.D.Desk.remaining l.desk l.name) l.into.items;
+  turn : Extends (g.D.Desk.reads l.initial.desk) (g.D.Desk.reads l.desk) (ArePieces l.name);
+  moved : given (g.D.Desk.reads l.desk) l.name ≡ given (g.D.Desk.reads l.initial.desk) l.name ++ l.into.items;
   within : length l.into.items ≤ l.limit;
-  others : (other : List ℕ) → other ≢ l.name → Keeps (g.D.Desk.remaining l.initial.desk other) (g.D.Desk.remaining l.desk other);
+  others : (other : List ℕ) → other ≢ l.name → (given (g.D.Desk.reads l.desk) other ≡ given (g.D.Desk.reads l.initial.desk) other) × (ended (g.D.Desk.reads l.desk) other ≡ ended (g.D.Desk.reads l.initial.desk) other);
   counts : (other : List ℕ) → g.D.Desk.faults l.initial.desk other ≤ g.D.Desk.faults l.desk other;
   calm : (other : List ℕ) → g.D.Desk.faults l.desk other ≡ g.D.Desk.faults l.initial.desk other;
 }

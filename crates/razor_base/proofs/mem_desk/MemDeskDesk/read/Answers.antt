@@ -1,10 +1,32 @@
-use Rattle.std.proofs.Common.{arith}
+use Rattle.std.proofs.Common.{◌≡◌, ◌<◌, ◌≤◌, length, min, length-take-le, false, ℕ, ap, arith, sym, ◌∙◌}
 use Rattle.std.proofs.lemmas.Map.Text.{text_keys}
-use Rattle.razor_base.proofs.Input.{Keeps-same}
+use Rattle.std.proofs.lemmas.Grind.{common_steps}
+use Rattle.std.specs.BTreeMap.{get_by_text}
+use Rattle.razor_base.specs.Standing.{all_at, left_over}
+use Rattle.razor_base.proofs.Told.{told_fail, told_read}
 use Rattle.razor_base.proofs.mem_desk.MemDeskDesk.read.Goals as goal
 
 pub returns-in-Some-clause-same : goal.returns-in-Some-clause-same
-returns-in-Some-clause-same c = λ other apart. grind (arith, text_keys)
+returns-in-Some-clause-same c = λ other apart. let e : get_by_text (c.get_mut.follows.lender c.read-count.new.self) other ≡ get_by_text c.args.self.now.inputs other = grind (arith, text_keys) in ap all_at e
 
-pub returns-in-Some-clause-others : goal.returns-in-Some-clause-others
-returns-in-Some-clause-others c = λ other apart. Keeps-same _ _ (grind (arith, text_keys))
+pub invariant_of-self-clause-told : goal.invariant_of-self-clause-told
+invariant_of-self-clause-told c = let desk = c.args.self.now in
+    told_fail false desk.history.reads c.fail.new.self.reads c.args.name.now (grind (arith, c.fail.ensures)) (get_by_text desk.inputs) (get_by_text desk.inputs) desk.told (λ n i. get_by_text desk.inputs n)
+
+pub invariant_of-self-in-Some-clause-told : goal.invariant_of-self-in-Some-clause-told
+invariant_of-self-in-Some-clause-told c =
+    let desk = c.args.self.now in
+    let piece = c.read-count.new.piece in
+    let left = length (left_over c.in-Some.input.now) in
+    let size : length piece ≡ length c.args.piece.now = c.read-count.auto.piece in
+    let counted : c.read-count.result ≡ min (min (length piece) desk.most) left = c.read-count.ensures.count ∙ sym (ap (λ (k : ℕ). min (min k desk.most) left) size) in
+    let some : 0 < length piece = grind (arith, size, c.is_empty.ensures, c.if-is_empty.false) in
+    let within : c.read-count.result ≤ length piece = grind (arith, common_steps, counted) in
+    let new = get_by_text (c.get_mut.follows.lender c.read-count.new.self) in
+    told_read false desk.history.reads c.note.new.self.reads c.args.name.now c.read-count.new.piece c.read-count.result desk.most (grind (arith)) (get_by_text desk.inputs) new desk.told (λ other apart. grind (arith, text_keys)) c.in-Some.input.now c.read-count.new.self (grind (arith, text_keys)) (grind (arith, text_keys))
+    c.read-count.ensures.all c.read-count.ensures.moved c.read-count.ensures.place (length-take-le c.read-count.result piece within) counted some desk.some
+
+pub invariant_of-self-in-None-clause-told : goal.invariant_of-self-in-None-clause-told
+invariant_of-self-in-None-clause-told c =
+    let desk = c.args.self.now in
+    told_fail false desk.history.reads c.fail-in-None.new.self.reads c.args.name.now (grind (arith)) (get_by_text desk.inputs) (get_by_text c.get_mut.follows.lender-at-none) desk.told (λ n. grind (arith, text_keys))

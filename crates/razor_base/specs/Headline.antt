@@ -1,0 +1,3 @@
+-- What the headline of the program says of reads and writes.
+pub mod Outcomes
+pub mod Readings
