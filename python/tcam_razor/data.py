@@ -16,10 +16,10 @@ import argparse
 import json
 from typing import Any
 
-from . import commands, lines, program
+from . import commands, lines, program, script
 from .answers import List
 from .configurations.listing import dotted
-from .errors import RazorError
+from .errors import BadText
 from .headers import Header
 
 VERSION = 1
@@ -67,11 +67,11 @@ def answered(asked: argparse.Namespace) -> dict[str, Any]:
         found = lines.parsed(commands.read(asked.map)) if asked.map is not None else None
         return audit_data(read(asked.list), found, flags)
     except ValueError as fault:
-        raise commands.Ended(commands.REFUSED, f"{asked.map}: {fault}") from None
+        raise BadText(asked.map, str(fault)) from None
 
 
 def run(words: list[str]) -> int:
-    parser = commands.parser(__doc__)
+    parser = script.words(__doc__)
     inner = parser.add_subparsers(dest="command", required=True, metavar="COMMAND")
     equiv = inner.add_parser("equiv", allow_abbrev=False)
     equiv.add_argument("left", metavar="A")
@@ -81,10 +81,7 @@ def run(words: list[str]) -> int:
     audit.add_argument("list", metavar="LIST")
     for command in (equiv, audit):
         command.add_argument("--flags", choices=("refuse", "count"), default="refuse")
-    try:
-        data = answered(parser.parse_args(words))
-    except RazorError as fault:
-        raise commands.Ended(fault.status, fault.message) from None
+    data = answered(parser.parse_args(words))
     commands.answer(json.dumps(data) + "\n")
     return commands.DONE if data.get("equal", True) else commands.DIFFERENT
 

@@ -24,12 +24,12 @@ import subprocess
 from itertools import product
 from typing import Iterator, Mapping
 
-from . import commands, importing, lists, program
+from . import commands, importing, lists, program, script
 from .answers import List
 from .configurations import fields, listing, names
 from .configurations.fields import Box, Spans
 from .configurations.listing import Refused, dotted
-from .errors import BadText, NotExported, NotFound, RazorError
+from .errors import BadText, NotExported, NotFound
 
 # The words that let a packet pass and that don't, by dialect.
 VERDICTS = {"ios": ("permit", "deny"), "eos": ("permit", "deny"), "nft": ("accept", "drop")}
@@ -208,7 +208,7 @@ def listed(list_name: str, text: str) -> str:
 
 
 def run(words: list[str]) -> int:
-    parser = commands.parser(__doc__)
+    parser = script.words(__doc__)
     parser.add_argument("dialect", metavar="DIALECT", choices=tuple(VERDICTS))
     parser.add_argument("--name", metavar="NAME", default="RAZOR")
     parser.add_argument("--call", metavar="WORD=VERDICT", action=commands.Pairs, default={})
@@ -222,8 +222,6 @@ def run(words: list[str]) -> int:
         for fault in refused.faults:
             commands.tell(f"{asked.list}: {fault}")
         return commands.REFUSED
-    except RazorError as fault:
-        raise commands.Ended(fault.status, fault.message) from None
     except ValueError as fault:
         parser.error(str(fault))
     commands.answer(text)

@@ -10,12 +10,13 @@ a port and leaves the protocol open, it becomes one flow for each protocol whose
 another protocol has no ports in a switch, so no entry that asks for one decides it there. Where an entry asks for some
 bits of the protocol, it becomes one flow for each protocol that has them, since a flow names one protocol or none.
 
-The first entry of a table lies at slot 0, or at the one that --slot gives (of razor, --slot is a width): slot N has the priority 65535 - N, or as much less as
-another priority is given for slot 0, and its cookie is N + 1. So a table can be loaded behind another one, and both told
-apart, while the one replaces the other. What a memory holds lies in its slots, of which the text counts the first one as 1:
-there the number of a slot is its cookie. A mark stands in the upper 32 bits of the cookies. By it all flows of a table are
-removed at once, and no other flow of the switch: `ovs-ofctl del-flows BRIDGE cookie=MARK/MASK`, with the mark and the mask as
-0x100000000/0xffffffff00000000 for mark 1. The flows match IPv4 alone; what else a switch carries needs flows of its own.
+The first entry of a table lies at slot 0, or at the one that --slot gives (of razor, --slot is a width): slot N has the
+priority 65535 - N, or as much less as another priority is given for slot 0, and its cookie is N + 1. So a table can be loaded
+behind another one, and both told apart, while the one replaces the other. What a memory holds lies in its slots, of which the
+text counts the first one as 1: there the number of a slot is its cookie. A mark stands in the upper 32 bits of the cookies. By
+it all flows of a table are removed at once, and no other flow of the switch: `ovs-ofctl del-flows BRIDGE cookie=MARK/MASK`,
+with the mark and the mask as 0x100000000/0xffffffff00000000 for mark 1. The flows match IPv4 alone; what else a switch carries
+needs flows of its own.
 
 With --replace MARK the line that deletes all flows of that mark stands in front, so that in one bundle the table takes their
 place. It is never written alone: where the text is bad or has no entry, or a decision has no actions, nothing is written.

@@ -22,7 +22,7 @@ import re
 from dataclasses import dataclass
 from typing import Mapping
 
-from . import commands
+from . import commands, script
 from .answers import List
 from .configurations import ios, iptables, nft
 from .configurations.addresses import is_number
@@ -128,7 +128,7 @@ def may_assume(dialect: str, key: str, value: str) -> bool:
 
 
 def arguments() -> argparse.ArgumentParser:
-    parser = commands.parser(__doc__)
+    parser = script.words(__doc__)
     parser.add_argument("dialect", metavar="DIALECT", choices=DIALECTS)
     parser.add_argument("--pick", metavar="NAME")
     parser.add_argument("--assume", metavar="KEY=VALUE", action=commands.Pairs, default={})

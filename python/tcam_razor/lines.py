@@ -13,7 +13,8 @@ from __future__ import annotations
 import re
 from dataclasses import dataclass
 
-from . import commands
+from . import commands, script
+from .errors import BadText
 
 FIRST = re.compile(r"map 1 rules (\d+) rows (\d+)")
 STATE = re.compile(r"rule ([1-9]\d*) (live|droppable|never)((?: \d+){5})?")
@@ -84,17 +85,17 @@ def summed(states: list[bool]) -> str:
 
 
 def run(words: list[str]) -> int:
-    parser = commands.parser(__doc__)
+    parser = script.words(__doc__)
     parser.add_argument("map", metavar="MAP")
     asked = parser.parse_args(words)
     try:
         found = parsed(commands.read(asked.map))
     except ValueError as fault:
-        raise commands.Ended(commands.REFUSED, f"{asked.map}: {fault}") from None
+        raise BadText(asked.map, str(fault)) from None
     try:
         lines = told(found, commands.read("-").splitlines())
     except ValueError as fault:
-        raise commands.Ended(commands.REFUSED, f"standard input: {fault}") from None
+        raise BadText("standard input", str(fault)) from None
     commands.answer("".join(f"{line}\n" for line in lines))
     return commands.DONE
 

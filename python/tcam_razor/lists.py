@@ -35,6 +35,11 @@ class Rule:
     decision: str
     is_flagged: bool
 
+    @property
+    def columns(self) -> str:
+        """Its text without the word of its decision: such a rule decides its number."""
+        return self.text if self.decision.startswith("#") else self.text.removesuffix(self.decision)
+
     def holds(self, header: Iterable[int]) -> bool:
         return all(any(low <= value <= high for low, high in spans) for spans, value in zip(self.spans, header))
 

@@ -45,8 +45,8 @@ class Words(argparse.ArgumentParser):
 
 
 def words(says: str | None) -> Words:
-    """A parser of the script's words, which shows what the script says of itself."""
-    return Words(description=says, formatter_class=argparse.RawDescriptionHelpFormatter)
+    """A parser of the script's words, each option written whole, which shows what the script says of itself."""
+    return Words(description=says, formatter_class=argparse.RawDescriptionHelpFormatter, allow_abbrev=False)
 
 
 class Stopped(BaseException):

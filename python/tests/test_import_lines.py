@@ -169,6 +169,7 @@ IPTABLES = [(SAVE.format(rules), assumed, expected) for rules, assumed, expected
     ("*nat\n:INPUT ACCEPT [0:0]\nCOMMIT\n", {}, "no table filter, only nat"),
     ("*filter\n:INPUT DROP [0:0]\nCOMMIT\n*filter\n:INPUT ACCEPT [0:0]\nCOMMIT\n", {}, "line 4: no line of iptables-save: *filter"),
     ("*filter\n:INPUT DROP [0:0]\nCOMMIT\n*mangle\n:INPUT DROP [0:0]\nCOMMIT\n", {}, "+chain mangle INPUT takes part too"),
+    ("*filter\n:INPUT QUEUE [0:0]\nCOMMIT\n", {}, "policy QUEUE of chain INPUT"),
     ("", {}, "no table filter"),
 ]
 

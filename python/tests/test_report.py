@@ -26,6 +26,8 @@ OLD = "@10.0.0.0/8 0.0.0.0/0 0 : 65535 22 : 22 0x06/0xFF deny\n@0.0.0.0/0 0.0.0.
 NEW = OLD.replace("22 : 22", "23 : 23")
 # Its second rule is never first.
 DEAD = OLD.replace("@0.0.0.0/0", "@10.1.0.0/16 0.0.0.0/0 0 : 65535 22 : 22 0x06/0xFF accept\n@0.0.0.0/0", 1)
+# Two halves of what the old list denies come before it, and with them a part of the second one.
+HALVES = "".join(f"@{address} 0.0.0.0/0 0 : 65535 22 : 22 0x06/0xFF accept\n" for address in ("10.0.0.0/9", "10.128.0.0/9", "10.130.0.0/16")) + OLD
 FLAGGED = OLD.replace("0xFF deny", "0xFF 0x02/0x02 deny")
 HEADER = Header(10 << 24, 0, 0, 22, 6)
 NOTHING = Kind((), None, True)
@@ -55,7 +57,7 @@ class Conditions(unittest.TestCase):
             ("permits", {"permitted": changed("deny", "accept")}),
             ("denies", {"denied": changed("accept", "deny")}),
             ("any", {"is_alike": False, "difference": example}),
-            ("dead", {"idle": (Idle(3, "a rule", None, "never", None, 1),)}),
+            ("dead", {"idle": (Idle(3, "a rule", None, "never", None, (1,)),)}),
             ("entries=5", {}),
             ("writes=0", {}),
             ("writes=9", {"writes": Writes(8, (), 11)}),
@@ -64,7 +66,7 @@ class Conditions(unittest.TestCase):
             self.expect(True, word, **parts)
         for word in ("permits", "denies", "any", "dead", "entries=6", "writes=1", "flags"):
             self.expect(False, word)
-        self.expect(False, "dead", idle=(Idle(3, "a rule", "live", "droppable", HEADER, None),))
+        self.expect(False, "dead", idle=(Idle(3, "a rule", "live", "droppable", HEADER, ()),))
 
     def test_what_is_not_known_neither_holds_nor_not(self):
         for word, parts in (("permits", {"permitted": LATE}), ("denies", {"denied": LATE}), ("any", {"is_alike": None}), ("dead", {"idle": None}), ("writes=9", {"writes": None}), ("entries=9", {"entries": (Entries("shorten", Size(5), Size(0, False, "no table in 60 seconds")),)})):
@@ -141,7 +143,7 @@ class Report(unittest.TestCase):
         folder = tempfile.TemporaryDirectory()
         self.addCleanup(folder.cleanup)
         self.folder = pathlib.Path(folder.name)
-        for name, text in (("old", OLD), ("new", NEW), ("dead", DEAD), ("flagged", FLAGGED), ("bad", "@10.0.0.0/8\n")):
+        for name, text in (("old", OLD), ("new", NEW), ("dead", DEAD), ("flagged", FLAGGED), ("halves", HALVES), ("bad", "@10.0.0.0/8\n")):
             (self.folder / name).write_text(text)
 
     def call(self, *words):
@@ -177,6 +179,12 @@ class Report(unittest.TestCase):
         self.assertEqual(data["permitted"]["boxes"], [{"box": {"source": ["10.0.0.0", "10.255.255.255"], "destination": ["0.0.0.0", "255.255.255.255"], "source_port": [0, 65535], "destination_port": [22, 22], "protocol": [6, 6]}, "old": "deny", "new": "accept"}])
         self.assertEqual(data["difference"]["new"], {"decision": "accept", "line": 2, "rule": "@0.0.0.0/0 0.0.0.0/0 0 : 65535 0 : 65535 0x00/0x00 accept"})
         self.assertEqual(data["certificate"]["is_valid"], True)
+
+    def test_the_rules_are_named_that_keep_another_one_from_being_first(self):
+        ended = self.call("--json", self.folder / "data", "old", "halves")
+        self.assertEqual([(3, [2]), (4, [1, 2])], [(it["line"], it["hidden_by"]) for it in json.loads((self.folder / "data").read_text())["idle"] if it["now"] == "never"])
+        self.assertIn("lines 1 and 2 together match all that it matches", ended.stdout)
+        self.assertIn("line 2 matches all that it matches", ended.stdout)
 
     def test_lists_without_a_name_have_a_title(self):
         code = f"exec {sys.executable} -B -c 'from tcam_razor import report; report.call()' <(cat old) <(cat new)"

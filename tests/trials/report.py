@@ -1,15 +1,15 @@
 """Tries the pages of tools/report on random changes of random lists.
 
-A list of few rules is changed: rules are put in, taken out and moved. The boxes in which the page says that decisions
-changed must be exactly those headers that are decided differently, found by evaluating both lists wherever an interval of
-either begins; no header may lie in two of them. The writes that it shows must lead from one table to the other, with some
-drawn headers decided as by either of them after each. Each page must be well-formed, fetch nothing and run nothing, also where a
-list has the name of a script.
+A list of few rules is changed: rules are put in, taken out and moved. The boxes in which the page says that decisions changed
+must be exactly those headers that are decided differently, found by evaluating both lists wherever an interval of either
+begins; no header may lie in two of them. What is said to keep a rule from being first must do so. The writes that it shows must
+lead from one table to the other, with some drawn headers decided as by either of them after each. Each page must be
+well-formed, fetch nothing and run nothing, also where a list has the name of a script.
 """
 import html.parser
 
 from model import cases, lists, patching
-from model.meaning import Cut, decided
+from model.meaning import Cut, decided, first
 from tcam_razor import headers, memories, tables
 from tcam_razor.razor import written
 from tcam_razor.report.change import Change, Version
@@ -108,6 +108,7 @@ def trial(razor, rng, seen):
         if not all(search.is_all for search in searches) or (change.difference is None) != (differing == 0):
             raise cases.Wrong(f"{differing} headers differ, and the first difference is {change.difference}")
         expect_parted(*searches)
+        seen["hidden"] += expect_hidden(change)
         expect_sound(page_of(change))
     except cases.Wrong as wrong:
         raise cases.Wrong(f"{wrong}\n{written(old)}and\n{written(new)}") from None
@@ -122,6 +123,17 @@ def expect_parted(permitted, denied, others):
                 raise cases.Wrong(f"{box} stands among those that are newly {'permitted' if was else 'denied'}")
     if any((box.old in DENY) != (box.new in DENY) for box in others.found):
         raise cases.Wrong("a box that is newly permitted or denied stands among the others")
+
+
+def expect_hidden(change):
+    """Fails unless rules that are never first lie in the one that is named, or are first matched by just those that are; how many there are."""
+    matches, hidden = list(Cut(change.new.rules).matches()), [it for it in change.turned if it.now.name == "never"]
+    for it in hidden:
+        of_rule, named = [matching for matching in matches if matching >> it.rule.number - 1 & 1], [rule.number - 1 for rule in it.hiders]
+        is_one = len(named) == 1 and all(matching >> named[0] & 1 for matching in of_rule)
+        if not is_one and set(map(first, of_rule)) != set(named):
+            raise cases.Wrong(f"rule {it.rule.number} is hidden, and rules {[rule.number for rule in it.hiders]} are named")
+    return len(hidden)
 
 
 def try_plan(razor, rng, change):
@@ -145,4 +157,4 @@ def expect_sound(text):
 
 def run(given):
     count, seen = cases.try_all(given, trial, runs=200)
-    return f"{count:,} changes: {seen['boxes']:,} boxes hold exactly the {seen['headers']:,} headers that are decided differently, and {seen['permitted']:,} of the boxes are newly permitted; {seen['writes']:,} writes lead from table to table"
+    return f"{count:,} changes: {seen['boxes']:,} boxes hold exactly the {seen['headers']:,} headers that are decided differently, and {seen['permitted']:,} of the boxes are newly permitted; {seen['hidden']:,} rules are hidden by those that are named; {seen['writes']:,} writes lead from table to table"

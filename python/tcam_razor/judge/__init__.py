@@ -3,10 +3,10 @@
     razor-judge [--pick NAME] [--assume KEY=VALUE].. [--packets N] [--seed N] FILE
 
 FILE is a ruleset as `nft -f` or `iptables-restore` loads it, or the JSON of `nft -j list ruleset`; `-` is standard input. It is
-loaded into a network namespace of its own, which needs no root, and touches nothing of the machine. What the kernel has there is listed and
-imported, with `--pick` and `--assume` as razor-import has them. Then packets are sent to the hook of the chain, drawn by `--seed`
-at the ends of the list's rules (1000, or as many as `--packets` says), and the kernel says which come out of it. Other chains are
-emptied before. Chains at the hooks prerouting, input and forward are judged.
+loaded into a network namespace of its own, which needs no root, and touches nothing of the machine. What the kernel has there
+is listed and imported, with `--pick` and `--assume` as razor-import has them. Then packets are sent to the hook of the chain,
+drawn by `--seed` at the ends of the list's rules (1000, or as many as `--packets` says), and the kernel says which come out of
+it. Other chains are emptied before. Chains at the hooks prerouting, input and forward are judged.
 
 It writes how many packets were sent, how many of them never came to the hook, since the kernel takes no such addresses there, how
 many were decided alike, and how many otherwise; then the first of these, as `differ`, its header, what the list decides, and
@@ -24,8 +24,9 @@ import re
 from dataclasses import dataclass
 from typing import Any
 
-from .. import commands, importing, lists
+from .. import commands, importing, lists, script
 from ..configurations.names import STATES
+from ..errors import NotFound
 from ..headers import Header
 from ..importing import Reading
 from .drawing import headers
@@ -168,7 +169,7 @@ def told(reading: Reading, verdicts: list[Judged]) -> str:
 
 
 def run(words: list[str]) -> int:
-    parser = commands.parser(__doc__)
+    parser = script.words(__doc__)
     parser.add_argument("--pick", metavar="NAME")
     parser.add_argument("--assume", metavar="KEY=VALUE", action=commands.Pairs, default={})
     parser.add_argument("--packets", metavar="N", type=commands.count, default=1000)
@@ -184,7 +185,7 @@ def run(words: list[str]) -> int:
     except NotJudged as fault:
         return refused(asked, str(fault))
     except Unavailable as fault:
-        raise commands.Ended(commands.WANTING, str(fault)) from None
+        raise NotFound(str(fault)) from None
     commands.answer(told(reading, verdicts))
     return commands.DONE if all(it.is_alike for it in verdicts) else commands.DIFFERENT
 

@@ -14,8 +14,9 @@ from tcam_razor import headers, lists, tables
 from tcam_razor.errors import BY_STATUS, BadText, RazorError
 from tcam_razor.headers import Header
 from tcam_razor.lists import Rule
-from tcam_razor.razor import Ended, Razor
+from tcam_razor.razor import Ended, Razor, written
 from tcam_razor.report.boxes import Lists, Search
+from tcam_razor.report.hiding import Hiding
 from tcam_razor.script import shown
 
 MAKERS = ("expand", "compile", "arrange", "shorten")
@@ -54,12 +55,12 @@ class State:
 
 @dataclasses.dataclass(frozen=True)
 class Turned:
-    """A rule that does nothing, with its state before, which a rule has not that was put in."""
+    """A rule that does nothing, with its state before, which a rule has not that was put in, and the rules that hide it."""
 
     rule: Rule
     before: State | None
     now: State
-    hider: Rule | None
+    hiders: tuple[Rule, ...]
 
 
 @dataclasses.dataclass(frozen=True)
@@ -137,6 +138,12 @@ class Version:
     @property
     def table(self) -> str:
         return f"{self.name}.table"
+
+    @functools.cached_property
+    def hiding(self) -> Hiding:
+        path = f"{self.name}.numbers"
+        self.razor.put(path, written(rule.columns for rule in self.rules))
+        return Hiding(self.run, path, self.rules, self.seconds)
 
 
 def state(words: Sequence[str]) -> State:
@@ -234,11 +241,11 @@ class Change:
             return None
         before = {new: was[old] for old, new in self.rows if old is not None and new is not None}
         rows = [(at, each, before.get(at)) for at, each in enumerate(now) if not each.is_needed]
-        return [Turned(self.new.rules[at], was, each, self.hider(at)) for at, each, was in rows if was is None or was.name != each.name]
+        return [Turned(self.new.rules[at], was, each, self.hiders(at, each)) for at, each, was in rows if was is None or was.name != each.name]
 
-    def hider(self, at: int) -> Rule | None:
-        """The first rule before this one that alone matches all that it matches, or none."""
-        return next((rule for rule in self.new.rules[:at] if rule.covers(self.new.rules[at])), None)
+    def hiders(self, at: int, now: State) -> tuple[Rule, ...]:
+        """The rules that keep a rule from being first, as far as that is known."""
+        return self.new.hiding.hiders(self.new.rules[at]) if now.name == "never" else ()
 
     @functools.cached_property
     def plan(self) -> Plan | None:

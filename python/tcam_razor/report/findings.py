@@ -80,14 +80,14 @@ class Row:
 
 @dataclasses.dataclass(frozen=True)
 class Idle:
-    """A rule that does nothing now, and did before or wasn't there: its state before and now, a header that shows it, and the line that hides it."""
+    """A rule that does nothing now, and did before or wasn't there: its state before and now, a header that shows it, and the lines that hide it."""
 
     line: int
     rule: str
     before: str | None
     now: str
     header: Header | None
-    hidden_by: int | None
+    hidden_by: tuple[int, ...]
 
 
 @dataclasses.dataclass(frozen=True)
@@ -199,7 +199,7 @@ def row(change: Change, old: int | None, new: int | None) -> Row:
 
 
 def idle(it: Turned) -> Idle:
-    return Idle(it.rule.line, it.rule.text, it.before.name if it.before else None, it.now.name, it.now.header, it.hider.line if it.hider else None)
+    return Idle(it.rule.line, it.rule.text, it.before.name if it.before else None, it.now.name, it.now.header, tuple(rule.line for rule in it.hiders))
 
 
 def as_json(findings: Findings) -> str:

@@ -257,10 +257,15 @@ def idle_row(rule: Idle) -> Sequence[Any]:
     )
 
 
-def because(header: Header | None, hidden_by: int | None) -> str:
+def because(header: Header | None, hidden_by: Sequence[int]) -> str:
     if header:
         return f"first match of {header.shown}, which later rules decide alike"
-    return f"line {hidden_by} matches all that it matches" if hidden_by is not None else "earlier rules together match all that it matches"
+    if not hidden_by:
+        return "earlier rules together match all that it matches"
+    *others, last = (f"{line:,}" for line in hidden_by)
+    if not others:
+        return f"line {last} matches all that it matches"
+    return f"lines {', '.join(others)} and {last} together match all that it matches"
 
 
 def sizes(it: Findings) -> Html:

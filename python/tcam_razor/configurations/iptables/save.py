@@ -81,7 +81,7 @@ def picked(save: Save, pick: str | None) -> tuple[str, str]:
         found = known if len(known) == 1 else [chain for chain in known if table.lines[chain]]
         if len(found) != 1:
             raise Refused(f"pick one chain of: {', '.join(found or known)}")
-        return table_name, found[0]
+        name = found[0]
     if name not in known:
         raise Refused(f"no chain {name} with a policy in table {table_name}: pick one of {', '.join(known)}")
     if table.policies[name] not in ("ACCEPT", "DROP"):
