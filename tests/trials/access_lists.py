@@ -13,7 +13,8 @@ from stand.first_match import corners, decided, read, source_of
 
 HEADERS = 200
 RUNS = 2000
-REFUSED = ("needs more than 256 prefixes", "rules in all")
+# A drawn entry may need more rules than are made.
+REFUSED = ("needs more than 256 prefixes", "rules needed", "rules in all")
 
 
 def trial(razor, rng, seen):
