@@ -22,9 +22,9 @@ import re
 import shutil
 import subprocess
 from itertools import product
-from typing import Iterator, Mapping
+from typing import Callable, Iterator, Mapping
 
-from . import commands, importing, lists, program, script
+from . import commands, importing, lists, program, razor, script
 from .answers import List
 from .configurations import fields, listing, names
 from .configurations.fields import Box, Spans
@@ -230,6 +230,7 @@ def run(words: list[str]) -> int:
     return commands.DONE
 
 
-def call() -> None:
-    """Runs the command."""
+def call(program_of: Callable[[], str] = razor.found) -> None:
+    """Runs the command; the function finds the program where RAZOR names none."""
+    program.find_by(program_of)
     commands.call(run)
