@@ -14,9 +14,9 @@ from __future__ import annotations
 
 import argparse
 import json
-from typing import Any
+from typing import Any, Callable
 
-from . import commands, lines, program, script
+from . import commands, lines, program, razor, script
 from .answers import List
 from .configurations.listing import dotted
 from .errors import BadText
@@ -86,6 +86,7 @@ def run(words: list[str]) -> int:
     return commands.DONE if data.get("equal", True) else commands.DIFFERENT
 
 
-def call() -> None:
-    """Runs the command."""
+def call(program_of: Callable[[], str] = razor.found) -> None:
+    """Runs the command; the function finds the program where RAZOR names none."""
+    program.find_by(program_of)
     commands.call(run)

@@ -11,6 +11,9 @@ nft the last rule becomes the policy. The text is imported again (of nft: loaded
                        words need no --call
   --unchecked          writes the text without reading it back, where razor, nft or unshare isn't there
 
+A list that was imported under assumptions says them in its first line. They aren't in the text: lines that matched nothing under
+them are gone, and lines on ICMP types are open. So such a text is none to load in the place of the one imported: a notice says so.
+
 The status is 0 where the text was written, 2 for wrong words, 3 where rules have no exact form or the text decides a header
 otherwise, 5 and 6 for faults of reading and writing, 126 where what compares them isn't there.
 """
@@ -22,9 +25,9 @@ import re
 import shutil
 import subprocess
 from itertools import product
-from typing import Iterator, Mapping
+from typing import Callable, Iterator, Mapping
 
-from . import commands, importing, lists, program, script
+from . import commands, importing, lists, program, razor, script
 from .answers import List
 from .configurations import fields, listing, names
 from .configurations.fields import Box, Spans
@@ -39,6 +42,8 @@ TABLE_NAME = re.compile(r"[A-Za-z][A-Za-z0-9_]{0,30}")
 # Protocols that IOS and EOS name alike; others are written as numbers.
 BY_NAME = {names.IOS_PROTOCOLS[name]: name for name in ("icmp", "sctp", "tcp", "udp")}
 NFT_HEADERS = {number: name for name, number in names.LINUX_PROTOCOLS.items() if number in fields.PORTED}
+# The first line of a list that was imported under assumptions.
+ASSUMED = re.compile(r"# (?:ios|eos|nft|iptables) .*?, ((?:state|fragments|icmp|in|out)=.*)")
 # A network namespace of its own. Root needs no other user there, for whom the kernel takes no long texts at once.
 NAMESPACE = ["unshare", "-n"] if os.geteuid() == 0 else ["unshare", "-rn"]
 # Where administrators' programs are, though a user's PATH may not say so.
@@ -75,6 +80,12 @@ def read(rules: List) -> list[lists.Rule]:
         with contextlib.suppress(NotFound):
             program.equiv(rules, rules, flags=True)
         raise
+
+
+def assumptions(rules: List) -> str | None:
+    """What was assumed where the list was imported."""
+    found = ASSUMED.fullmatch(rules.text.partition("\n")[0].rstrip("\r"))
+    return found[1] if found else None
 
 
 def box_of(rule: lists.Rule) -> Box:
@@ -225,11 +236,15 @@ def run(words: list[str]) -> int:
     except ValueError as fault:
         parser.error(str(fault))
     commands.answer(text)
+    assumed = assumptions(rules)
+    if assumed:
+        commands.tell(f"{asked.list}: notice: made for {assumed} alone, which the text doesn't ask for: don't load it in the place of the one imported")
     if asked.unchecked:
         commands.tell(f"{asked.list}: notice: the text wasn't compared with the list")
     return commands.DONE
 
 
-def call() -> None:
-    """Runs the command."""
+def call(program_of: Callable[[], str] = razor.found) -> None:
+    """Runs the command; the function finds the program where RAZOR names none."""
+    program.find_by(program_of)
     commands.call(run)

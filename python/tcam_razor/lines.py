@@ -17,6 +17,8 @@ from . import commands, script
 from .errors import BadText
 
 FIRST = re.compile(r"map 1 rules (\d+) rows (\d+)")
+# The place of what a configuration does with all that no line decides.
+END = "end"
 STATE = re.compile(r"rule ([1-9]\d*) (live|droppable|never)((?: \d+){5})?")
 
 
@@ -77,7 +79,7 @@ def told(found: Map, audit: list[str]) -> list[str]:
         never.setdefault((owner.place, owner.text), []).append(state[2] == "never")
     if len(audit) != found.rules:
         raise ValueError(f"an audit of {len(audit)} rules, and a map of {found.rules}")
-    return lines + [f"{summed(states)}  {place}: {text}" for (place, text), states in never.items() if any(states)]
+    return lines + [f"{summed(states)}  {'at the end' if place == END else place}: {text}" for (place, text), states in never.items() if any(states)]
 
 
 def summed(states: list[bool]) -> str:

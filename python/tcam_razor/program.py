@@ -18,7 +18,7 @@ import re
 import shutil
 import subprocess
 import tempfile
-from typing import Iterable, Sequence
+from typing import Callable, Iterable, Sequence
 
 from . import flags as masks
 from .answers import Answered, Box, Certificate, Difference, List, Memory, Plan, RuleState, Span, State, Table, Text, WrongRow
@@ -29,12 +29,27 @@ MISS = "miss"
 RULES = re.compile(r"rules (\d+), flagged \d+.*\n")
 
 
-def found() -> str:
-    """The program that is called."""
-    program = os.environ.get("RAZOR") or shutil.which("razor")
+def in_path() -> str:
+    """The program in a folder of PATH."""
+    program = shutil.which("razor")
     if not program:
         raise NotFound("no program razor: set RAZOR to its path, or put it into a folder of PATH")
     return program
+
+
+# Finds the program where RAZOR names none.
+finder: Callable[[], str] = in_path
+
+
+def find_by(other: Callable[[], str]) -> None:
+    """Has the program found otherwise where RAZOR names none, as the commands of a clone do."""
+    global finder
+    finder = other
+
+
+def found() -> str:
+    """The program that is called."""
+    return os.environ.get("RAZOR") or finder()
 
 
 def run(command: str, *options: str, texts: Sequence[Text] = (), words: Sequence[str] = ()) -> Answered:

@@ -8,6 +8,7 @@ import sys
 from typing import Iterable
 
 from tcam_razor.errors import NotFound
+from tcam_razor.program import in_path
 from tcam_razor.script import shown
 
 
@@ -34,11 +35,12 @@ def found(given: str | None = None) -> str:
     name = given or os.environ.get("RAZOR")
     if name:
         return path_of(name)
-    return path_of("razor", os.pathsep.join([str(pathlib.Path(sys.argv[0]).parent), *os.get_exec_path()]))
+    beside = shutil.which("razor", path=str(pathlib.Path(sys.argv[0]).parent))
+    return os.path.abspath(beside or in_path())
 
 
-def path_of(name: str, folders: str | None = None) -> str:
-    path = shutil.which(name, path=folders)
+def path_of(name: str) -> str:
+    path = shutil.which(name)
     if path is None:
         raise NotFound(f"there is no program {shown(name)}")
     return os.path.abspath(path)

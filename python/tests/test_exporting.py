@@ -78,6 +78,17 @@ class Text(unittest.TestCase):
             with self.assertRaises(ValueError):
                 razor.exported("ios", razor.List(LAST), unchecked=True, **words)
 
+    def test_assumptions_that_are_lost_are_told(self):
+        conf = "ip access-list extended EDGE\n 10 permit icmp any any echo\n 20 permit tcp any any established\n 30 permit udp any any\n"
+        edge = razor.imported("ios", conf, assume={"icmp": "8/0", "state": "new"}).list
+        ended = call("exporting", "ios", "--unchecked", "-", given=edge.text)
+        self.assertEqual((0, True, False), (ended.returncode, "permit icmp any any\n" in ended.stdout, "tcp" in ended.stdout))
+        self.assertEqual(["-: notice: made for icmp=8/0, state=new alone, which the text doesn't ask for: don't load it in the place of the one imported",
+                          "-: notice: the text wasn't compared with the list"], ended.stderr.splitlines())
+        for first, assumed in (("# ios A, state=new\r\n", "state=new"), ("# nft inet t input, in=eth0, state=new\n", "in=eth0, state=new"),
+                               ("# ios A\n", None), ("# my list, state=new\n", None), ("", None)):
+            self.assertEqual(assumed, exporting.assumptions(razor.List(first + LAST)), first)
+
     def test_words_and_files(self):
         self.assertEqual(2, call("exporting", "iptables", "-", given=LAST).returncode)
         self.assertEqual(2, call("exporting", "ios", "--call", "deny", "-", given=LAST).returncode)

@@ -36,7 +36,7 @@ class Review(unittest.TestCase):
         told = call("lines", self.folder / "edge.map", given=states).stdout.splitlines()
         # Line 35 permits the web already, line 46 denies secure shell, line 53 permits all ICMP there, and line 56 denies the rest.
         self.assertEqual(["dead  line 37: permit tcp any host 192.0.2.10 eq www", "dead  line 47: permit tcp host 10.20.0.5 any eq 22",
-                          "dead  line 54: deny icmp any host 192.0.2.10", "dead  end: implicit deny"], [line for line in told if not line.startswith("rule")])
+                          "dead  line 54: deny icmp any host 192.0.2.10", "dead  at the end: implicit deny"], [line for line in told if not line.startswith("rule")])
 
     def test_a_change_that_permits_more_fails_its_review(self):
         wider = self.imported("wider", self.text.replace("range 5000 5010", "range 5000 5020"))
