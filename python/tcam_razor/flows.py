@@ -1,9 +1,11 @@
 """Writes a table, a memory or a plan as flows of OpenFlow 1.3, for `ovs-ofctl -O OpenFlow13 --bundle add-flows`: tools/flows [OPTION ..] FILE
 
-    razor shorten LIST | tools/flows --mark 1 - > FLOWS
-    razor shorten LIST | tools/flows --mark 2 --replace 1 - > FLOWS
-    razor patch MEMORY TABLE | tools/flows --mark 1 - > CHANGES
-    razor shorten LIST | tools/flows --mark 1 --table 2 --match in_port=4 - > FLOWS
+    razor shorten LIST | tools/flows --mark 1 --priority 40000 - > FLOWS
+    razor shorten LIST | tools/flows --mark 2 --replace 1 --priority 40000 - > FLOWS
+    razor patch MEMORY TABLE | tools/flows --mark 1 --priority 40000 - > CHANGES
+    razor shorten LIST | tools/flows --mark 1 --priority 40000 --table 2 --match in_port=4 - > FLOWS
+
+Above 40000 there is room for flows of the switch's own, as docs/SWITCH.md has one for later fragments.
 
 An entry becomes a flow with a priority by its place, its number as cookie, and its masks as they are. Where it asks for
 a port and leaves the protocol open, it becomes one flow for each protocol whose ports a switch reads. A packet of
