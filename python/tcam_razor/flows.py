@@ -1,9 +1,11 @@
 """Writes a table, a memory or a plan as flows of OpenFlow 1.3, for `ovs-ofctl -O OpenFlow13 --bundle add-flows`: tools/flows [OPTION ..] FILE
 
-    razor shorten LIST | tools/flows --mark 1 - > FLOWS
-    razor shorten LIST | tools/flows --mark 2 --replace 1 - > FLOWS
-    razor patch MEMORY TABLE | tools/flows --mark 1 - > CHANGES
-    razor shorten LIST | tools/flows --mark 1 --table 2 --match in_port=4 - > FLOWS
+    razor shorten LIST | tools/flows --mark 1 --priority 40000 - > FLOWS
+    razor shorten LIST | tools/flows --mark 2 --replace 1 --priority 40000 - > FLOWS
+    razor patch MEMORY TABLE | tools/flows --mark 1 --priority 40000 - > CHANGES
+    razor shorten LIST | tools/flows --mark 1 --priority 40000 --table 2 --match in_port=4 - > FLOWS
+
+Above 40000 there is room for flows of the switch's own, as docs/SWITCH.md has one for later fragments.
 
 An entry becomes a flow with a priority by its place, its number as cookie, and its masks as they are. Where it asks for
 a port and leaves the protocol open, it becomes one flow for each protocol whose ports a switch reads. A packet of
@@ -25,9 +27,10 @@ Of a plan each write becomes the line that deletes the flows of its slot, and th
 bundle a switch takes the whole plan at once. With --write N the changes of the Nth write alone are written, so that writes go
 one after another, a bundle each: in a bundle of its own no lookup comes between what a slot held and what it holds then.
 
-With --table N all flows lie in that table of the switch, and only there flows are deleted. With --match in_port=4, or any other
-match of Open vSwitch on what a rule doesn't ask for, they decide those packets alone, and only flows with that match are
-deleted: so each port may have a list of its own. It may be given several times, for a match each.
+With --table N all flows lie in that table of the switch, and only there flows are deleted. With --match in_port=4 they decide
+those packets alone, and only flows with that match are deleted: so each port may have a list of its own. It may be given several
+times, for a match each. Taken are matches that every packet of IPv4 can have: in_port, dl_src, dl_dst, dl_vlan, nw_ttl, tun_id,
+metadata, pkt_mark, ct_state, ct_zone, ct_mark, and reg0 to reg15. Any other one a switch would drop without a word.
 
 A decision becomes the actions that are given for its name; `accept` and `permit` are `normal`, and `deny`, `drop` and
 `miss` are `drop`, if nothing else is given.
@@ -58,12 +61,14 @@ ACTIONS = {"accept": "normal", "permit": "normal", "deny": "drop", "drop": "drop
 
 NAMES = ("nw_src", "nw_dst", "{}_src", "{}_dst")
 
-# A match of Open vSwitch, and the names that are none, or stand for what a table decides.
-MATCH = re.compile(r"([a-z][a-z0-9_]*)=[^\s,=]+")
-NO_MATCH = re.compile(
-    r"cookie|priority|table|actions?|out_port|out_group|(idle|hard)_timeout|importance|duration"
-    r"|dl_type|eth_type|(nw|ip|ipv6|arp|tp|tcp|udp|sctp|icmp|icmpv6|nd)_(src|dst|proto|spa|tpa|type|code)|ipv6_label"
-)
+# A match that stands in every flow beside those of a table: one that holds for each packet of IPv4. A switch drops any other one
+# without a word. Each field has one name here, since of two matches on a field the last alone holds.
+MATCH = re.compile(r"([a-z][a-z0-9_]*)=([^\s,=*]+)")
+MATCHES = ("in_port", "dl_src", "dl_dst", "dl_vlan", "nw_ttl", "tun_id", "metadata", "pkt_mark", "ct_state", "ct_zone", "ct_mark")
+REGISTERS = tuple(f"reg{number}" for number in range(16))
+
+# The greatest number of a VLAN; a switch reads only the lower bits of a greater one. The other number is that of no VLAN.
+LAST_VLAN, NO_VLAN = 0xFFF, 0xFFFF
 
 
 def protocols(entry: Entry) -> list[str]:
@@ -89,13 +94,15 @@ class Place:
     def __init__(self, table: int | None, matches: Sequence[str]) -> None:
         self.table = [] if table is None else [f"table={table}"]
         self.matches = matches
+        # Without its protocol a match such as nw_ttl is dropped, and then all flows of the mark would be deleted.
+        self.of_all = ["ip", *matches] if matches else []
 
     def flow(self, cookie: int, priority: int, protocol: str, asks: Iterable[str], actions: str) -> str:
         return ",".join([f"cookie={cookie:#x}", *self.table, f"priority={priority}", protocol, *self.matches, *asks, f"actions={actions}"])
 
     def deletion(self, cookie: int, mask: int) -> str:
         """The line that deletes what lies here and has the cookie, in the bits of the mask."""
-        return "delete " + ",".join([f"cookie={cookie:#x}/{mask:#x}", *self.table, *self.matches])
+        return "delete " + ",".join([f"cookie={cookie:#x}/{mask:#x}", *self.table, *self.of_all])
 
 
 class Slots:
@@ -152,12 +159,15 @@ def action(word: str) -> tuple[str, str]:
 
 
 def match(word: str) -> str:
-    """A match for all flows; of what a table decides it would take the place, and a deny could be lost."""
+    """A match for all flows, one that a switch keeps in each of them as it is said."""
     found = MATCH.fullmatch(word)
     if found is None:
         raise argparse.ArgumentTypeError(f"{shown(word)}: NAME=VALUE is wanted, one match")
-    if NO_MATCH.fullmatch(found[1]):
-        raise argparse.ArgumentTypeError(f"{found[1]} is no match, or one that the table decides")
+    name, value = found.groups()
+    if name not in MATCHES + REGISTERS:
+        raise argparse.ArgumentTypeError(f"{name} isn't taken: it must hold for every packet of IPv4, as {', '.join(MATCHES)} and reg0 to reg15")
+    if name == "dl_vlan" and not (0 <= int(value, 0) <= LAST_VLAN or int(value, 0) == NO_VLAN):
+        raise argparse.ArgumentTypeError(f"{shown(value)} is no VLAN: they go up to {LAST_VLAN}, and {NO_VLAN:#x} is none")
     return word
 
 

@@ -80,6 +80,10 @@ class Switch:
         """Removes the flows that have the cookie, in the bits of the mask."""
         self.run("ovs-ofctl", "-O", "OpenFlow13", "del-flows", "br0", f"cookie={cookie:#x}/{mask:#x}")
 
+    def count(self, match):
+        """How many flows have the match."""
+        return self.run("ovs-ofctl", "-O", "OpenFlow13", "dump-flows", "br0", match).count("cookie=")
+
     def cookie(self, packet, table=0):
         """The cookie of the flow that decides the packet in a table of the switch, or 0 where none does."""
         said = self.asked("ofproto/trace", "br0", packet)

@@ -5,6 +5,9 @@ The tables are those that `shorten`, `compile`, `expand` and `arrange` write of 
 ends of what entries ask for; they must be decided as by `razor trace`. The flow that is found tells its entry by its cookie.
 Headers of protocols without ports are asked for where no entry that asks for a port could match them.
 
+Before that, each match that tools/flows takes is put beside a table: all its flows must have the match in the switch, and where
+it is replaced, flows of its mark without the match must stay.
+
 Then the compiled table of one list in examples/ replaces that of another, slot by slot in the order of `razor drive`, and
 after each write some headers must be decided as it says.
 
@@ -35,7 +38,7 @@ from building.sources import ROOT
 from model import cases, patching
 from model import switch as switching
 from model.switch import packet_of
-from tcam_razor import memories, tables
+from tcam_razor import flows, memories, tables
 from tcam_razor import razor as calling
 from tcam_razor.headers import MISS, WIDTHS, WITH_PORTS, Header
 
@@ -53,6 +56,10 @@ BAND = 40_000
 
 # A table of the switch behind the first one.
 INNER = 3
+
+# Matches that tools/flows takes, each with a value.
+VALUES = {"dl_src": "00:00:5e:00:53:01", "dl_dst": "00:00:5e:00:53:00/ff:ff:ff:ff:ff:00", "ct_state": "+trk+est"}
+MATCHES = [f"{name}={VALUES.get(name, 1)}" for name in flows.MATCHES + flows.REGISTERS]
 
 # The flows of the switch itself, behind a mark of their own, and packets that these decide.
 OWN = 0xFF
@@ -117,7 +124,7 @@ def lines_of(path, entries, *words):
     return ended.stdout.splitlines(keepends=True)
 
 
-def flows(path, entries, slot=0):
+def flows_of(path, entries, slot=0):
     """The flows of a table, for each of its slots."""
     parts = {at: [] for at in range(slot, slot + len(entries))}
     for line in lines_of(path, entries, "--slot", slot):
@@ -139,7 +146,7 @@ def compared(switch, razor, text, rng):
     """How many headers were drawn for a table, and those that the switch decides otherwise."""
     path, entries = razor.table("table", text)
     switch.clear()
-    switch.put(itertools.chain(*flows(path, entries).values()))
+    switch.put(itertools.chain(*flows_of(path, entries).values()))
     drawn = [drawn_header(rng, entries) for _ in range(HEADERS)]
     wanted = razor.made("trace", path, "-", given="".join(numbers(header) + "\n" for header in drawn)).split()
     return HEADERS, differing(drawn, wanted, answered(switch, entries, drawn))
@@ -159,9 +166,9 @@ def swapped(switch, razor, texts, rng):
     said = razor.made("drive", "--slots", writes, "-", old_path, new_path, given="\n".join(script)).splitlines()
     wanted = [line for command, line in zip(script, said, strict=True) if command.startswith("look")]
     switch.clear()
-    switch.put(itertools.chain(*flows(old_path, old).values()))
+    switch.put(itertools.chain(*flows_of(old_path, old).values()))
     answers = answered(switch, old + new, drawn)
-    for part in flows(new_path, new, len(old)).values():
+    for part in flows_of(new_path, new, len(old)).values():
         switch.put(part)
         answers += answered(switch, old + new, drawn)
     for slot in reversed(range(len(old))):
@@ -282,15 +289,46 @@ def by_port(switch, razor, texts, rng):
     return len(rows), [row for row in rows if row[1] != row[2]]
 
 
+def lost(switch, path, entries, matches):
+    """The matches that not all flows of a table have, when it is loaded beside one without them; and all, where it can't be replaced alone."""
+    words = [word for match in matches for word in ("--match", match)]
+
+    def put(*words):
+        lines = lines_of(path, entries, *words)
+        switch.put(lines)
+        return len(lines)
+
+    def found(mark, *matches):
+        return switch.count(",".join([f"cookie={mark << 32:#x}/{0xFFFFFFFF << 32:#x}", "ip", *matches]))
+
+    switch.clear()
+    count = put("--mark", 1, *words)
+    put("--mark", 1, "--priority", BAND)
+    yield from (match for match in matches if found(1, match) != count)
+    put("--mark", 2, "--replace", 1, *words)
+    if (found(1), found(2)) != (count, count):
+        yield from matches
+
+
+def matched(switch, razor, text):
+    """All matches must hold at once; and alone the one that is none where no flow asks for IPv4. No header is asked for."""
+    table = razor.table("table", text)
+    names = [*lost(switch, *table, MATCHES), *lost(switch, *table, ["nw_ttl=1"])]
+    if names:
+        raise cases.Wrong(f"a switch doesn't keep {', '.join(names)} in all flows")
+    return 0, []
+
+
 def tried(switch, razor, seed):
     """What is tried, one after another: its name, how many headers were asked for, and those that are decided otherwise."""
 
     def rng(*names):
         return random.Random("/".join(map(str, (seed, *names))))
 
+    compiled = [(name, razor.made("compile", "-", given=text)) for name, text in example_lists()]
+    yield "matches", *matched(switch, razor, dict(compiled)["tools"])
     for at, (name, text) in enumerate(razor.tables()):
         yield name, *compared(switch, razor, text, rng(at))
-    compiled = [(name, razor.made("compile", "-", given=text)) for name, text in example_lists()]
     for (left, old), (right, new) in itertools.permutations(compiled, 2):
         yield f"the swap from {left} to {right}", *swapped(switch, razor, (old, new), rng(left, right))
         yield f"the plan from {left} to {right}", *patched(switch, razor, (old, new), rng(left, right, "in place"))
