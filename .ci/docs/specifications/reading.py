@@ -2,7 +2,7 @@
 
 INTRODUCTION = """# The headline
 
-`.ci/docs/headline` writes this page from the sources. The gate fails where it isn't current, where the headline stands on more than 110 definitions, or where one of the specifications' stands outside the folders `specs/Headline`.
+`.ci/docs/headline` writes this page from the sources. The gate fails where it isn't current, where the headline stands on more than 110 definitions, or where one of the specifications' stands outside the folders `specs/Headline` (but for `Rose`, which crates below share).
 
 ## What is claimed
 
