@@ -1,15 +1,20 @@
 //! Rows put in, taken out, changed and moved.
 
-use crate::cube::Cube;
 use crate::fields::leads;
-use crate::row::Row;
+use crate::search_entry::SearchEntry;
 use crate::slots::{GAP, NOTHING, STEP, Slot, Slots};
 use razor_limits::Memory;
 use std::alloc::Global;
+use ternary_words::Word;
 
 impl Slots {
     /// Puts a row right before the one with this id, or behind the last.
-    pub fn put(&mut self, alloc: Global, before: Option<usize>, row: Row) -> Result<(), Memory> {
+    pub fn put(
+        &mut self,
+        alloc: Global,
+        before: Option<usize>,
+        row: SearchEntry,
+    ) -> Result<(), Memory> {
         if self.empty.is_empty() {
             self.spread(alloc)?;
         }
@@ -30,7 +35,7 @@ impl Slots {
             return Ok(());
         };
         self.empty.push(place)?;
-        let row = self.slot(place).row;
+        let row = self.row(id);
         self.flip(place, row);
         self.links.take(place);
         if self.moved.has(0, place) {
@@ -47,15 +52,15 @@ impl Slots {
     }
 
     /// Gives a row another cube.
-    pub fn set(&mut self, id: usize, cube: Cube) {
+    pub fn set(&mut self, id: usize, cube: Word) {
         let Some(place) = self.place(id) else {
             return;
         };
         let Some(slot) = self.slots.get_mut(place) else {
             return;
         };
-        let (old, new) = (leads(slot.row.cube), leads(cube));
-        slot.row.cube = cube;
+        let (old, new) = (leads(slot.row.word), leads(cube));
+        slot.row.word = cube;
         for (cells, (old, new)) in self.cells.iter_mut().zip(old.iter().zip(&new)) {
             if old != new {
                 cells.carry(place, *old, *new);
@@ -93,11 +98,11 @@ impl Slots {
     fn link(&mut self, place: usize, behind: usize) {
         let before = self.links.of(behind).before;
         self.links.put(place, behind);
-        let low = self.slot(before).label;
+        let low = self.label_of(before);
         let high = if behind == 0 {
             low.saturating_add(2 * GAP)
         } else {
-            self.slot(behind).label
+            self.label_of(behind)
         };
         let between = high.saturating_sub(low);
         if between < 2 {

@@ -2,10 +2,11 @@
 
 ghost use Rattle.std.specs.Prelude.{◌≤◌};
 
-use crate::cube::Cube;
 use crate::fields::highest;
-use crate::row::Row;
+use crate::search_entry::SearchEntry;
 use razor_limits::Memory;
+use ternary_words::Word;
+use word_cover::{fixed, meets};
 
 /// Splits that one question may cost; past that the answer is no.
 const SPLITS: u32 = 2000;
@@ -17,15 +18,15 @@ enum Sizes {
     /// Together they are too small to hold all of it.
     Short,
     /// They may, and this is the largest.
-    Largest(Cube),
+    Largest(Word),
 }
 
 /// Whether the words hold every header of the cube; false too where that is too hard to see. The scratch
 /// is left as it was.
-pub fn covered(cube: Cube, words: &[Cube], scratch: &mut Vec<Cube>) -> Result<bool, Memory> {
+pub fn covered(cube: Word, words: &[Word], scratch: &mut Vec<Word>) -> Result<bool, Memory> {
     let from = scratch.len();
     for word in words {
-        if word.meets(cube) {
+        if meets(word, &cube) {
             scratch.push(*word)?;
         }
     }
@@ -36,11 +37,15 @@ pub fn covered(cube: Cube, words: &[Cube], scratch: &mut Vec<Cube>) -> Result<bo
 
 /// Whether the rows hold every header of the cube; false too where that is too hard to see. The scratch is
 /// left as it was.
-pub fn covered_by(cube: Cube, rows: &[Row], scratch: &mut Vec<Cube>) -> Result<bool, Memory> {
+pub fn covered_by(
+    cube: Word,
+    rows: &[SearchEntry],
+    scratch: &mut Vec<Word>,
+) -> Result<bool, Memory> {
     let from = scratch.len();
     for row in rows {
-        if row.cube.meets(cube) {
-            scratch.push(row.cube)?;
+        if meets(&row.word, &cube) {
+            scratch.push(row.word)?;
         }
     }
     let covered = covered_at(cube, scratch, from)?;
@@ -49,7 +54,7 @@ pub fn covered_by(cube: Cube, rows: &[Row], scratch: &mut Vec<Cube>) -> Result<b
 }
 
 /// Whether `words[from..]` hold every header of the cube; the words are left as they were.
-pub(crate) fn covered_at(cube: Cube, words: &mut Vec<Cube>, from: usize) -> Result<bool, Memory> {
+pub(crate) fn covered_at(cube: Word, words: &mut Vec<Word>, from: usize) -> Result<bool, Memory> {
     let mut splits = SPLITS;
     covered_in(cube, words, from, &mut splits)
 }
@@ -58,8 +63,8 @@ pub(crate) fn covered_at(cube: Cube, words: &mut Vec<Cube>, from: usize) -> Resu
 #[inline(never)]
 #[cycle(covering)]
 fn covered_in(
-    cube: Cube,
-    words: &mut Vec<Cube>,
+    cube: Word,
+    words: &mut Vec<Word>,
     from: usize,
     splits: &mut u32,
 ) -> Result<bool, Memory>
@@ -82,9 +87,9 @@ fn covered_in(
 /// Whether `words[from..]` hold what lies outside of the largest word, half by half.
 #[cycle(covering)]
 fn covered_beside(
-    mut cube: Cube,
-    largest: Cube,
-    words: &mut Vec<Cube>,
+    mut cube: Word,
+    largest: Word,
+    words: &mut Vec<Word>,
     from: usize,
     splits: &mut u32,
 ) -> Result<bool, Memory>
@@ -97,17 +102,17 @@ fn covered_beside(
         }
         let bit = highest(extra);
         extra ^= bit;
-        if !covered_in(cube.half(bit, !largest.value), words, from, splits)? {
+        if !covered_in(fixed(&cube, bit, !largest.value), words, from, splits)? {
             return Ok(false);
         }
-        cube = cube.half(bit, largest.value);
+        cube = fixed(&cube, bit, largest.value);
     }
     Ok(true)
 }
 
 /// Pushes those of `words[from..]` that meet the cube behind all, but the largest.
 #[inline]
-fn gather(cube: Cube, words: &mut Vec<Cube>, from: usize) -> Result<Sizes, Memory> {
+fn gather(cube: Word, words: &mut Vec<Word>, from: usize) -> Result<Sizes, Memory> {
     let mut volume = 0u128;
     let mut fewest = u32::MAX;
     let mut largest = 0;
@@ -115,16 +120,16 @@ fn gather(cube: Cube, words: &mut Vec<Cube>, from: usize) -> Result<Sizes, Memor
         let Some(&word) = words.get(k) else {
             break;
         };
-        if !word.meets(cube) {
+        if !meets(&word, &cube) {
             continue;
         }
-        let fixed = (word.mask & !cube.mask).count_ones();
-        if fixed == 0 {
+        let extra = (word.mask & !cube.mask).count_ones();
+        if extra == 0 {
             return Ok(Sizes::Whole);
         }
-        volume = volume.saturating_add(1 << 104u32.saturating_sub(fixed));
-        if fixed < fewest {
-            fewest = fixed;
+        volume = volume.saturating_add(1 << 104u32.saturating_sub(extra));
+        if extra < fewest {
+            fewest = extra;
             largest = words.len();
         }
         words.push(word)?;

@@ -1,7 +1,7 @@
 //! The five fields of a header.
 
-use crate::cube::Cube;
-use ternary_words::FIELD_PLACES;
+use ternary_words::{FIELD_PLACES, Word};
+use word_cover::freed;
 
 /// The bits of the fields.
 pub(crate) const FIELD_BITS: [u128; 5] = [
@@ -26,12 +26,12 @@ pub(crate) fn place_of(f: usize) -> (u32, u32) {
 }
 
 /// The cube without what the lost bits bring down: in each field the highest lost bit and all below it.
-pub fn raised(cube: Cube, lost: u128) -> Cube {
+pub fn raised(cube: Word, lost: u128) -> Word {
     let mut cut = 0;
     for bits in &FIELD_BITS {
         cut |= up_to_highest(lost & *bits) & *bits;
     }
-    cube.without(cut)
+    freed(&cube, cut)
 }
 
 /// The highest of these bits and all below it.
@@ -78,8 +78,8 @@ impl Lead {
 
 /// The leads of the five fields.
 #[inline]
-pub(crate) fn leads(cube: Cube) -> [Lead; 5] {
-    let Cube { value, mask } = cube;
+pub(crate) fn leads(cube: Word) -> [Lead; 5] {
+    let (value, mask) = (cube.value, cube.mask);
     [
         Lead::of(low_half(value >> 72), low_half(mask >> 72)),
         Lead::of(low_half(value >> 40), low_half(mask >> 40)),

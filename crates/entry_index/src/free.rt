@@ -1,19 +1,20 @@
 //! Where a cube may stand in a table.
 
 use crate::covers::covered_at;
-use crate::cube::Cube;
-use crate::row::Row;
+use crate::search_entry::SearchEntry;
 use razor_limits::Memory;
+use ternary_words::Word;
+use word_cover::{inside, meet, meets};
 
 /// What is asked of a table: whether a cube may stand in front of the row at a place with a decision.
 #[derive(Clone, Copy)]
 struct Question<'a> {
-    rows: &'a [Row],
+    rows: &'a [SearchEntry],
     at: usize,
-    cube: Cube,
+    cube: Word,
     decision: u32,
     /// What the cube holds already.
-    own: Option<Cube>,
+    own: Option<Word>,
     /// The place of a row that counts as absent.
     skip: usize,
 }
@@ -22,13 +23,13 @@ struct Question<'a> {
 /// `own` nor `rows[..at]` hold is answered so by `rows[at..]`. The row at `skip` counts as absent. False too
 /// where that is too hard to see. The scratch is left as it was.
 pub fn free_for(
-    rows: &[Row],
+    rows: &[SearchEntry],
     at: usize,
-    cube: Cube,
+    cube: Word,
     decision: u32,
-    own: Option<Cube>,
+    own: Option<Word>,
     skip: Option<usize>,
-    scratch: &mut Vec<Cube>,
+    scratch: &mut Vec<Word>,
 ) -> Result<bool, Memory> {
     let from = scratch.len();
     let question = Question {
@@ -48,10 +49,10 @@ impl Question<'_> {
     /// The answer, with what hides parts of the cube at `scratch[from..]`. That is listed only once there is
     /// a row that must be hidden.
     #[inline(never)]
-    fn answer(&self, scratch: &mut Vec<Cube>, from: usize) -> Result<bool, Memory> {
+    fn answer(&self, scratch: &mut Vec<Word>, from: usize) -> Result<bool, Memory> {
         let mut listed = false;
         for (k, row) in self.rows.iter().enumerate().skip(self.at) {
-            if !row.cube.meets(self.cube) || k == self.skip {
+            if !meets(&row.word, &self.cube) || k == self.skip {
                 continue;
             }
             if row.decision != self.decision {
@@ -59,13 +60,13 @@ impl Question<'_> {
                     self.list(k, scratch)?;
                     listed = true;
                 }
-                if !covered_at(self.cube.meet(row.cube), scratch, from)? {
+                if !covered_at(meet(&self.cube, &row.word), scratch, from)? {
                     return Ok(false);
                 }
             } else if listed {
-                scratch.push(row.cube)?;
+                scratch.push(row.word)?;
             }
-            if self.cube.inside(row.cube) {
+            if inside(&self.cube, &row.word) {
                 return Ok(true);
             }
         }
@@ -80,16 +81,16 @@ impl Question<'_> {
 
     /// Pushes what hides parts of the cube above a place: what it holds already, the rows in front of it, and
     /// behind it those of its own decision.
-    fn list(&self, upto: usize, scratch: &mut Vec<Cube>) -> Result<(), Memory> {
+    fn list(&self, upto: usize, scratch: &mut Vec<Word>) -> Result<(), Memory> {
         if let Some(own) = self.own {
             scratch.push(own)?;
         }
         for (k, row) in self.rows.iter().take(upto).enumerate() {
             if (k < self.at || row.decision == self.decision)
-                && row.cube.meets(self.cube)
+                && meets(&row.word, &self.cube)
                 && k != self.skip
             {
-                scratch.push(row.cube)?;
+                scratch.push(row.word)?;
             }
         }
         Ok(())
@@ -99,13 +100,13 @@ impl Question<'_> {
 /// The first place in `at..upto` that the cube with this decision can't pass on its way down, or `upto`. The
 /// row at `skip` counts as absent. The scratch is left as it was.
 pub fn passes(
-    rows: &[Row],
-    cube: Cube,
+    rows: &[SearchEntry],
+    cube: Word,
     decision: u32,
     at: usize,
     upto: usize,
     skip: Option<usize>,
-    scratch: &mut Vec<Cube>,
+    scratch: &mut Vec<Word>,
 ) -> Result<usize, Memory> {
     let from = scratch.len();
     let question = Question {
@@ -127,12 +128,12 @@ impl Question<'_> {
     fn first_blocked(
         &self,
         upto: usize,
-        scratch: &mut Vec<Cube>,
+        scratch: &mut Vec<Word>,
         from: usize,
     ) -> Result<usize, Memory> {
         let mut listed = false;
         for (k, row) in self.rows.iter().take(upto).enumerate().skip(self.at) {
-            if !row.cube.meets(self.cube) {
+            if !meets(&row.word, &self.cube) {
                 continue;
             }
             if row.decision != self.decision {
@@ -140,22 +141,22 @@ impl Question<'_> {
                     self.list_all(k, scratch)?;
                     listed = true;
                 }
-                if !covered_at(self.cube.meet(row.cube), scratch, from)? {
+                if !covered_at(meet(&self.cube, &row.word), scratch, from)? {
                     return Ok(k);
                 }
             }
             if listed {
-                scratch.push(row.cube)?;
+                scratch.push(row.word)?;
             }
         }
         Ok(upto)
     }
 
     /// Pushes all rows above a place that meet the cube.
-    fn list_all(&self, upto: usize, scratch: &mut Vec<Cube>) -> Result<(), Memory> {
+    fn list_all(&self, upto: usize, scratch: &mut Vec<Word>) -> Result<(), Memory> {
         for (k, row) in self.rows.iter().take(upto).enumerate() {
-            if row.cube.meets(self.cube) && k != self.skip {
-                scratch.push(row.cube)?;
+            if meets(&row.word, &self.cube) && k != self.skip {
+                scratch.push(row.word)?;
             }
         }
         Ok(())

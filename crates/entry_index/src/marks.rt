@@ -1,7 +1,7 @@
 //! What a search knows of a row.
 
-use crate::cube::Cube;
 use std::alloc::Global;
+use ternary_words::Word;
 
 /// When a row was last tried in vain: the length of the log, how many rows were looked at at most, and its
 /// cube at that time.
@@ -9,14 +9,14 @@ use std::alloc::Global;
 pub struct Failed {
     pub since: usize,
     pub most: usize,
-    pub cube: Cube,
+    pub cube: Word,
 }
 
 /// What is known of a row, by its id.
 #[derive(Debug, Drop)]
 pub struct Mark {
     /// The cube that the log last told.
-    pub(crate) told: Option<Cube>,
+    pub(crate) told: Option<Word>,
     /// The length of the log when the row was last seen to be needed.
     pub(crate) kept: Option<usize>,
     /// The length of the log when the row was last narrowed.
@@ -24,12 +24,12 @@ pub struct Mark {
     /// When nothing was found: first without, then with changes that gain nothing.
     pub failed: [Option<Failed>; 2],
     /// The cubes that were looked at then.
-    pub tried: [Vec<Cube>; 2],
+    pub tried: [Vec<Word>; 2],
 }
 
 impl Mark {
     /// Of a row that was just put in.
-    pub(crate) fn new(alloc: Global, cube: Cube) -> Mark {
+    pub(crate) fn new(alloc: Global, cube: Word) -> Mark {
         Mark {
             told: Some(cube),
             kept: None,

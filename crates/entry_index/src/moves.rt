@@ -1,22 +1,22 @@
 //! Moves of single rows that keep what a table answers.
 
-use crate::cube::Cube;
 use crate::fields::{field, lowest, place_of, up_to_highest};
 use crate::free::{free_for, passes};
-use crate::table::Table;
+use crate::table::SearchTable;
 use razor_limits::Memory;
-use ternary_words::FIELD_PLACES;
+use ternary_words::{FIELD_PLACES, Word};
+use word_cover::{fixed, freed, meets};
 
-impl Table {
+impl SearchTable {
     /// Whether the table answers the same without the row; false too where that is too hard to see.
     pub fn redundant(&mut self, id: usize) -> Result<bool, Memory> {
         let row = self.slots.row(id);
         let view = &mut self.view;
-        self.slots.small(row.cube, Some(id), usize::MAX, view)?;
+        self.slots.small(row.word, Some(id), usize::MAX, view)?;
         free_for(
             &view.rows,
             view.at,
-            row.cube,
+            row.word,
             row.decision,
             None,
             None,
@@ -54,8 +54,10 @@ impl Table {
         let Some(since) = self.mark(id).and_then(|mark| mark.kept) else {
             return true;
         };
-        let cube = self.row(id).cube;
-        self.log_since(since).iter().any(|told| told.0.meets(cube))
+        let cube = self.row(id).word;
+        self.log_since(since)
+            .iter()
+            .any(|told| meets(&told.0, &cube))
     }
 
     /// Moves a row as far down as it can go: there the fewest rows forbid it to widen. False, and nothing done,
@@ -64,12 +66,12 @@ impl Table {
     pub fn sink(&mut self, id: usize, most: usize) -> Result<bool, Memory> {
         let row = self.slots.row(id);
         let view = &mut self.view;
-        if !self.slots.small(row.cube, Some(id), most, view)? {
+        if !self.slots.small(row.word, Some(id), most, view)? {
             return Ok(false);
         }
         let place = passes(
             &view.rows,
-            row.cube,
+            row.word,
             row.decision,
             view.at,
             view.rows.len(),
@@ -85,10 +87,10 @@ impl Table {
     #[inline(never)]
     pub fn reduce(&mut self, id: usize, most: usize) -> Result<(), Memory> {
         let row = self.slots.row(id);
-        if row.fixed || !self.slots.small(row.cube, Some(id), most, &mut self.view)? {
+        if row.is_fixed || !self.slots.small(row.word, Some(id), most, &mut self.view)? {
             return Ok(());
         }
-        let mut cube = row.cube;
+        let mut cube = row.word;
         for f in (0..FIELD_PLACES.len()).rev() {
             cube = self.narrowed(cube, row.decision, f)?;
         }
@@ -97,7 +99,7 @@ impl Table {
     }
 
     /// The cube with the free bits of a field fixed, from the highest on, as long as one half isn't needed.
-    fn narrowed(&mut self, mut cube: Cube, decision: u32, f: usize) -> Result<Cube, Memory> {
+    fn narrowed(&mut self, mut cube: Word, decision: u32, f: usize) -> Result<Word, Memory> {
         let (low, width) = place_of(f);
         let mut bit = 1 << (low.wrapping_add(width) % 128);
         for _ in 0..width {
@@ -105,7 +107,7 @@ impl Table {
             if cube.mask & bit != 0 {
                 continue;
             }
-            let (zero, one) = (cube.half(bit, 0), cube.half(bit, bit));
+            let (zero, one) = (fixed(&cube, bit, 0), fixed(&cube, bit, bit));
             if self.is_free(one, decision)? {
                 cube = zero;
             } else if self.is_free(zero, decision)? {
@@ -119,7 +121,7 @@ impl Table {
 
     /// Whether the cube may stand with this decision where the table's view was looked at for.
     #[inline]
-    fn is_free(&mut self, cube: Cube, decision: u32) -> Result<bool, Memory> {
+    fn is_free(&mut self, cube: Word, decision: u32) -> Result<bool, Memory> {
         let view = &self.view;
         free_for(
             &view.rows,
@@ -140,7 +142,7 @@ impl Table {
             return Ok(());
         }
         let row = self.slots.row(id);
-        let mut cube = row.cube;
+        let mut cube = row.word;
         for f in order {
             cube = self.widened(id, cube, row.decision, *f, most)?;
         }
@@ -153,11 +155,11 @@ impl Table {
     fn widened(
         &mut self,
         id: usize,
-        mut cube: Cube,
+        mut cube: Word,
         decision: u32,
         f: usize,
         most: usize,
-    ) -> Result<Cube, Memory> {
+    ) -> Result<Word, Memory> {
         let (low, width) = place_of(f);
         let mut first = 1 << (low % 128);
         for _ in 0..width / 4 {
@@ -169,11 +171,11 @@ impl Table {
             }
             if !self
                 .slots
-                .small(cube.without(cut), Some(id), most, &mut self.view)?
+                .small(freed(&cube, cut), Some(id), most, &mut self.view)?
             {
                 break;
             }
-            cube = self.freed(cube, decision, four)?;
+            cube = self.loosened(cube, decision, four)?;
             if cube.mask & cut != 0 {
                 break;
             }
@@ -182,7 +184,7 @@ impl Table {
     }
 
     /// The cube with these four bits freed, from the lowest on, as long as nothing changes.
-    fn freed(&mut self, mut cube: Cube, decision: u32, four: u128) -> Result<Cube, Memory> {
+    fn loosened(&mut self, mut cube: Word, decision: u32, four: u128) -> Result<Word, Memory> {
         let mut left = cube.mask & four;
         for _ in 0..4u32 {
             if left == 0 {
@@ -191,14 +193,11 @@ impl Table {
             let bit = lowest(left);
             left ^= bit;
             // The half that comes in.
-            let half = Cube {
-                value: cube.value ^ bit,
-                mask: cube.mask,
-            };
-            if !self.is_free(half, decision)? {
+            let wider = freed(&cube, bit);
+            if !self.is_free(fixed(&wider, bit, !cube.value), decision)? {
                 break;
             }
-            cube = cube.without(bit);
+            cube = wider;
         }
         Ok(cube)
     }

@@ -1,10 +1,11 @@
 //! What of a cube lies outside of others.
 
-use crate::cube::Cube;
 use crate::fields::highest;
 use razor_limits::Memory;
 use std::alloc::Global;
 use std::mem;
+use ternary_words::Word;
+use word_cover::{fixed, meets};
 
 /// Pieces into which a cube may fall.
 const PIECES: usize = 64;
@@ -12,7 +13,7 @@ const PIECES: usize = 64;
 /// Disjoint cubes that hold exactly what the cube holds outside of all the others; none where they are more
 /// than 64, or more than 128 on the way.
 #[inline(never)]
-pub fn sharp(alloc: Global, cube: Cube, others: &[Cube]) -> Result<Option<Vec<Cube>>, Memory> {
+pub fn sharp(alloc: Global, cube: Word, others: &[Word]) -> Result<Option<Vec<Word>>, Memory> {
     let mut pieces = vec![in alloc; cube]?;
     let mut next = Vec::new(alloc);
     for other in others {
@@ -30,9 +31,9 @@ pub fn sharp(alloc: Global, cube: Cube, others: &[Cube]) -> Result<Option<Vec<Cu
 }
 
 /// Pushes what the pieces hold outside of the other; false where that gets too much.
-fn cut_all(pieces: &[Cube], other: Cube, next: &mut Vec<Cube>) -> Result<bool, Memory> {
+fn cut_all(pieces: &[Word], other: Word, next: &mut Vec<Word>) -> Result<bool, Memory> {
     for piece in pieces {
-        if !piece.meets(other) {
+        if !meets(piece, &other) {
             next.push(*piece)?;
             continue;
         }
@@ -45,7 +46,7 @@ fn cut_all(pieces: &[Cube], other: Cube, next: &mut Vec<Cube>) -> Result<bool, M
 }
 
 /// Pushes what the piece holds outside of the other, which meets it.
-fn cut(mut piece: Cube, other: Cube, next: &mut Vec<Cube>) -> Result<(), Memory> {
+fn cut(mut piece: Word, other: Word, next: &mut Vec<Word>) -> Result<(), Memory> {
     let mut extra = other.mask & !piece.mask;
     for _ in 0..128u32 {
         if extra == 0 {
@@ -53,8 +54,8 @@ fn cut(mut piece: Cube, other: Cube, next: &mut Vec<Cube>) -> Result<(), Memory>
         }
         let bit = highest(extra);
         extra ^= bit;
-        next.push(piece.half(bit, !other.value))?;
-        piece = piece.half(bit, other.value);
+        next.push(fixed(&piece, bit, !other.value))?;
+        piece = fixed(&piece, bit, other.value);
     }
     Ok(())
 }

@@ -1,13 +1,13 @@
 //! Slots of rows, in order.
 
 use crate::cells::Cells;
-use crate::cube::Cube;
 use crate::fields::leads;
 use crate::links::Links;
-use crate::row::Row;
+use crate::search_entry::SearchEntry;
 use crate::sets::Sets;
 use razor_limits::Memory;
 use std::alloc::Global;
+use ternary_words::Word;
 
 /// Decisions are told apart by this many sets of slots.
 const KINDS: u32 = 16;
@@ -23,17 +23,17 @@ pub(crate) const STEP: u64 = 1 << 16;
 /// A slot: a row, its id and its label.
 #[derive(Clone, Copy)]
 pub(crate) struct Slot {
-    pub row: Row,
+    pub row: SearchEntry,
     pub label: u64,
     pub id: usize,
 }
 
 /// What stands in an empty slot.
 pub(crate) const NOTHING: Slot = Slot {
-    row: Row {
-        cube: Cube { value: 0, mask: 0 },
+    row: SearchEntry {
+        word: Word { value: 0, mask: 0 },
         decision: 0,
-        fixed: true,
+        is_fixed: true,
     },
     label: 0,
     id: usize::MAX,
@@ -62,7 +62,7 @@ pub(crate) struct Slots {
 
 impl Slots {
     /// These rows in their order, with ids from 0 on.
-    pub fn new(alloc: Global, rows: &[Row]) -> Result<Slots, Memory> {
+    pub fn new(alloc: Global, rows: &[SearchEntry]) -> Result<Slots, Memory> {
         let mut all = Vec::with_capacity(alloc, rows.len())?;
         for (id, row) in rows.iter().enumerate() {
             all.push(Slot {
@@ -78,7 +78,9 @@ impl Slots {
     pub fn spread(&mut self, alloc: Global) -> Result<(), Memory> {
         let mut all = Vec::with_capacity(alloc, self.len)?;
         for place in self.links.in_order() {
-            all.push(*self.slot(place))?;
+            if let Some(slot) = self.slot(place) {
+                all.push(*slot)?;
+            }
         }
         *self = Slots::laid(alloc, &all, self.places.len())?;
         Ok(())
@@ -131,10 +133,10 @@ impl Slots {
     }
 
     /// Puts a row's slot into the sets, or takes it out.
-    pub fn flip(&mut self, place: usize, row: Row) {
+    pub fn flip(&mut self, place: usize, row: SearchEntry) {
         self.live.flip(0, place);
         self.kinds.flip(kind(row.decision), place);
-        for (cells, lead) in self.cells.iter_mut().zip(&leads(row.cube)) {
+        for (cells, lead) in self.cells.iter_mut().zip(&leads(row.word)) {
             let cell = cells.cell(*lead);
             cells.flip(cell, place);
         }
@@ -151,20 +153,23 @@ impl Slots {
         self.places.get(id).copied().flatten()
     }
 
-    /// What stands in a slot.
+    /// What stands in a slot; none behind the last one.
     #[inline]
-    pub fn slot(&self, place: usize) -> &Slot {
-        match self.slots.get(place) {
-            Some(slot) => slot,
-            None => &NOTHING,
-        }
+    pub fn slot(&self, place: usize) -> Option<&Slot> {
+        self.slots.get(place)
+    }
+
+    /// The label of what stands in a slot.
+    #[inline]
+    pub fn label_of(&self, place: usize) -> u64 {
+        self.slot(place).map_or(0, |slot| slot.label)
     }
 
     /// The row with this id; one that is fixed and matches all where there is none.
     #[inline]
-    pub fn row(&self, id: usize) -> Row {
-        match self.place(id) {
-            Some(place) => self.slot(place).row,
+    pub fn row(&self, id: usize) -> SearchEntry {
+        match self.place(id).and_then(|place| self.slot(place)) {
+            Some(slot) => slot.row,
             None => NOTHING.row,
         }
     }
@@ -185,7 +190,7 @@ fn empty_cells(alloc: Global, all: &[Slot], room: usize) -> Result<Vec<Cells>, M
         found.clear();
         if all.len() > most {
             for slot in all {
-                found.push(leads(slot.row.cube)[f])?;
+                found.push(leads(slot.row.word)[f])?;
             }
             found.sort_unstable();
         }

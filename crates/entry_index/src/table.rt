@@ -1,34 +1,34 @@
 //! Tables that are searched.
 
-use crate::cube::Cube;
 use crate::marks::Mark;
-use crate::row::Row;
+use crate::search_entry::SearchEntry;
 use crate::slots::Slots;
 use crate::view::View;
 use razor_limits::Memory;
 use std::alloc::Global;
+use ternary_words::Word;
 
 /// A table of rows in order, each known by an id that stays with it: the rows that it is made of have ids
 /// from 0 on, in order, and each row that is put in later has the next one. The log tells cubes that were
 /// changed, put in or taken out, with their decisions; it only decides what is looked at again.
 #[derive(Drop)]
-pub struct Table {
+pub struct SearchTable {
     pub(crate) alloc: Global,
     pub(crate) slots: Slots,
     pub(crate) marks: Vec<Mark>,
-    pub(crate) log: Vec<(Cube, u32)>,
+    pub(crate) log: Vec<(Word, u32)>,
     pub(crate) view: View,
-    pub(crate) scratch: Vec<Cube>,
+    pub(crate) scratch: Vec<Word>,
 }
 
-impl Table {
+impl SearchTable {
     /// The table of these rows.
-    pub fn new(alloc: Global, rows: &[Row]) -> Result<Table, Memory> {
+    pub fn new(alloc: Global, rows: &[SearchEntry]) -> Result<SearchTable, Memory> {
         let mut marks = Vec::with_capacity(alloc, rows.len())?;
         for row in rows {
-            marks.push(Mark::new(alloc, row.cube))?;
+            marks.push(Mark::new(alloc, row.word))?;
         }
-        Ok(Table {
+        Ok(SearchTable {
             alloc,
             slots: Slots::new(alloc, rows)?,
             marks,
@@ -52,16 +52,20 @@ impl Table {
     pub fn ids(&self, alloc: Global) -> Result<Vec<usize>, Memory> {
         let mut ids = Vec::with_capacity(alloc, self.len())?;
         for place in self.slots.links.in_order() {
-            ids.push(self.slots.slot(place).id)?;
+            if let Some(slot) = self.slots.slot(place) {
+                ids.push(slot.id)?;
+            }
         }
         Ok(ids)
     }
 
     /// The rows, in order.
-    pub fn rows(&self, alloc: Global) -> Result<Vec<Row>, Memory> {
+    pub fn rows(&self, alloc: Global) -> Result<Vec<SearchEntry>, Memory> {
         let mut rows = Vec::with_capacity(alloc, self.len())?;
         for place in self.slots.links.in_order() {
-            rows.push(self.slots.slot(place).row)?;
+            if let Some(slot) = self.slots.slot(place) {
+                rows.push(slot.row)?;
+            }
         }
         Ok(rows)
     }
@@ -72,13 +76,13 @@ impl Table {
     }
 
     /// The row; one that is fixed and matches all where there is none.
-    pub fn row(&self, id: usize) -> Row {
+    pub fn row(&self, id: usize) -> SearchEntry {
         self.slots.row(id)
     }
 
     /// Whether the row is fixed.
     pub fn is_fixed(&self, id: usize) -> bool {
-        self.row(id).fixed
+        self.row(id).is_fixed
     }
 
     /// What is known of a row; it stays when the row is taken out. None where no row ever had the id.
@@ -97,13 +101,13 @@ impl Table {
     }
 
     /// What the log told since it had this length.
-    pub fn log_since(&self, len: usize) -> &[(Cube, u32)] {
+    pub fn log_since(&self, len: usize) -> &[(Word, u32)] {
         self.log.as_slice().get(len..).unwrap_or(&[])
     }
 
     /// Fills the view with the rows that meet the cube, seen from the row with this id, which isn't among
     /// them; from behind the last row where it is none.
-    pub fn view(&self, cube: Cube, id: Option<usize>, view: &mut View) -> Result<(), Memory> {
+    pub fn view(&self, cube: Word, id: Option<usize>, view: &mut View) -> Result<(), Memory> {
         self.slots.small(cube, id, usize::MAX, view)?;
         Ok(())
     }
@@ -112,7 +116,7 @@ impl Table {
     /// read.
     pub fn small(
         &self,
-        cube: Cube,
+        cube: Word,
         id: Option<usize>,
         most: usize,
         view: &mut View,
@@ -124,20 +128,20 @@ impl Table {
     /// free ones; in no order. The view is used as scratch, and isn't to be read then.
     pub fn inside(
         &self,
-        cube: Cube,
+        cube: Word,
         decision: u32,
         free: u128,
         view: &mut View,
-        found: &mut Vec<(usize, Row)>,
+        found: &mut Vec<(usize, SearchEntry)>,
     ) -> Result<(), Memory> {
         self.slots.inside(cube, decision, free, view, found)
     }
 
     /// Puts a row right before another, or behind the last row, and tells the log.
-    pub fn put(&mut self, before: Option<usize>, row: Row) -> Result<(), Memory> {
+    pub fn put(&mut self, before: Option<usize>, row: SearchEntry) -> Result<(), Memory> {
         self.slots.put(self.alloc, before, row)?;
-        self.marks.push(Mark::new(self.alloc, row.cube))?;
-        self.log.push((row.cube, row.decision))?;
+        self.marks.push(Mark::new(self.alloc, row.word))?;
+        self.log.push((row.word, row.decision))?;
         Ok(())
     }
 
@@ -149,16 +153,16 @@ impl Table {
         let row = self.row(id);
         self.slots.take(id)?;
         if let Some(told) = self.mark(id).and_then(|mark| mark.told)
-            && told != row.cube
+            && told != row.word
         {
             self.log.push((told, row.decision))?;
         }
-        self.log.push((row.cube, row.decision))?;
+        self.log.push((row.word, row.decision))?;
         Ok(())
     }
 
     /// Gives the row another cube. The log doesn't tell it before `tell`.
-    pub fn set(&mut self, id: usize, cube: Cube) {
+    pub fn set(&mut self, id: usize, cube: Word) {
         self.slots.set(id, cube);
     }
 
@@ -168,14 +172,14 @@ impl Table {
         let Some(mark) = self.marks.get_mut(id) else {
             return Ok(());
         };
-        let told = mark.told.replace(row.cube);
-        if told == Some(row.cube) {
+        let told = mark.told.replace(row.word);
+        if told == Some(row.word) {
             return Ok(());
         }
         if let Some(old) = told {
             self.log.push((old, row.decision))?;
         }
-        self.log.push((row.cube, row.decision))?;
+        self.log.push((row.word, row.decision))?;
         Ok(())
     }
 

@@ -1,19 +1,20 @@
 //! The rows that meet a cube.
 
-use crate::cube::Cube;
 use crate::fields::{FIELD_BITS, leads};
-use crate::row::Row;
+use crate::search_entry::SearchEntry;
 use crate::sets::{Block, count, keep};
 use crate::slots::{Slot, Slots, kind};
 use razor_limits::Memory;
 use std::alloc::Global;
+use ternary_words::Word;
+use word_cover::{freed, inside, meets};
 
 /// The rows of a table that meet a cube, in order, without the one that they are looked at for.
 #[derive(Drop)]
 pub struct View {
     /// The rows' ids.
     pub ids: Vec<usize>,
-    pub rows: Vec<Row>,
+    pub rows: Vec<SearchEntry>,
     /// How many of them stand before the one that they are looked at for.
     pub at: usize,
     /// The slots that are looked at.
@@ -59,7 +60,7 @@ impl Slots {
     #[inline(never)]
     pub fn small(
         &self,
-        cube: Cube,
+        cube: Word,
         id: Option<usize>,
         most: usize,
         view: &mut View,
@@ -79,7 +80,7 @@ impl Slots {
         let here = if own == 0 {
             u64::MAX
         } else {
-            self.slot(own).label
+            self.label_of(own)
         };
         self.part_moved(cube, own, view)?;
         self.push_all(cube, own, here, view)?;
@@ -87,11 +88,13 @@ impl Slots {
     }
 
     /// Parts the slots that moved and meet the cube from the others.
-    fn part_moved(&self, cube: Cube, own: usize, view: &mut View) -> Result<(), Memory> {
+    fn part_moved(&self, cube: Word, own: usize, view: &mut View) -> Result<(), Memory> {
         for (b, (block, moved)) in view.blocks.iter_mut().zip(self.moved.set(0)).enumerate() {
             for place in Block::at(b, *block & *moved) {
-                let slot = self.slot(place);
-                if slot.row.cube.meets(cube) && place != own {
+                if let Some(slot) = self.slot(place)
+                    && meets(&slot.row.word, &cube)
+                    && place != own
+                {
                     view.moved.push((slot.label, place))?;
                 }
             }
@@ -102,12 +105,14 @@ impl Slots {
     }
 
     /// Pushes the rows that meet the cube in order: those that didn't move, with those that did between.
-    fn push_all(&self, cube: Cube, own: usize, here: u64, view: &mut View) -> Result<(), Memory> {
+    fn push_all(&self, cube: Word, own: usize, here: u64, view: &mut View) -> Result<(), Memory> {
         let mut far = 0;
         for b in 0..view.blocks.len() {
             for place in Block::at(b, view.blocks.get(b).copied().unwrap_or(0)) {
-                let slot = self.slot(place);
-                if slot.row.cube.meets(cube) && place != own {
+                if let Some(slot) = self.slot(place)
+                    && meets(&slot.row.word, &cube)
+                    && place != own
+                {
                     far = self.push_moved(far, slot.label, here, view)?;
                     view.push(slot, here)?;
                 }
@@ -133,7 +138,9 @@ impl Slots {
             if label >= below {
                 return Ok(k);
             }
-            view.push(self.slot(place), here)?;
+            if let Some(slot) = self.slot(place) {
+                view.push(slot, here)?;
+            }
         }
         Ok(view.moved.len())
     }
@@ -142,11 +149,11 @@ impl Slots {
     /// free ones.
     pub fn inside(
         &self,
-        cube: Cube,
+        cube: Word,
         decision: u32,
         free: u128,
         view: &mut View,
-        found: &mut Vec<(usize, Row)>,
+        found: &mut Vec<(usize, SearchEntry)>,
     ) -> Result<(), Memory> {
         found.clear();
         view.blocks.clear();
@@ -158,11 +165,13 @@ impl Slots {
                 keep(&mut view.blocks, cells.below(cell));
             }
         }
-        let outer = cube.without(free);
+        let outer = freed(&cube, free);
         for (b, block) in view.blocks.iter().enumerate() {
             for place in Block::at(b, *block) {
-                let slot = self.slot(place);
-                if slot.row.decision == decision && slot.row.cube.inside(outer) {
+                if let Some(slot) = self.slot(place)
+                    && slot.row.decision == decision
+                    && inside(&slot.row.word, &outer)
+                {
                     found.push((slot.id, slot.row))?;
                 }
             }

@@ -1,8 +1,10 @@
 //! Headers that tell how many exceptions a wider cube needs at least.
 
-use entry_index::{Cube, Row, View};
+use entry_index::{SearchEntry, View};
 use razor_limits::Memory;
 use std::alloc::Global;
+use ternary_words::Word;
+use word_cover::{holds, inside, meet, meets};
 
 /// Rows that are asked about for one cube; more where few exceptions are allowed.
 const ASKS: usize = 4;
@@ -49,8 +51,8 @@ impl Against {
     pub fn count(
         &mut self,
         view: &View,
-        entry: &Row,
-        cube: Cube,
+        entry: &SearchEntry,
+        cube: Word,
         most: usize,
     ) -> Result<usize, Memory> {
         let mut count = self.held(cube);
@@ -59,16 +61,16 @@ impl Against {
             if count > most || asks == 0 {
                 break;
             }
-            if row.decision == entry.decision || self.is_asked(place) || !row.cube.meets(cube) {
+            if row.decision == entry.decision || self.is_asked(place) || !meets(&row.word, &cube) {
                 continue;
             }
-            let both = row.cube.meet(cube);
-            if both.inside(entry.cube) {
+            let both = meet(&row.word, &cube);
+            if inside(&both, &entry.word) {
                 continue;
             }
             asks -= 1;
             self.mark(place);
-            let header = both.value | !entry.cube.value & !both.mask & HEADER;
+            let header = both.value | !entry.word.value & !both.mask & HEADER;
             if self.witness(view, entry, Witness { header, place })? {
                 count = count.saturating_add(1);
             }
@@ -77,10 +79,10 @@ impl Against {
     }
 
     /// How many of the headers the cube holds.
-    fn held(&self, cube: Cube) -> usize {
+    fn held(&self, cube: Word) -> usize {
         self.witnesses
             .iter()
-            .filter(|known| cube.holds(known.header))
+            .filter(|known| holds(&cube, known.header))
             .count()
     }
 
@@ -96,7 +98,12 @@ impl Against {
 
     /// Notes a header where it is answered otherwise than by the entry, by a row of which none is known. Whether
     /// it was noted.
-    fn witness(&mut self, view: &View, entry: &Row, asked: Witness) -> Result<bool, Memory> {
+    fn witness(
+        &mut self,
+        view: &View,
+        entry: &SearchEntry,
+        asked: Witness,
+    ) -> Result<bool, Memory> {
         let place = first(&view.rows, asked.header).unwrap_or(asked.place);
         let other = view
             .rows
@@ -115,6 +122,6 @@ impl Against {
 }
 
 /// The place of the first row that holds the header.
-fn first(rows: &[Row], header: u128) -> Option<usize> {
-    rows.iter().position(|row| row.cube.holds(header))
+fn first(rows: &[SearchEntry], header: u128) -> Option<usize> {
+    rows.iter().position(|row| holds(&row.word, header))
 }

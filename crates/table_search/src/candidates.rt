@@ -2,8 +2,9 @@
 //! bits in one field alone, or in both ports.
 
 use crate::search::Search;
-use entry_index::{Cube, Row, Table, field, raised};
+use entry_index::{SearchEntry, SearchTable, field, raised};
 use razor_limits::Memory;
+use ternary_words::Word;
 
 /// The fields in which a wider cube loses bits.
 #[derive(Clone, Copy, PartialEq, Eq, PartialOrd, Ord)]
@@ -52,16 +53,16 @@ impl Freed {
 pub(crate) struct Candidate {
     pub freed: Freed,
     lost: u32,
-    pub cube: Cube,
+    pub cube: Word,
 }
 
 impl Candidate {
     /// The cube that joins the entry with the other row, where both are of one decision and differ in these
     /// fields alone.
-    fn joining(freed: Freed, entry: &Row, other: &Row) -> Option<Candidate> {
-        let (own, word) = (entry.cube, other.cube);
+    fn joining(freed: Freed, entry: &SearchEntry, other: &SearchEntry) -> Option<Candidate> {
+        let (own, word) = (entry.word, other.word);
         let lost = own.mask & (!word.mask | own.value ^ word.value);
-        if lost & !freed.bits() != 0 || other.decision != entry.decision || other.fixed {
+        if lost & !freed.bits() != 0 || other.decision != entry.decision || other.is_fixed {
             return None;
         }
         Some(Candidate {
@@ -76,14 +77,14 @@ impl Search {
     /// The entry's candidates: kind by kind, those that lose fewer bits first.
     pub fn candidates(
         &mut self,
-        table: &Table,
+        table: &SearchTable,
         id: usize,
-        entry: &Row,
+        entry: &SearchEntry,
     ) -> Result<Vec<Candidate>, Memory> {
         let mut candidates = Vec::new(self.alloc);
         for freed in WIDEST {
             table.inside(
-                entry.cube,
+                entry.word,
                 entry.decision,
                 freed.bits(),
                 &mut self.view,
@@ -106,9 +107,9 @@ impl Search {
 fn push_candidates(
     candidates: &mut Vec<Candidate>,
     freed: Freed,
-    entry: &Row,
+    entry: &SearchEntry,
     id: usize,
-    rows: &[(usize, Row)],
+    rows: &[(usize, SearchEntry)],
 ) -> Result<(), Memory> {
     for (other, row) in rows {
         if *other != id

@@ -4,18 +4,20 @@
 //! that answer there now are put in front of the cube, cut to the piece; those of the cube's own decision only in
 //! front of another.
 
-use entry_index::{Cube, Row, View, covered, sharp};
+use entry_index::{SearchEntry, View, covered, sharp};
 use razor_limits::Memory;
 use std::alloc::Global;
+use ternary_words::Word;
+use word_cover::{meet, meets};
 
 /// A cube that is to stand at the place of a view, in place of the entry and of a group of rows.
 #[derive(Clone, Copy)]
 pub(crate) struct Wish<'a> {
     pub view: &'a View,
-    pub cube: Cube,
+    pub cube: Word,
     pub decision: u32,
     /// The cubes of the entry and of its group.
-    pub own: &'a [Cube],
+    pub own: &'a [Word],
     /// The rising places of the group's rows, which count as absent.
     pub gone: &'a [usize],
     /// Exceptions that may be needed.
@@ -26,15 +28,15 @@ pub(crate) struct Wish<'a> {
 #[derive(Clone, Copy)]
 struct Near {
     before: bool,
-    row: Row,
+    row: SearchEntry,
 }
 
 /// The exceptions, in order; none where more than `most` are needed, or too many pieces.
 pub(crate) fn exceptions(
     alloc: Global,
     wish: &Wish,
-    stack: &mut Vec<Cube>,
-) -> Result<Option<Vec<Row>>, Memory> {
+    stack: &mut Vec<Word>,
+) -> Result<Option<Vec<SearchEntry>>, Memory> {
     let Some(pieces) = sharp(alloc, wish.cube, wish.own)? else {
         return Ok(None);
     };
@@ -58,7 +60,7 @@ pub(crate) fn exceptions(
 fn rows_near(alloc: Global, wish: &Wish) -> Result<Vec<Near>, Memory> {
     let mut near = Vec::new(alloc);
     for (place, row) in wish.view.rows.iter().enumerate() {
-        if row.cube.meets(wish.cube) && wish.gone.binary_search(&place).is_err() {
+        if meets(&row.word, &wish.cube) && wish.gone.binary_search(&place).is_err() {
             near.push(Near {
                 before: place < wish.view.at,
                 row: *row,
@@ -71,15 +73,15 @@ fn rows_near(alloc: Global, wish: &Wish) -> Result<Vec<Near>, Memory> {
 /// What answers the headers of one piece.
 #[derive(Drop)]
 struct Reading {
-    piece: Cube,
+    piece: Word,
     decision: u32,
     /// Rows of other decisions that may be needed.
     room: usize,
     others: usize,
     /// The cubes of the rows so far, cut to the piece.
-    above: Vec<Cube>,
+    above: Vec<Word>,
     /// The rows that answer some header, behind the place, cut to the piece.
-    rows: Vec<Row>,
+    rows: Vec<SearchEntry>,
 }
 
 impl Reading {
@@ -95,7 +97,7 @@ impl Reading {
     }
 
     /// Turns to another piece.
-    fn begin(&mut self, piece: Cube, room: usize) {
+    fn begin(&mut self, piece: Word, room: usize) {
         self.piece = piece;
         self.room = room;
         self.others = 0;
@@ -104,12 +106,12 @@ impl Reading {
     }
 
     /// Reads the rows until one holds the whole piece; false where too many are needed.
-    fn read(&mut self, near: &[Near], stack: &mut Vec<Cube>) -> Result<bool, Memory> {
+    fn read(&mut self, near: &[Near], stack: &mut Vec<Word>) -> Result<bool, Memory> {
         for found in near {
-            if !found.row.cube.meets(self.piece) {
+            if !meets(&found.row.word, &self.piece) {
                 continue;
             }
-            let cut = self.piece.meet(found.row.cube);
+            let cut = meet(&self.piece, &found.row.word);
             if !found.before && !covered(cut, &self.above, stack)? {
                 self.push(cut, found.row.decision)?;
                 if self.others > self.room {
@@ -127,24 +129,23 @@ impl Reading {
         Ok(true)
     }
 
-    fn push(&mut self, cube: Cube, decision: u32) -> Result<(), Memory> {
+    fn push(&mut self, cube: Word, decision: u32) -> Result<(), Memory> {
         self.others = self
             .others
             .saturating_add(usize::from(decision != self.decision));
-        self.rows.push(Row {
-            cube,
+        self.rows.push(SearchEntry {
+            word: cube,
             decision,
-            fixed: false,
+            is_fixed: false,
         })?;
         Ok(())
     }
 
     /// Puts the rows behind the others, in order; one of the own decision only where it stands in front of another.
-    fn put_needed(&self, found: &mut Vec<Row>) -> Result<(), Memory> {
+    fn put_needed(&self, found: &mut Vec<SearchEntry>) -> Result<(), Memory> {
         let from = found.len();
         for row in self.rows.iter().rev() {
-            let behind = found.get(from..).unwrap_or(&[]);
-            if row.decision != self.decision || hides(behind, row) {
+            if row.decision != self.decision || hides(found, from, row) {
                 found.push(*row)?;
             }
         }
@@ -155,7 +156,11 @@ impl Reading {
     }
 }
 
-/// Whether the row meets one of another decision among these.
-fn hides(rows: &[Row], row: &Row) -> bool {
-    rows.iter().any(|other| other.decision != row.decision && other.cube.meets(row.cube))
+/// Whether the row meets one of another decision among these from the place on.
+fn hides(rows: &[SearchEntry], from: usize, row: &SearchEntry) -> bool {
+    match rows.get(from..) {
+        Some(behind) => behind.iter().any(|other| other.decision != row.decision
+            && meets(&other.word, &row.word)),
+        None => false,
+    }
 }

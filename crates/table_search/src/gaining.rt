@@ -2,17 +2,19 @@
 
 use crate::judging::Gain;
 use crate::search::Search;
-use entry_index::{Cube, Row, Table, free_for};
+use entry_index::{SearchEntry, SearchTable, free_for};
 use razor_limits::Memory;
+use ternary_words::Word;
+use word_cover::inside;
 
 impl Search {
     /// Gives the entry the cube and puts the exceptions in front of it, where enough others become redundant;
     /// whether the table is shorter then.
     pub fn take_gain(
         &mut self,
-        table: &mut Table,
+        table: &mut SearchTable,
         id: usize,
-        entry: &Row,
+        entry: &SearchEntry,
         gain: &Gain,
     ) -> Result<bool, Memory> {
         table.view(gain.cube, Some(id), &mut self.view)?;
@@ -29,14 +31,14 @@ impl Search {
     }
 
     /// The view's rows as they are then.
-    fn set_rows(&mut self, entry: &Row, gain: &Gain) -> Result<(), Memory> {
+    fn set_rows(&mut self, entry: &SearchEntry, gain: &Gain) -> Result<(), Memory> {
         let rows = self.view.rows.as_slice();
         let (before, behind) = rows.split_at_checked(self.view.at).unwrap_or((rows, &[]));
         self.rows.clear();
         self.rows.extend_from_slice(before)?;
         self.rows.extend_from_slice(&gain.exceptions)?;
-        self.rows.push(Row {
-            cube: gain.cube,
+        self.rows.push(SearchEntry {
+            word: gain.cube,
             ..*entry
         })?;
         self.rows.extend_from_slice(behind)?;
@@ -45,13 +47,13 @@ impl Search {
 
     /// The ids of the rows that are redundant then, from the last to the first; all that may be lie inside of the
     /// cube.
-    fn redundant(&mut self, entry: &Row, gain: &Gain) -> Result<Vec<usize>, Memory> {
+    fn redundant(&mut self, entry: &SearchEntry, gain: &Gain) -> Result<Vec<usize>, Memory> {
         let mut gone = Vec::new(self.alloc);
         let added = gain.exceptions.len().saturating_add(1);
         for (place, row) in self.view.rows.iter().enumerate().rev() {
             let behind = place >= self.view.at;
-            if row.fixed
-                || !row.cube.inside(gain.cube)
+            if row.is_fixed
+                || !inside(&row.word, &gain.cube)
                 || !behind && row.decision != entry.decision
             {
                 continue;
@@ -73,9 +75,9 @@ impl Search {
 
 /// Takes the row at the place out where it is redundant; whether it was.
 fn drop_redundant(
-    rows: &mut Vec<Row>,
+    rows: &mut Vec<SearchEntry>,
     place: usize,
-    scratch: &mut Vec<Cube>,
+    scratch: &mut Vec<Word>,
 ) -> Result<bool, Memory> {
     let Some(row) = rows.get(place).copied() else {
         return Ok(false);
@@ -83,7 +85,7 @@ fn drop_redundant(
     if !free_for(
         rows,
         place,
-        row.cube,
+        row.word,
         row.decision,
         None,
         Some(place),
@@ -97,9 +99,9 @@ fn drop_redundant(
 
 /// Puts the rows right before another, or behind the last.
 pub(crate) fn put_all(
-    table: &mut Table,
+    table: &mut SearchTable,
     before: Option<usize>,
-    rows: &[Row],
+    rows: &[SearchEntry],
 ) -> Result<(), Memory> {
     for row in rows {
         table.put(before, *row)?;
@@ -108,7 +110,7 @@ pub(crate) fn put_all(
 }
 
 /// Takes these rows out.
-fn take_all(table: &mut Table, ids: &[usize]) -> Result<(), Memory> {
+fn take_all(table: &mut SearchTable, ids: &[usize]) -> Result<(), Memory> {
     for id in ids {
         table.take(*id)?;
     }

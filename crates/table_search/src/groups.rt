@@ -1,8 +1,10 @@
 //! The rows that a wider cube stands for.
 
-use entry_index::{Cube, Row, View, free_for, passes};
+use entry_index::{SearchEntry, View, free_for, passes};
 use razor_limits::Memory;
 use std::alloc::Global;
+use ternary_words::Word;
+use word_cover::inside;
 
 /// A row that isn't fixed and lies inside the cubes that are looked at.
 #[derive(Clone, Copy)]
@@ -16,8 +18,8 @@ pub(crate) struct Inner {
 #[derive(Clone, Copy)]
 pub(crate) struct Aim<'a> {
     pub view: &'a View,
-    pub entry: Row,
-    pub cube: Cube,
+    pub entry: SearchEntry,
+    pub cube: Word,
     /// Whether the cube may stand there as it is.
     pub plain: bool,
     /// How many rows it may save at most, and how many it must save.
@@ -39,14 +41,14 @@ pub(crate) struct Tally {
 pub(crate) struct Group {
     pub saved: usize,
     pub places: Vec<usize>,
-    pub cubes: Vec<Cube>,
+    pub cubes: Vec<Word>,
 }
 
 /// Fills the list with the view's rows inside of the cube that aren't fixed.
-pub(crate) fn find_inner(inner: &mut Vec<Inner>, view: &View, around: Cube) -> Result<(), Memory> {
+pub(crate) fn find_inner(inner: &mut Vec<Inner>, view: &View, around: Word) -> Result<(), Memory> {
     inner.clear();
     for (place, row) in view.rows.iter().enumerate() {
-        if !row.fixed && row.cube.inside(around) {
+        if !row.is_fixed && inside(&row.word, &around) {
             inner.push(Inner { place, joins: None })?;
         }
     }
@@ -55,25 +57,30 @@ pub(crate) fn find_inner(inner: &mut Vec<Inner>, view: &View, around: Cube) -> R
 
 impl Inner {
     /// The row, where it lies inside of the cube.
-    fn row<'a>(&self, view: &'a View, cube: Cube) -> Option<&'a Row> {
+    fn row<'a>(&self, view: &'a View, cube: Word) -> Option<&'a SearchEntry> {
         view.rows
             .get(self.place)
-            .filter(|row| row.cube.inside(cube))
+            .filter(|row| inside(&row.word, &cube))
     }
 
     /// Whether the row may stand at the view's place.
-    fn joins(&mut self, view: &View, row: &Row, scratch: &mut Vec<Cube>) -> Result<bool, Memory> {
+    fn joins(
+        &mut self,
+        view: &View,
+        row: &SearchEntry,
+        scratch: &mut Vec<Word>,
+    ) -> Result<bool, Memory> {
         if let Some(joins) = self.joins {
             return Ok(joins);
         }
         let (rows, at) = (&view.rows, view.at);
         let joins = if self.place >= at {
-            free_for(rows, at, row.cube, row.decision, None, None, scratch)?
+            free_for(rows, at, row.word, row.decision, None, None, scratch)?
         } else {
             let below = self.place.saturating_add(1);
             passes(
                 rows,
-                row.cube,
+                row.word,
                 row.decision,
                 below,
                 at,
@@ -87,7 +94,7 @@ impl Inner {
 }
 
 /// What the cube may gain at most.
-pub(crate) fn tally_of(inner: &[Inner], view: &View, entry: &Row, cube: Cube) -> Tally {
+pub(crate) fn tally_of(inner: &[Inner], view: &View, entry: &SearchEntry, cube: Word) -> Tally {
     let mut tally = Tally { same: 0, all: 0 };
     for one in inner {
         let Some(row) = one.row(view, cube) else {
@@ -107,13 +114,13 @@ pub(crate) fn group_of(
     alloc: Global,
     inner: &mut [Inner],
     aim: &Aim,
-    scratch: &mut Vec<Cube>,
+    scratch: &mut Vec<Word>,
 ) -> Result<Option<Group>, Memory> {
     let mut hope = aim.most;
     if hope < aim.least {
         return Ok(None);
     }
-    let mut group = Group::new(alloc, aim.entry.cube)?;
+    let mut group = Group::new(alloc, aim.entry.word)?;
     for one in inner.iter_mut() {
         if !group.take(one, aim, scratch)? {
             hope = hope.saturating_sub(1);
@@ -126,7 +133,7 @@ pub(crate) fn group_of(
 }
 
 impl Group {
-    fn new(alloc: Global, own: Cube) -> Result<Group, Memory> {
+    fn new(alloc: Global, own: Word) -> Result<Group, Memory> {
         let mut cubes = Vec::new(alloc);
         cubes.push(own)?;
         Ok(Group {
@@ -142,7 +149,7 @@ impl Group {
         &mut self,
         one: &mut Inner,
         aim: &Aim,
-        scratch: &mut Vec<Cube>,
+        scratch: &mut Vec<Word>,
     ) -> Result<bool, Memory> {
         let view = aim.view;
         let Some(row) = one.row(view, aim.cube) else {
@@ -153,7 +160,7 @@ impl Group {
         let joins = same && (aim.plain && behind || one.joins(view, row, scratch)?);
         if joins {
             self.places.push(one.place)?;
-            self.cubes.push(row.cube)?;
+            self.cubes.push(row.word)?;
         }
         if joins || behind {
             self.saved = self.saved.saturating_add(1);

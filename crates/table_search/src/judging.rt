@@ -4,16 +4,18 @@ use crate::against::Against;
 use crate::effort::GROUP;
 use crate::exceptions::{Wish, exceptions};
 use crate::groups::{Aim, Group, Inner, Tally, find_inner, group_of, tally_of};
-use entry_index::{Cube, Row, View, free_for};
+use entry_index::{SearchEntry, View, free_for};
 use razor_limits::Memory;
 use std::alloc::Global;
+use ternary_words::Word;
+use word_cover::inside;
 
 /// A wider cube for an entry, the exceptions that then stand in front of it, and how many rows are saved.
 #[derive(Drop)]
 pub(crate) struct Gain {
     pub saved: usize,
-    pub cube: Cube,
-    pub exceptions: Vec<Row>,
+    pub cube: Word,
+    pub exceptions: Vec<SearchEntry>,
 }
 
 impl Gain {
@@ -32,8 +34,8 @@ pub(crate) struct Judging {
     /// The rows inside of the view's cube.
     inner: Vec<Inner>,
     /// Cubes that couldn't stand there as they are.
-    refused: Vec<Cube>,
-    scratch: Vec<Cube>,
+    refused: Vec<Word>,
+    scratch: Vec<Word>,
 }
 
 /// What a cube must gain: whether saving nothing counts too, and how much another is known to save.
@@ -63,7 +65,7 @@ impl Judging {
     }
 
     /// Turns to a view of this cube.
-    pub fn begin(&mut self, view: &View, around: Cube) -> Result<(), Memory> {
+    pub fn begin(&mut self, view: &View, around: Word) -> Result<(), Memory> {
         self.refused.clear();
         find_inner(&mut self.inner, view, around)?;
         self.against.begin(view.rows.len())
@@ -73,8 +75,8 @@ impl Judging {
     pub fn judge(
         &mut self,
         view: &View,
-        entry: &Row,
-        cube: Cube,
+        entry: &SearchEntry,
+        cube: Word,
         hurdle: Hurdle,
     ) -> Result<Option<Gain>, Memory> {
         let tally = tally_of(&self.inner, view, entry, cube);
@@ -103,14 +105,14 @@ impl Judging {
     fn is_plain(
         &mut self,
         view: &View,
-        entry: &Row,
-        cube: Cube,
+        entry: &SearchEntry,
+        cube: Word,
         needed: usize,
     ) -> Result<bool, Memory> {
-        if self.refused.iter().any(|refused| refused.inside(cube)) {
+        if self.refused.iter().any(|refused| inside(refused, &cube)) {
             return Ok(false);
         }
-        let own = Some(entry.cube);
+        let own = Some(entry.word);
         let plain = needed == 0
             && free_for(
                 &view.rows,
@@ -152,7 +154,7 @@ impl Judging {
         aim: &Aim,
         group: &Group,
         most: usize,
-    ) -> Result<Option<Vec<Row>>, Memory> {
+    ) -> Result<Option<Vec<SearchEntry>>, Memory> {
         if aim.plain {
             return Ok(Some(Vec::new(self.alloc)));
         }

@@ -2,12 +2,14 @@
 
 use crate::candidates::WIDEST;
 use crate::search::Search;
-use entry_index::{Cube, Failed, Row, Table};
+use entry_index::{Failed, SearchEntry, SearchTable};
 use razor_limits::Memory;
+use ternary_words::Word;
+use word_cover::{hull, inside};
 
 impl Search {
     /// Whether nothing changed since the entry last failed that may matter to it.
-    pub fn knows(&self, table: &Table, id: usize) -> bool {
+    pub fn knows(&self, table: &SearchTable, id: usize) -> bool {
         let Some(mark) = table.mark(id) else {
             return false;
         };
@@ -16,7 +18,7 @@ impl Search {
             return false;
         };
         let row = table.row(id);
-        if failed.cube != row.cube || failed.most < self.most {
+        if failed.cube != row.word || failed.most < self.most {
             return false;
         }
         let told = table.log_since(failed.since);
@@ -26,7 +28,7 @@ impl Search {
     }
 
     /// Notes that the entry with this cube failed.
-    pub fn note_failure(&self, table: &mut Table, id: usize, cube: Cube) {
+    pub fn note_failure(&self, table: &mut SearchTable, id: usize, cube: Word) {
         let since = table.log_len();
         let turn = usize::from(self.flat);
         let most = self.most;
@@ -38,7 +40,7 @@ impl Search {
     }
 
     /// Notes the cubes that were looked at for the entry.
-    pub fn note_tried(&self, table: &mut Table, id: usize) -> Result<(), Memory> {
+    pub fn note_tried(&self, table: &mut SearchTable, id: usize) -> Result<(), Memory> {
         let turn = usize::from(self.flat);
         if let Some(mark) = table.mark_mut(id)
             && let Some(tried) = mark.tried.get_mut(turn)
@@ -52,13 +54,13 @@ impl Search {
 
 /// Whether a cube that the log told matters to a row for which these cubes were tried: it lies in one of them, or
 /// is one to join with.
-fn matters(cube: Cube, decision: u32, row: &Row, tried: &[Cube]) -> bool {
-    tried.iter().any(|wide| cube.inside(*wide))
-        || decision == row.decision && can_join(row.cube, cube)
+fn matters(cube: Word, decision: u32, row: &SearchEntry, tried: &[Word]) -> bool {
+    tried.iter().any(|wide| inside(&cube, wide))
+        || decision == row.decision && can_join(row.word, cube)
 }
 
 /// Whether the cube that joins both loses bits of one kind alone.
-fn can_join(own: Cube, other: Cube) -> bool {
-    let lost = own.mask & !own.hull(other).mask;
+fn can_join(own: Word, other: Word) -> bool {
+    let lost = own.mask & !hull(&own, &other).mask;
     WIDEST.iter().any(|freed| lost & !freed.bits() == 0)
 }

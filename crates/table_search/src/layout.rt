@@ -7,10 +7,11 @@
 use crate::rows::entries_of;
 use crate::shapes::Shape;
 use crate::strips::{Cost, Strip, put_cut};
-use entry_index::{Cube, Row};
+use entry_index::SearchEntry;
 use razor_limits::Memory;
 use std::alloc::Global;
-use ternary_words::Entry;
+use ternary_words::{Entry, Word};
+use word_cover::{inside, meet, meets};
 
 /// Entries of a rule above which it gets wider rows.
 pub const WIDE: usize = 300;
@@ -21,10 +22,10 @@ pub struct Layout {
     alloc: Global,
     strips: Vec<Strip>,
     /// The rows behind the strips, the last one first.
-    rows: Vec<Row>,
+    rows: Vec<SearchEntry>,
     /// What strips are known to cost.
     costs: Vec<Cost>,
-    scratch: Vec<Cube>,
+    scratch: Vec<Word>,
 }
 
 impl Layout {
@@ -105,7 +106,7 @@ impl Layout {
     }
 
     /// Puts a rule of this shape in front of all others, in the form that costs least; `exact` are its entries' rows.
-    fn put_wide(&mut self, shape: &Shape, exact: &[Row]) -> Result<(), Memory> {
+    fn put_wide(&mut self, shape: &Shape, exact: &[SearchEntry]) -> Result<(), Memory> {
         let form = shape.form(&self.costs);
         let rows = shape.rows(form)?;
         let own = shape.strips(form)?;
@@ -113,8 +114,8 @@ impl Layout {
         self.raise(&rows, exact, &own)?;
         for strip in &own {
             for hull in &shape.hulls()? {
-                if hull.meets(*strip) {
-                    self.close(*strip, hull.meet(*strip))?;
+                if meets(hull, strip) {
+                    self.close(*strip, meet(hull, strip))?;
                 }
             }
         }
@@ -122,7 +123,7 @@ impl Layout {
     }
 
     /// Enters a rule that holds these strips too much.
-    fn enter(&mut self, own: &[Cube]) -> Result<(), Memory> {
+    fn enter(&mut self, own: &[Word]) -> Result<(), Memory> {
         for cube in own {
             if self.place(*cube).is_none() {
                 let apart = self.cubes()?;
@@ -140,7 +141,7 @@ impl Layout {
     }
 
     /// The cubes of the strips that a rule was entered for.
-    fn cubes(&self) -> Result<Vec<Cube>, Memory> {
+    fn cubes(&self) -> Result<Vec<Word>, Memory> {
         let mut cubes = Vec::new(self.alloc);
         for strip in &self.strips {
             if strip.users > 0 {
@@ -152,7 +153,12 @@ impl Layout {
 
     /// Has the rows of a rule with these strips answer in all other strips too; the exact rows where the others would answer
     /// too early there.
-    fn raise(&mut self, rows: &[Row], exact: &[Row], own: &[Cube]) -> Result<(), Memory> {
+    fn raise(
+        &mut self,
+        rows: &[SearchEntry],
+        exact: &[SearchEntry],
+        own: &[Word],
+    ) -> Result<(), Memory> {
         for k in 0..self.strips.len() {
             let comes_last = own.iter().all(|other| self.stands_before(*other, k));
             let raised = if comes_last { rows } else { exact };
@@ -168,11 +174,11 @@ impl Layout {
     }
 
     /// Whether the rows of a strip stand before those of the one at the place, or have nothing to do with them.
-    fn stands_before(&self, cube: Cube, k: usize) -> bool {
+    fn stands_before(&self, cube: Word, k: usize) -> bool {
         let (Some(place), Some(strip)) = (self.place(cube), self.strips.get(k)) else {
             return true;
         };
-        !strip.cube.meets(cube) || self.rank(place) < self.rank(k)
+        !meets(&strip.cube, &cube) || self.rank(place) < self.rank(k)
     }
 
     /// The rank of the strip at the place: those with fewer values stand first, else the older ones.
@@ -185,12 +191,12 @@ impl Layout {
     }
 
     /// The place of the strip.
-    fn place(&self, cube: Cube) -> Option<usize> {
+    fn place(&self, cube: Word) -> Option<usize> {
         self.strips.iter().position(|strip| strip.cube == cube)
     }
 
     /// Has the strip answer all of the cube, which lies in it, as the rows so far do.
-    fn close(&mut self, strip: Cube, cube: Cube) -> Result<(), Memory> {
+    fn close(&mut self, strip: Word, cube: Word) -> Result<(), Memory> {
         let Some(place) = self.place(strip) else {
             return Ok(());
         };
@@ -202,7 +208,7 @@ impl Layout {
     }
 
     /// The rows that answer in the cube behind those of the strip at the place, cut to it.
-    fn answering(&self, place: usize, cube: Cube) -> Result<Vec<Row>, Memory> {
+    fn answering(&self, place: usize, cube: Word) -> Result<Vec<SearchEntry>, Memory> {
         let mut rows = Vec::new(self.alloc);
         if let Some(strip) = self.strips.get(place) {
             for other in &self.strips {
@@ -213,14 +219,14 @@ impl Layout {
         }
         for row in self.rows.iter().rev() {
             put_cut(&mut rows, row, cube)?;
-            if cube.inside(row.cube) {
+            if inside(&cube, &row.word) {
                 break;
             }
         }
         Ok(rows)
     }
 
-    fn put_rows(&mut self, rows: &[Row]) -> Result<(), Memory> {
+    fn put_rows(&mut self, rows: &[SearchEntry]) -> Result<(), Memory> {
         for row in rows.iter().rev() {
             self.rows.push(*row)?;
         }
@@ -229,7 +235,7 @@ impl Layout {
 }
 
 /// Adds those of the others that aren't there.
-fn add_new(cubes: &mut Vec<Cube>, others: &[Cube]) -> Result<(), Memory> {
+fn add_new(cubes: &mut Vec<Word>, others: &[Word]) -> Result<(), Memory> {
     for other in others {
         if !cubes.contains(other) {
             cubes.push(*other)?;
@@ -239,10 +245,10 @@ fn add_new(cubes: &mut Vec<Cube>, others: &[Cube]) -> Result<(), Memory> {
 }
 
 /// The row of an entry.
-fn row_of(entry: &Entry) -> Row {
-    Row {
-        cube: Cube::of(&entry.word),
+fn row_of(entry: &Entry) -> SearchEntry {
+    SearchEntry {
+        word: entry.word,
         decision: entry.decision,
-        fixed: false,
+        is_fixed: false,
     }
 }

@@ -5,25 +5,26 @@ use crate::placing::{Placed, entries_placed, spread};
 use crate::room::Room;
 use crate::rows::push_rows;
 use crate::search::Search;
-use entry_index::{Cube, Row, Table};
+use entry_index::{SearchEntry, SearchTable};
 use razor_limits::Memory;
 use std::alloc::Global;
-use ternary_words::Entry;
+use ternary_words::{Entry, Word};
+use word_cover::meets;
 
 /// A table of old and of new rows.
 #[derive(Drop)]
 pub(crate) struct Mending {
     alloc: Global,
     search: Search,
-    table: Table,
+    table: SearchTable,
     /// The rows of the old table; the first of them has this id, and the others follow.
-    old: Vec<Row>,
+    old: Vec<SearchEntry>,
     first: usize,
 }
 
 impl Mending {
     /// Begins with new rows in front of the old entries.
-    pub fn new(alloc: Global, front: Vec<Row>, old: &[Entry]) -> Result<Mending, Memory> {
+    pub fn new(alloc: Global, front: Vec<SearchEntry>, old: &[Entry]) -> Result<Mending, Memory> {
         let mut search = Search::new(alloc);
         search.most = REPAIR_REACH;
         let mut old_rows = Vec::with_capacity(alloc, old.len())?;
@@ -34,7 +35,7 @@ impl Mending {
         Ok(Mending {
             alloc,
             search,
-            table: Table::new(alloc, &rows)?,
+            table: SearchTable::new(alloc, &rows)?,
             old: old_rows,
             first,
         })
@@ -43,7 +44,7 @@ impl Mending {
     /// Makes the table shorter, where only rows that meet the cubes can be wrong or redundant.
     ///
     /// New rows go down first: in front of all others they hide old ones, of which new ones that say the same would stay.
-    pub fn settle(&mut self, cubes: &[Cube]) -> Result<(), Memory> {
+    pub fn settle(&mut self, cubes: &[Word]) -> Result<(), Memory> {
         self.trim_new()?;
         self.sink(usize::MAX)?;
         self.trim_new()?;
@@ -91,13 +92,13 @@ impl Mending {
     fn home(&self, id: usize) -> Option<usize> {
         match self.old_place(id) {
             Some(place) => Some(place),
-            None => self.place_of(self.table.row(id).cube),
+            None => self.place_of(self.table.row(id).word),
         }
     }
 
     /// The place of the old row with this cube.
-    fn place_of(&self, cube: Cube) -> Option<usize> {
-        self.old.iter().position(|row| row.cube == cube)
+    fn place_of(&self, cube: Word) -> Option<usize> {
+        self.old.iter().position(|row| row.word == cube)
     }
 
     /// The ids of the new rows, from the last to the first.
@@ -117,10 +118,10 @@ impl Mending {
     }
 
     /// Takes out old rows that meet the cubes and are redundant.
-    fn trim_old(&mut self, cubes: &[Cube]) -> Result<(), Memory> {
+    fn trim_old(&mut self, cubes: &[Word]) -> Result<(), Memory> {
         for id in self.table.ids(self.alloc)?.iter().rev() {
-            let cube = self.table.row(*id).cube;
-            if !self.is_new(*id) && cubes.iter().any(|other| other.meets(cube)) {
+            let cube = self.table.row(*id).word;
+            if !self.is_new(*id) && cubes.iter().any(|other| meets(other, &cube)) {
                 self.trim(*id)?;
             }
         }
@@ -148,8 +149,8 @@ impl Mending {
     fn trim_changed(&mut self, since: usize) -> Result<(), Memory> {
         let told = Vec::from_slice(self.alloc, self.table.log_since(since))?;
         for id in self.table.ids(self.alloc)?.iter().rev() {
-            let cube = self.table.row(*id).cube;
-            if told.iter().any(|one| one.0.meets(cube)) {
+            let cube = self.table.row(*id).word;
+            if told.iter().any(|one| meets(&one.0, &cube)) {
                 self.trim(*id)?;
             }
         }

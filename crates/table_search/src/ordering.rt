@@ -7,6 +7,7 @@ use crate::rows::row_of;
 use razor_limits::Memory;
 use std::alloc::Global;
 use ternary_words::Entry;
+use word_cover::meets;
 
 /// Entries of a table that is put in order at most: each is compared with all behind it.
 const MOST_ORDERED: usize = 16_384;
@@ -23,7 +24,7 @@ impl Ranked {
     /// Whether both can't change places: some header matches both, and they decide otherwise.
     fn meets(&self, other: &Ranked) -> bool {
         let (a, b) = (self.entry, other.entry);
-        a.decision != b.decision && (a.word.value ^ b.word.value) & a.word.mask & b.word.mask == 0
+        a.decision != b.decision && meets(&a.word, &b.word)
     }
 }
 

@@ -3,15 +3,16 @@
 use crate::room::Room;
 use crate::rows::entry_of;
 use crate::spots::Spot;
-use entry_index::Row;
+use entry_index::SearchEntry;
 use razor_limits::Memory;
 use std::alloc::Global;
 use ternary_words::Entry;
+use word_cover::meets;
 
 /// A row of a repaired table.
 #[derive(Clone, Copy)]
 pub(crate) struct Placed {
-    pub row: Row,
+    pub row: SearchEntry,
     /// Its place in the old table; of a new row that of the old one with its word, if there was one.
     pub home: Option<usize>,
     /// Whether it stands there.
@@ -74,7 +75,7 @@ pub(crate) fn sink(rows: &mut Vec<Placed>) -> Result<(), Memory> {
 }
 
 /// How many of the rows behind a place the row may pass.
-fn free_below(row: &Row, rows: &[Placed], place: usize) -> usize {
+fn free_below(row: &SearchEntry, rows: &[Placed], place: usize) -> usize {
     rows.get(place.saturating_add(1)..)
         .unwrap_or(&[])
         .iter()
@@ -83,7 +84,7 @@ fn free_below(row: &Row, rows: &[Placed], place: usize) -> usize {
 }
 
 /// How many of the rows above it the row may pass: those behind the last one that meets it and decides otherwise.
-fn free_above(row: &Row, above: &[Placed]) -> usize {
+fn free_above(row: &SearchEntry, above: &[Placed]) -> usize {
     above
         .iter()
         .rev()
@@ -124,8 +125,8 @@ impl Placed {
     }
 
     /// Whether the other row may pass it: they decide alike, or no header matches both.
-    fn lets_pass(&self, other: &Row) -> bool {
-        self.row.decision == other.decision || !self.row.cube.meets(other.cube)
+    fn lets_pass(&self, other: &SearchEntry) -> bool {
+        self.row.decision == other.decision || !meets(&self.row.word, &other.word)
     }
 
     /// The place of the row in the old table, if it stands there.

@@ -4,7 +4,6 @@ use crate::mending::Mending;
 use crate::room::Room;
 use crate::rows::push_rows;
 use crate::saying::said;
-use entry_index::Cube;
 use razor_limits::Memory;
 use std::alloc::Global;
 use ternary_words::{Entry, Word};
@@ -32,11 +31,11 @@ pub fn repaired(
 }
 
 /// The words' cubes, the widest first.
-fn cubes_of(alloc: Global, words: &[Word]) -> Result<Vec<Cube>, Memory> {
+fn cubes_of(alloc: Global, words: &[Word]) -> Result<Vec<Word>, Memory> {
     let mut cubes = Vec::with_capacity(alloc, words.len())?;
     for word in words {
-        cubes.push(Cube::of(word))?;
+        cubes.push(*word)?;
     }
-    cubes.sort_unstable_by_key(|cube: &Cube| (cube.mask.count_ones(), cube.mask, cube.value));
+    cubes.sort_unstable_by_key(|cube: &Word| (cube.mask.count_ones(), cube.mask, cube.value));
     Ok(cubes)
 }

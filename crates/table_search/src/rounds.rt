@@ -4,10 +4,11 @@ use crate::draws::Draws;
 use crate::effort::{EARLY_REACH, FIRST_LAST, FIRST_REACH, LEAST_SAVED, NEIGHBOURS, ROUNDS};
 use crate::rows::{entries_of, push_rows};
 use crate::search::Search;
-use entry_index::Table;
+use entry_index::SearchTable;
 use razor_limits::Memory;
 use std::alloc::Global;
 use ternary_words::Entry;
+use word_cover::meets;
 
 /// The search over one table, round by round. In every second round changes that gain nothing are made too.
 ///
@@ -15,7 +16,7 @@ use ternary_words::Entry;
 #[derive(Drop)]
 pub struct Shortening {
     alloc: Global,
-    table: Table,
+    table: SearchTable,
     search: Search,
     draws: Draws,
     round: usize,
@@ -30,7 +31,7 @@ impl Shortening {
     pub fn new(alloc: Global, entries: &[Entry]) -> Result<Shortening, Memory> {
         let mut rows = Vec::with_capacity(alloc, entries.len())?;
         push_rows(&mut rows, entries, false)?;
-        let mut table = Table::new(alloc, &rows)?;
+        let mut table = SearchTable::new(alloc, &rows)?;
         table.tight(true)?;
         Ok(Shortening {
             alloc,
@@ -103,13 +104,13 @@ impl Shortening {
 
     /// Whether the log told a cube that meets the entry's since it was narrowed.
     fn has_news(&self, id: usize) -> bool {
-        let cube = self.table.row(id).cube;
+        let cube = self.table.row(id).word;
         match self.table.mark(id).and_then(|mark| mark.narrowed) {
             Some(since) => self
                 .table
                 .log_since(since)
                 .iter()
-                .any(|told| told.0.meets(cube)),
+                .any(|told| meets(&told.0, &cube)),
             None => true,
         }
     }

@@ -1,15 +1,19 @@
 //! Rows of entries, and entries of rows.
 
-use entry_index::{Cube, Row};
+use entry_index::SearchEntry;
 use razor_limits::Memory;
 use std::alloc::Global;
 use ternary_words::Entry;
 
 /// Puts rows of these entries behind the others.
-pub(crate) fn push_rows(rows: &mut Vec<Row>, entries: &[Entry], fixed: bool) -> Result<(), Memory> {
+pub(crate) fn push_rows(
+    rows: &mut Vec<SearchEntry>,
+    entries: &[Entry],
+    is_fixed: bool,
+) -> Result<(), Memory> {
     for entry in entries {
-        rows.push(Row {
-            fixed,
+        rows.push(SearchEntry {
+            is_fixed,
             ..row_of(entry)
         })?;
     }
@@ -17,24 +21,24 @@ pub(crate) fn push_rows(rows: &mut Vec<Row>, entries: &[Entry], fixed: bool) -> 
 }
 
 /// The row of an entry.
-pub(crate) fn row_of(entry: &Entry) -> Row {
-    Row {
-        cube: Cube::of(&entry.word),
+pub(crate) fn row_of(entry: &Entry) -> SearchEntry {
+    SearchEntry {
+        word: entry.word,
         decision: entry.decision,
-        fixed: false,
+        is_fixed: false,
     }
 }
 
 /// The entry of a row.
-pub(crate) fn entry_of(row: &Row) -> Entry {
+pub(crate) fn entry_of(row: &SearchEntry) -> Entry {
     Entry {
-        word: row.cube.word(),
+        word: row.word,
         decision: row.decision,
     }
 }
 
 /// The entries of the rows.
-pub(crate) fn entries_of(alloc: Global, rows: &[Row]) -> Result<Vec<Entry>, Memory> {
+pub(crate) fn entries_of(alloc: Global, rows: &[SearchEntry]) -> Result<Vec<Entry>, Memory> {
     let mut entries = Vec::with_capacity(alloc, rows.len())?;
     for row in rows {
         entries.push(entry_of(row))?;

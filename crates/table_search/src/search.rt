@@ -2,9 +2,10 @@
 
 use crate::effort::FIRST_REACH;
 use crate::judging::Judging;
-use entry_index::{Cube, Row, View};
+use entry_index::{SearchEntry, View};
 use std::alloc::Global;
 use std::collections::HashSet;
+use ternary_words::Word;
 
 /// What a search keeps while it goes over tables.
 #[derive(Drop)]
@@ -19,12 +20,12 @@ pub(crate) struct Search {
     pub view: View,
     pub judging: Judging,
     /// The rows that were found inside of a cube last.
-    pub inside: Vec<(usize, Row)>,
+    pub inside: Vec<(usize, SearchEntry)>,
     /// The cubes that were looked at for an entry.
-    pub tried: Vec<Cube>,
+    pub tried: Vec<Word>,
     /// The rows of a view as they would be.
-    pub rows: Vec<Row>,
-    pub scratch: Vec<Cube>,
+    pub rows: Vec<SearchEntry>,
+    pub scratch: Vec<Word>,
 }
 
 impl Search {

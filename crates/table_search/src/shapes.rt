@@ -2,16 +2,17 @@
 
 use crate::sides::{Side, parts};
 use crate::strips::Cost;
-use entry_index::{Cube, Row, field};
+use entry_index::{SearchEntry, field};
 use razor_limits::Memory;
 use std::alloc::Global;
-use ternary_words::Entry;
+use ternary_words::{Entry, Word};
+use word_cover::meet;
 
 /// A rule by the prefixes of its two ports, and what its entries have besides.
 #[derive(Drop)]
 pub(crate) struct Shape {
     alloc: Global,
-    bases: Vec<Cube>,
+    bases: Vec<Word>,
     source: Side,
     destination: Side,
     decision: u32,
@@ -29,7 +30,7 @@ impl Shape {
     pub fn of(alloc: Global, entries: &[Entry]) -> Result<Shape, Memory> {
         let mut cubes = Vec::with_capacity(alloc, entries.len())?;
         for entry in entries {
-            cubes.push(Cube::of(&entry.word))?;
+            cubes.push(entry.word)?;
         }
         Ok(Shape {
             alloc,
@@ -58,17 +59,17 @@ impl Shape {
     }
 
     /// The rows of the rule in this form.
-    pub fn rows(&self, form: Form) -> Result<Vec<Row>, Memory> {
+    pub fn rows(&self, form: Form) -> Result<Vec<SearchEntry>, Memory> {
         let sources = self.source.cubes(self.alloc, form.source)?;
         let destinations = self.destination.cubes(self.alloc, form.destination)?;
         let mut rows = Vec::new(self.alloc);
         for base in &self.bases {
             for source in &sources {
                 for destination in &destinations {
-                    rows.push(Row {
-                        cube: base.meet(*source).meet(*destination),
+                    rows.push(SearchEntry {
+                        word: meet(&meet(base, source), destination),
                         decision: self.decision,
-                        fixed: false,
+                        is_fixed: false,
                     })?;
                 }
             }
@@ -77,7 +78,7 @@ impl Shape {
     }
 
     /// The strips that the rows in this form hold too much.
-    pub fn strips(&self, form: Form) -> Result<Vec<Cube>, Memory> {
+    pub fn strips(&self, form: Form) -> Result<Vec<Word>, Memory> {
         let mut strips = Vec::new(self.alloc);
         if form.source {
             push_outside(&mut strips, &self.source)?;
@@ -89,17 +90,17 @@ impl Shape {
     }
 
     /// What the rule holds for any port between its least and its greatest.
-    pub fn hulls(&self) -> Result<Vec<Cube>, Memory> {
+    pub fn hulls(&self) -> Result<Vec<Word>, Memory> {
         let mut hulls = Vec::new(self.alloc);
         for base in &self.bases {
-            hulls.push(base.meet(self.source.hull).meet(self.destination.hull))?;
+            hulls.push(meet(&meet(base, &self.source.hull), &self.destination.hull))?;
         }
         Ok(hulls)
     }
 }
 
 /// Puts what the side's widest prefix holds besides behind the others.
-fn push_outside(strips: &mut Vec<Cube>, side: &Side) -> Result<(), Memory> {
+fn push_outside(strips: &mut Vec<Word>, side: &Side) -> Result<(), Memory> {
     if let Some(outside) = &side.outside {
         strips.extend_from_slice(outside)?;
     }

@@ -1,22 +1,24 @@
 //! The ports of a rule, by the prefixes of its entries.
 
-use entry_index::{Cube, field, raised, sharp};
+use entry_index::{field, raised, sharp};
 use razor_limits::Memory;
 use std::alloc::Global;
+use ternary_words::Word;
+use word_cover::{all_headers, freed, hull};
 
 /// The prefixes that a rule has in one port.
 #[derive(Drop)]
 pub(crate) struct Side {
-    pub prefixes: Vec<Cube>,
+    pub prefixes: Vec<Word>,
     /// The least prefix that holds them all.
-    pub hull: Cube,
+    pub hull: Word,
     /// What that holds besides, in prefixes; none where these are too many.
-    pub outside: Option<Vec<Cube>>,
+    pub outside: Option<Vec<Word>>,
 }
 
 impl Side {
     /// What these cubes have in the field with this number.
-    pub fn of(alloc: Global, cubes: &[Cube], f: usize) -> Result<Side, Memory> {
+    pub fn of(alloc: Global, cubes: &[Word], f: usize) -> Result<Side, Memory> {
         let prefixes = parts(alloc, cubes, field(f))?;
         let hull = hull_of(&prefixes);
         Ok(Side {
@@ -27,7 +29,7 @@ impl Side {
     }
 
     /// Its prefixes, or the one that holds them all.
-    pub fn cubes(&self, alloc: Global, is_wide: bool) -> Result<Vec<Cube>, Memory> {
+    pub fn cubes(&self, alloc: Global, is_wide: bool) -> Result<Vec<Word>, Memory> {
         let mut cubes = Vec::new(alloc);
         if is_wide {
             cubes.push(self.hull)?;
@@ -39,21 +41,23 @@ impl Side {
 }
 
 /// The cubes, each once, with these bits alone.
-pub(crate) fn parts(alloc: Global, cubes: &[Cube], bits: u128) -> Result<Vec<Cube>, Memory> {
+pub(crate) fn parts(alloc: Global, cubes: &[Word], bits: u128) -> Result<Vec<Word>, Memory> {
     let mut parts = Vec::new(alloc);
     for cube in cubes {
-        parts.push(cube.without(!bits))?;
+        parts.push(freed(cube, !bits))?;
     }
-    parts.sort_unstable_by_key(|cube: &Cube| (cube.mask, cube.value));
+    parts.sort_unstable_by_key(|cube: &Word| (cube.mask, cube.value));
     parts.dedup();
     Ok(parts)
 }
 
 /// The least prefix that holds these prefixes of one field; the whole field where there are none.
-fn hull_of(prefixes: &[Cube]) -> Cube {
+fn hull_of(prefixes: &[Word]) -> Word {
     let Some(first) = prefixes.first() else {
-        return Cube { value: 0, mask: 0 };
+        return all_headers();
     };
-    let hull = prefixes.iter().fold(*first, |hull, one| hull.hull(*one));
+    let hull = prefixes
+        .iter()
+        .fold(*first, |around, one| hull(&around, one));
     raised(hull, first.mask & !hull.mask)
 }

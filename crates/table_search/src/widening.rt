@@ -4,13 +4,14 @@ use crate::candidates::Candidate;
 use crate::effort::TRIES;
 use crate::judging::{Gain, Hurdle};
 use crate::search::Search;
-use entry_index::{Row, Table};
+use entry_index::{SearchEntry, SearchTable};
 use razor_limits::Memory;
+use word_cover::hull;
 
 impl Search {
     /// Widens these entries from the last to the first as often as that makes the table shorter, then takes out
     /// what is redundant.
-    pub fn pass(&mut self, table: &mut Table, ids: &[usize]) -> Result<(), Memory> {
+    pub fn pass(&mut self, table: &mut SearchTable, ids: &[usize]) -> Result<(), Memory> {
         for id in ids.iter().rev() {
             self.widen_often(table, *id)?;
         }
@@ -18,7 +19,7 @@ impl Search {
     }
 
     /// Widens the entry until the table doesn't get shorter any more.
-    pub fn widen_often(&mut self, table: &mut Table, id: usize) -> Result<(), Memory> {
+    pub fn widen_often(&mut self, table: &mut SearchTable, id: usize) -> Result<(), Memory> {
         for _ in 0..table.len() {
             if !table.stands(id) || !self.widen(table, id)? {
                 break;
@@ -28,7 +29,7 @@ impl Search {
     }
 
     /// One try to widen the entry so that the table gets shorter; whether it did.
-    fn widen(&mut self, table: &mut Table, id: usize) -> Result<bool, Memory> {
+    fn widen(&mut self, table: &mut SearchTable, id: usize) -> Result<bool, Memory> {
         if table.is_fixed(id) || self.knows(table, id) {
             return Ok(false);
         }
@@ -41,13 +42,13 @@ impl Search {
             None => false,
         };
         if !shorter {
-            self.note_failure(table, id, entry.cube);
+            self.note_failure(table, id, entry.word);
         }
         Ok(shorter)
     }
 
     /// The best that is found for the entry, once it went down as far as it can.
-    fn best_gain(&mut self, table: &mut Table, id: usize) -> Result<Option<Gain>, Memory> {
+    fn best_gain(&mut self, table: &mut SearchTable, id: usize) -> Result<Option<Gain>, Memory> {
         if !table.sink(id, self.most)? {
             return Ok(None);
         }
@@ -64,15 +65,15 @@ impl Search {
     /// Judges candidates of one kind.
     fn judge_each(
         &mut self,
-        table: &Table,
+        table: &SearchTable,
         id: usize,
-        entry: &Row,
+        entry: &SearchEntry,
         list: &[Candidate],
         best: &mut Option<Gain>,
     ) -> Result<(), Memory> {
         let around = list
             .iter()
-            .fold(entry.cube, |around, one| around.hull(one.cube));
+            .fold(entry.word, |around, one| hull(&around, &one.cube));
         if !table.small(around, Some(id), self.most, &mut self.view)? {
             return Ok(());
         }

@@ -8,16 +8,18 @@ use crate::gaining::put_all;
 use crate::hashes::hash_of;
 use crate::lifting::top_of;
 use crate::search::Search;
-use entry_index::{Cube, Row, Table, field};
+use entry_index::{SearchEntry, SearchTable, field};
 use razor_limits::Memory;
 use std::alloc::Global;
 use std::mem;
+use ternary_words::Word;
+use word_cover::{fixed, freed, inside};
 
 /// The rows of a window, their ids, and how many of them are its own.
 #[derive(Drop)]
 struct Window {
-    around: Cube,
-    rows: Vec<Row>,
+    around: Word,
+    rows: Vec<SearchEntry>,
     ids: Vec<usize>,
     own: usize,
 }
@@ -26,18 +28,18 @@ struct Window {
 #[derive(Clone, Copy)]
 struct Lift {
     added: usize,
-    cube: Cube,
+    cube: Word,
 }
 
 impl Search {
     /// Tries all windows, the smallest first.
-    pub fn windows(&mut self, table: &mut Table) -> Result<(), Memory> {
+    pub fn windows(&mut self, table: &mut SearchTable) -> Result<(), Memory> {
         let ports = field(2) | field(3);
         let mut cubes = Vec::new(self.alloc);
         for row in &table.rows(self.alloc)? {
-            cubes.push(row.cube.without(ports))?;
+            cubes.push(freed(&row.word, ports))?;
         }
-        cubes.sort_unstable_by_key(|cube: &Cube| (cube.mask.count_zeros(), cube.mask, cube.value));
+        cubes.sort_unstable_by_key(|cube: &Word| (cube.mask.count_zeros(), cube.mask, cube.value));
         cubes.dedup();
         for around in &cubes {
             self.window(table, *around)?;
@@ -46,7 +48,7 @@ impl Search {
     }
 
     /// Tries a window, unless it was tried in vain before.
-    fn window(&mut self, table: &mut Table, around: Cube) -> Result<(), Memory> {
+    fn window(&mut self, table: &mut SearchTable, around: Word) -> Result<(), Memory> {
         let Some(window) = self.look(table, around)? else {
             return Ok(());
         };
@@ -64,7 +66,7 @@ impl Search {
     }
 
     /// The window; none where it has too many rows or too few of its own.
-    fn look(&mut self, table: &Table, around: Cube) -> Result<Option<Window>, Memory> {
+    fn look(&mut self, table: &SearchTable, around: Word) -> Result<Option<Window>, Memory> {
         table.view(around, None, &mut self.view)?;
         if self.view.rows.len() > WINDOW {
             return Ok(None);
@@ -76,18 +78,18 @@ impl Search {
             own: 0,
         };
         for row in &self.view.rows {
-            let fixed = !row.cube.inside(around);
-            window.rows.push(Row { fixed, ..*row })?;
-            window.own = window.own.saturating_add(usize::from(!fixed));
+            let is_fixed = !inside(&row.word, &around);
+            window.rows.push(SearchEntry { is_fixed, ..*row })?;
+            window.own = window.own.saturating_add(usize::from(!is_fixed));
         }
         Ok(Some(window).filter(|window| window.own >= FEWEST))
     }
 
     /// The window's rows after the lifts that made them fewer; none where no lift did.
-    fn arranged(&mut self, window: &Window) -> Result<Option<Vec<Row>>, Memory> {
+    fn arranged(&mut self, window: &Window) -> Result<Option<Vec<SearchEntry>>, Memory> {
         let lifts = lifts(self.alloc, window)?;
         let flat = mem::replace(&mut self.flat, false);
-        let mut found: Option<Vec<Row>> = None;
+        let mut found: Option<Vec<SearchEntry>> = None;
         for lift in &lifts {
             let rows = found.as_ref().unwrap_or(&window.rows);
             let table = self.lifted(rows, lift.cube)?;
@@ -119,45 +121,42 @@ fn lifts(alloc: Global, window: &Window) -> Result<Vec<Lift>, Memory> {
 }
 
 /// How many rows that aren't fixed lie inside of the cube.
-fn own_inside(rows: &[Row], cube: Cube) -> usize {
+fn own_inside(rows: &[SearchEntry], cube: Word) -> usize {
     rows.iter()
-        .filter(|row| !row.fixed && row.cube.inside(cube))
+        .filter(|row| !row.is_fixed && inside(&row.word, &cube))
         .count()
 }
 
 /// The window's parts in which one port lies in the sibling of a prefix of an own row, the widest first.
-fn siblings(alloc: Global, window: &Window) -> Result<Vec<Cube>, Memory> {
+fn siblings(alloc: Global, window: &Window) -> Result<Vec<Word>, Memory> {
     let mut cubes = Vec::new(alloc);
     for row in &window.rows {
-        if !row.fixed {
-            push_siblings(&mut cubes, window.around, row.cube)?;
+        if !row.is_fixed {
+            push_siblings(&mut cubes, window.around, row.word)?;
         }
     }
-    cubes.sort_unstable_by_key(|cube: &Cube| (cube.mask.count_ones(), cube.mask, cube.value));
+    cubes.sort_unstable_by_key(|cube: &Word| (cube.mask.count_ones(), cube.mask, cube.value));
     cubes.dedup();
     Ok(cubes)
 }
 
 /// Puts the siblings of the cube's prefixes in both ports, cut to the window, behind the others.
-fn push_siblings(cubes: &mut Vec<Cube>, around: Cube, own: Cube) -> Result<(), Memory> {
+fn push_siblings(cubes: &mut Vec<Word>, around: Word, own: Word) -> Result<(), Memory> {
     for port in [field(2), field(3)] {
         let mask = own.mask & port & !around.mask;
         if mask != 0 {
             let lowest = mask & mask.wrapping_neg();
-            cubes.push(Cube {
-                value: around.value | own.value & mask ^ lowest,
-                mask: around.mask | mask,
-            })?;
+            cubes.push(fixed(&around, mask, own.value ^ lowest))?;
         }
     }
     Ok(())
 }
 
 /// Puts new rows in the place of the window's own ones: each right before the fixed one that follows it.
-fn put_back(table: &mut Table, window: &Window, rows: &[Row]) -> Result<(), Memory> {
+fn put_back(table: &mut SearchTable, window: &Window, rows: &[SearchEntry]) -> Result<(), Memory> {
     let mut rest = rows;
     for (id, old) in window.ids.iter().zip(&window.rows) {
-        if old.fixed {
+        if old.is_fixed {
             rest = put_run(table, Some(*id), rest)?;
         } else {
             table.take(*id)?;
@@ -169,11 +168,14 @@ fn put_back(table: &mut Table, window: &Window, rows: &[Row]) -> Result<(), Memo
 
 /// Puts the rows up to the next fixed one before the row with this id, or behind the last; what follows that one.
 fn put_run<'a>(
-    table: &mut Table,
+    table: &mut SearchTable,
     before: Option<usize>,
-    rows: &'a [Row],
-) -> Result<&'a [Row], Memory> {
-    let own = rows.iter().position(|row| row.fixed).unwrap_or(rows.len());
+    rows: &'a [SearchEntry],
+) -> Result<&'a [SearchEntry], Memory> {
+    let own = rows
+        .iter()
+        .position(|row| row.is_fixed)
+        .unwrap_or(rows.len());
     put_all(table, before, rows.get(..own).unwrap_or(rows))?;
     Ok(rows.get(own.saturating_add(1)..).unwrap_or(&[]))
 }

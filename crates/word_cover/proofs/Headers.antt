@@ -1,80 +1,49 @@
--- Headers as keys: a word matches where the key fits.
-use Rattle.std.proofs.Common.{◌≡◌, ◌⊎◌, ◌∷◌, ℕ, List, [], Bool, true, false, ◌+◌, ◌*◌, ◌^◌, ap, refl, sym, ◌∙◌, inl, inr, bit_and, bit_or, bit_xor, nat_eq, slice_index, ◌||◌, eq-eqb}
-use Rattle.std.proofs.lemmas.Nat.{or_comm, or_lt}
-use Rattle.std.proofs.lemmas.Bool.{eqb-true, false≢true}
-use Rattle.field_boxes.specs.Headline.Bits.{bits}
+-- What the comparisons of two words and the halves of one tell of headers.
+use Rattle.std.proofs.Common.{◌≡◌, ◌⊎◌, ◌∷◌, ℕ, List, [], Bool, true, false, ap, refl, sym, subst, inl, inr, bit_or, ◌||◌}
+use Rattle.std.proofs.lemmas.Nat.{or_comm}
 use Rattle.field_boxes.specs.Headline.Fields.{IsHeader}
 use Rattle.ternary_words.specs.declared.word.Word.{Word}
-use Rattle.ternary_words.specs.Headline.Word.{agrees, header_bits}
-use Rattle.ternary_words.specs.Word.{trits}
-use Rattle.ternary_words.specs.Views.{word_of}
-use Rattle.ternary_words.proofs.Joined.{bits-header}
-use Rattle.ternary_words.proofs.Matching.{agrees-mask}
 use Rattle.ternary_words.specs.Entries.{matches}
-use Rattle.word_cover.specs.Covers.{Covers, AreDisjoint}
-use Rattle.word_cover.proofs.Numbers.{Fits, fits-inside, fits-two, fits-or, fits-part, fits-halves}
-
--- the key of a header
-key : List ℕ → ℕ
-key v = (((slice_index v 0 * 2 ^ 32 + slice_index v 1) * 2 ^ 16 + slice_index v 2) * 2 ^ 16 + slice_index v 3) * 2 ^ 8 + slice_index v 4
-
-key_bits : (h : List ℕ) → IsHeader h → bits 104 (key h) ≡ header_bits h
-unfolding key
-key_bits (a ∷ b ∷ c ∷ d ∷ e ∷ []) h = bits-header (a ∷ b ∷ c ∷ d ∷ e ∷ []) refl h.1.0 h.1.1.0 h.1.1.1.0 h.1.1.1.1.0
-key_bits [] h = absurd h
-key_bits (a ∷ []) h = absurd h.1
-key_bits (a ∷ b ∷ []) h = absurd h.1.1
-key_bits (a ∷ b ∷ c ∷ []) h = absurd h.1.1.1
-key_bits (a ∷ b ∷ c ∷ d ∷ []) h = absurd h.1.1.1.1
-key_bits (a ∷ b ∷ c ∷ d ∷ e ∷ f ∷ fs) h = absurd h.1.1.1.1.1
-
-matches_key : (h : List ℕ) (w : Word) → IsHeader h → matches h w ≡ nat_eq (bit_and (bit_xor (key h) w.value) w.mask) 0
-matches_key h w is = ap (agrees (word_of w)) (sym (key_bits h is)) ∙ sym (agrees-mask 104 w.mask w.value (key h) w.narrow)
-
-fits_from : (h : List ℕ) (w : Word) → IsHeader h → matches h w ≡ true → Fits (key h) w.value w.mask
-fits_from h w is m = eqb-true (bit_and (bit_xor (key h) w.value) w.mask) 0 (sym (matches_key h w is) ∙ m)
-
-matches_from : (h : List ℕ) (w : Word) → IsHeader h → Fits (key h) w.value w.mask → matches h w ≡ true
-matches_from h w is f = matches_key h w is ∙ eq-eqb (bit_and (bit_xor (key h) w.value) w.mask) 0 f
+use Rattle.word_cover.specs.Covers.{Covers, AreDisjoint, HoldsBoth, HoldsOnlyBoth}
+use Rattle.word_cover.specs.Cubes.{Cube, HasBitsOf, Meet, cube_of, meet_of, one_half, zero_half}
+use Rattle.word_cover.proofs.Members.{Has, has-bits, has-both, has-halves, has-meet, has-part, has-word, masked-meet, masked-word, word-has}
 
 -- what isn't true is false
-pub unlike : (s : Bool) → (t : Bool) → s ≡ t → (s ≡ true → ⊥) → s ≡ false
-unlike s false e n = e
-unlike s true e n = absurd (n e)
+unlike : (s : Bool) → (s ≡ true → ⊥) → s ≡ false
+unlike false n = refl
+unlike true n = absurd (n refl)
 
--- a test on numbers and what it tells
-pub meets-false : (a b : Word) → nat_eq (bit_and (bit_xor a.value b.value) (bit_and a.mask b.mask)) 0 ≡ false → AreDisjoint a b
-meets-false a b e h is m = unlike (matches h b) (matches h b) refl (λ n. false≢true (sym e ∙ eq-eqb (bit_and (bit_xor a.value b.value) (bit_and a.mask b.mask)) 0 (fits-two (key h) a.value a.mask b.value b.mask (fits_from h a is m) (fits_from h b is n))))
+pub apart-from : (a b : Word) → (Meet (cube_of a) (cube_of b) → ⊥) → AreDisjoint a b
+apart-from a b apart h is m = unlike (matches h b) (λ n. apart (has-both (cube_of a) (cube_of b) h (word-has h a is m) (word-has h b is n)))
 
-pub inside-true : (a b : Word) → bit_and b.mask a.mask ≡ b.mask → nat_eq (bit_and (bit_xor a.value b.value) b.mask) 0 ≡ true → Covers (b ∷ []) a
-inside-true a b x e h is m =
-    let f = fits-inside (key h) a.value a.mask b.value b.mask x (eqb-true (bit_and (bit_xor a.value b.value) b.mask) 0 e) (fits_from h a is m) in
-    ap (λ t. t || false) (matches_from h b is f)
+pub inside-covers : (a b : Word) → HasBitsOf (cube_of a) (cube_of b) → Covers (b ∷ []) a
+inside-covers a b bits h is m = ap (λ t. t || false) (has-word h b is (has-bits (cube_of a) (cube_of b) h bits (word-has h a is m)))
 
-pub meet-is : (a b : Word) (h : List ℕ) → IsHeader h → matches h a ≡ true → matches h b ≡ true →
-    agrees (trits (bits 104 (bit_or a.mask b.mask)) (bits 104 (bit_or a.value b.value))) (header_bits h) ≡ true
-meet-is a b h is p q =
-    let v = bit_or a.value b.value in
-    let m = bit_or a.mask b.mask in
-    let f = fits-or (key h) a.value a.mask b.value b.mask a.masked b.masked (fits_from h a is p) (fits_from h b is q) in
-    ap (agrees (trits (bits 104 m) (bits 104 v))) (sym (key_bits h is)) ∙ sym (agrees-mask 104 m v (key h) (or_lt 104 a.mask b.mask a.narrow b.narrow)) ∙ eq-eqb (bit_and (bit_xor (key h) v) m) 0 f
+-- the word of what both match
+abbrev pub both_of : Word → Word → Word
+both_of a b = let is = masked-meet (cube_of a) (cube_of b) (masked-word a) (masked-word b) in record {
+  value = bit_or a.value b.value;
+  mask = bit_or a.mask b.mask;
+  narrow = is.narrow;
+  masked = is.masked;
+}
 
--- where some header fits both, what fits the join fits each
-meet_part : (a b : Word) (h g : List ℕ) → IsHeader h → matches h a ≡ true → matches h b ≡ true → IsHeader g →
-    agrees (trits (bits 104 (bit_or a.mask b.mask)) (bits 104 (bit_or a.value b.value))) (header_bits g) ≡ true → matches g a ≡ true
-meet_part a b h g is p q has m =
-    let v = bit_or a.value b.value in
-    let x = bit_or a.mask b.mask in
-    let agree = fits-two (key h) a.value a.mask b.value b.mask (fits_from h a is p) (fits_from h b is q) in
-    let test = agrees-mask 104 x v (key g) (or_lt 104 a.mask b.mask a.narrow b.narrow) ∙ ap (agrees (trits (bits 104 x) (bits 104 v))) (key_bits g has) ∙ m in
-    matches_from g a has (fits-part (key g) a.value a.mask b.value b.mask a.masked b.masked agree (eqb-true (bit_and (bit_xor (key g) v) x) 0 test))
+pub meet-holds : (a b : Word) → HoldsBoth a b (both_of a b)
+meet-holds a b h is p q =
+    has-word h (both_of a b) is (has-meet (cube_of a) (cube_of b) h (masked-word a) (masked-word b) (word-has h a is p) (word-has h b is q))
 
-pub meet-alone : (a b : Word) (h : List ℕ) → IsHeader h → matches h a ≡ true → matches h b ≡ true → (g : List ℕ) → IsHeader g →
-    agrees (trits (bits 104 (bit_or a.mask b.mask)) (bits 104 (bit_or a.value b.value))) (header_bits g) ≡ true → (matches g a ≡ true) × (matches g b ≡ true)
-meet-alone a b h is p q g has m =
-    let swapped = ap (λ v. agrees (trits (bits 104 (bit_or b.mask a.mask)) (bits 104 v)) (header_bits g)) (or_comm b.value a.value)
-    ∙ ap (λ x. agrees (trits (bits 104 x) (bits 104 (bit_or a.value b.value))) (header_bits g)) (or_comm b.mask a.mask) ∙ m in
-    (meet_part a b h g is p q has m, meet_part b a h g is q p has swapped)
+meet_comm : (a b : Cube) → meet_of a b ≡ meet_of b a
+meet_comm a b = rw (or_comm a.value b.value, or_comm a.mask b.mask) refl
+
+pub meet-alone : (a b : Word) → HoldsOnlyBoth a b (both_of a b)
+meet-alone a b h is p q g also m =
+    let x = cube_of a in
+    let y = cube_of b in
+    let has : Has (meet_of x y) g = word-has g (both_of a b) also m in
+    let turned : Has (meet_of y x) g = subst (λ (c : Cube). Has c g) (meet_comm x y) has in (
+      has-word g a also (has-part x y g (masked-word a) (masked-word b) (has-both x y h (word-has h a is p) (word-has h b is q)) has),
+      has-word g b also (has-part y x g (masked-word b) (masked-word a) (has-both y x h (word-has h b is q) (word-has h a is p)) turned),
+    )
 
 first_of : (s t : Bool) → s ≡ true → s || (t || false) ≡ true
 first_of s t e = ap (λ x. x || (t || false)) e
@@ -83,14 +52,17 @@ second_of : (s t : Bool) → t ≡ true → s || (t || false) ≡ true
 second_of true t e = refl
 second_of false t e = ap (λ x. x || false) e
 
-pub halves-are : (w zero one : Word) (j : ℕ) → zero.value ≡ w.value → zero.mask ≡ bit_or w.mask (2 ^ j) → one.value ≡ bit_or w.value (2 ^ j) → one.mask ≡ bit_or w.mask (2 ^ j) →
+-- each header of the word is one of a half's
+in_halves : (w zero one : Word) (bit : ℕ) → cube_of zero ≡ zero_half (cube_of w) bit → cube_of one ≡ one_half (cube_of w) bit → (h : List ℕ) → IsHeader h → matches h w ≡ true →
+    (matches h zero ≡ true) ⊎ (matches h one ≡ true)
+in_halves w zero one bit z o h is m = elim (has-halves (cube_of w) bit h (masked-word w) (word-has h w is m)) [
+  | inl has ↦ inl (has-word h zero is (subst (λ (c : Cube). Has c h) (sym z) has))
+  | inr has ↦ inr (has-word h one is (subst (λ (c : Cube). Has c h) (sym o) has))
+]
+
+pub halves-are : (w zero one : Word) (bit : ℕ) → cube_of zero ≡ zero_half (cube_of w) bit → cube_of one ≡ one_half (cube_of w) bit →
     Covers (zero ∷ one ∷ []) w × Covers (one ∷ zero ∷ []) w
-halves-are w zero one j zv zm ov om =
-    let both = λ (h : List ℕ) (is : IsHeader h) (m : matches h w ≡ true). (let r : (matches h zero ≡ true) ⊎ (matches h one ≡ true) =
-    elim (fits-halves (key h) w.value w.mask j w.masked (fits_from h w is m)) [
-      | inl f ↦ inl (matches_from h zero is (rw (zv, zm) f))
-      | inr f ↦ inr (matches_from h one is (rw (ov, om) f))
-    ] in r) in (
-      λ h is m. elim (both h is m) [ inl e ↦ first_of (matches h zero) (matches h one) e | inr e ↦ second_of (matches h zero) (matches h one) e ],
-      λ h is m. elim (both h is m) [ inl e ↦ second_of (matches h one) (matches h zero) e | inr e ↦ first_of (matches h one) (matches h zero) e ],
-    )
+halves-are w zero one bit z o = (
+  λ h is m. elim (in_halves w zero one bit z o h is m) [ inl e ↦ first_of (matches h zero) (matches h one) e | inr e ↦ second_of (matches h zero) (matches h one) e ],
+  λ h is m. elim (in_halves w zero one bit z o h is m) [ inl e ↦ second_of (matches h one) (matches h zero) e | inr e ↦ first_of (matches h one) (matches h zero) e ],
+)

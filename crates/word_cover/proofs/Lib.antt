@@ -1,3 +1,5 @@
 pub mod Numbers
+pub mod Members
 pub mod Headers
+pub mod Hulls
 pub mod Parts

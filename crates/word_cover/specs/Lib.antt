@@ -1,3 +1,4 @@
 pub mod Covers
+pub mod Cubes
 pub mod Open
 pub mod Sights

@@ -9,7 +9,7 @@ use Rattle.word_cover.specs.declared.shown.Shown.TheVariants.{Whole, Open, Unkno
 use Rattle.word_cover.specs.Covers.{Covers}
 
 -- the word matches the header, and none of the words does
-pub record IsOpen (words : List Word) (w : Word) (header : List ℕ) : Type 0 where
+pub record IsLeftOpen (words : List Word) (w : Word) (header : List ℕ) : Type 0 where
   pub is : IsHeader header
   pub within : matches header w ≡ true
   pub without : list_any (matches header) words ≡ false
@@ -17,5 +17,5 @@ pub record IsOpen (words : List Word) (w : Word) (header : List ℕ) : Type 0 wh
 -- the words cover the word, or leave the header open
 abbrev pub IsCover : List Word → Word → Shown → Type 0
 IsCover words w Whole = Covers words w
-IsCover words w (Open header) = IsOpen words w header.values
+IsCover words w (Open header) = IsLeftOpen words w header.values
 IsCover words w Unknown = Unit {0}

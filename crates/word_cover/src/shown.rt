@@ -3,7 +3,7 @@
 ghost use Rattle.std.specs.Prelude.{◌≡◌, ◌<◌, IfOk, IfSome};
 ghost use Rattle.std.specs.List.{list_any};
 ghost use Rattle.ternary_words.specs.Entries.{matches};
-ghost use Rattle.word_cover.specs.Open.{IsCover, IsOpen};
+ghost use Rattle.word_cover.specs.Open.{IsCover, IsLeftOpen};
 
 use crate::covering::covered_in;
 use crate::sight::volume;
@@ -42,7 +42,7 @@ pub fn cover(alloc: Global, word: &Word, words: &[Word], budget: u32) -> Result<
 
 /// A header of the last word, if the first matches it and none of the words does.
 fn witness(word: &Word, words: &[Word], least: &Word) -> Option<Header>
-    ensures { IfSome result (λ header. IsOpen words.now word.now header.values) }
+    ensures { IfSome result (λ header. IsLeftOpen words.now word.now header.values) }
 {
     let header = Header::new(values_of(least.value))?;
     if word.matches(&header) && !is_held(words, &header) {

@@ -6,7 +6,7 @@ use Rattle.table_steps.proofs.answering.answering.Goals.{then-matters+in_ok-push
 pub returns-then-inside : goal.returns-then-inside
 returns-then-inside c =
     behind-last (words_of c.args.before.now) c.loop-place.some.items c.push-then-matters.new.self.items c.args.rest.now c.args.word.now c.index-rest-place.result c.loop-place.place
-    c.loop-place-test.true c.index-rest-place.is c.in_ok-push-2.ensures.items c.if-inside.ensures c.loop-place.invariant
+    c.loop-place-test.true c.index-rest-place.is c.in_ok-push-2.ensures.items c.if-inside.ensures.covers c.loop-place.invariant
 
 pub loop-place-preserved : goal.loop-place-preserved
 loop-place-preserved c =

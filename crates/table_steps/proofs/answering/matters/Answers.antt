@@ -6,7 +6,7 @@ use Rattle.table_steps.proofs.answering.matters.Goals as goal
 use Rattle.std.proofs.Common.{not}
 
 pub returns-then-not-meets : goal.returns-then-not-meets
-returns-then-not-meets c = apart-met (words_of c.args.before.now) c.args.entry.now.word c.args.word.now c.if-not-meets.ensures
+returns-then-not-meets c = apart-met (words_of c.args.before.now) c.args.entry.now.word c.args.word.now c.if-not-meets.ensures.apart
 
 pub returns : goal.returns
 returns c =

@@ -10,4 +10,4 @@ returns c =
     let entries = c.args.entries.now in
     let w = c.args.word.now in
     OnTrue_from c.inside.result (Covers (words_of entries) w)
-    (λ yes. covers-at entries c.in-Some.place c.index-entries-place.result w (omega (arith, c.if-place-entries.false)) (OnTrue_at yes c.inside.ensures))
+    (λ yes. covers-at entries c.in-Some.place c.index-entries-place.result w (omega (arith, c.if-place-entries.false)) (OnTrue_at yes c.inside.ensures.covers))

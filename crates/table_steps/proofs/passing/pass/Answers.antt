@@ -7,16 +7,16 @@ use Rattle.table_steps.proofs.passing.pass.Goals as goal
 use Rattle.table_steps.proofs.passing.pass.Goals.{then-entry-decision+in_ok-push, else-entry-decision+in_ok-covered+else-not-branch}
 
 pub returns-then-not-meets : goal.returns-then-not-meets
-returns-then-not-meets c = next-apart c.args.above.now.items c.args.entry.now c.args.word.now c.args.decision c.if-not-meets.ensures
+returns-then-not-meets c = next-apart c.args.above.now.items c.args.entry.now c.args.word.now c.args.decision c.if-not-meets.ensures.apart
 
 pub returns-then-inside : goal.returns-then-inside
 returns-then-inside c =
     let above = c.args.above.now.items in
     let e = c.args.entry.now in
     elim c.if-entry-decision.branch [
-      | then-entry-decision+in_ok-push w ↦ last-same above e c.args.word.now c.args.decision w.if-entry-decision.true c.if-inside.ensures
+      | then-entry-decision+in_ok-push w ↦ last-same above e c.args.word.now c.args.decision w.if-entry-decision.true c.if-inside.ensures.covers
       | else-entry-decision+in_ok-covered+else-not-branch w ↦ last-hidden above e c.args.word.now w.meet.result c.args.decision w.meet.ensures.holds
-          (subst (λ (xs : List Word). Covers xs w.meet.result) w.as_slice.ensures.value (OnTrue_at w.if-not-branch.false w.in_ok-covered.ensures)) c.if-inside.ensures
+          (subst (λ (xs : List Word). Covers xs w.meet.result) w.as_slice.ensures.value (OnTrue_at w.if-not-branch.false w.in_ok-covered.ensures)) c.if-inside.ensures.covers
     ]
 
 pub returns : goal.returns
