@@ -91,30 +91,34 @@ fn keep(buffer: &mut [u8], start: usize, end: usize) -> usize
     count
 }
 
-/// Checks the certificate under the name, line by line, through the buffer.
+/// Checks the certificate under the name, of which the first bytes in the buffer, so many, were read before.
 ///
-/// The buffer has at least 256 bytes, and the checker has accepted no row. `Ok` gives the number of rows.
-/// The first line that is wrong decides, if its end was read before a fault and within the limit; the
-/// call takes no memory.
+/// It reads line by line through the buffer, which has at least 256 bytes, for a checker that has accepted no row. `Ok`
+/// gives the number of rows. The first line that is wrong decides, if its end was read before a fault and within the
+/// limit; the call takes no memory.
 pub fn check_stream<D: Desk>(
     checker: Checker<'_>,
     desk: &mut D,
     name: &str,
     buffer: &mut [u8],
+    read: usize,
 ) -> Result<u64, Stop>
     requires buffer { 256 ≤ length buffer.old }
     requires rows { checker.accepted ≡ 0 }
+    requires read { read ≤ length buffer.old }
     ensures turn { Extends (D.reads desk.old) (D.reads desk.new) (λ added. IsTurnOfStream name.now result added) }
-    ensures valid { (text : List ℕ) → MayHold (D.reads desk.new) name.now text → IfOk result (λ rows.
-        ReadsValid checker.entry MOST_CERTIFICATE_BYTES (left_in text (given (D.reads desk.old) name.now)) (left_in text (given (D.reads desk.new) name.now)) rows) }
+
+    // The certificate is what was read before and what is left.
+    ensures valid { (text : List ℕ) → MayHold (D.reads desk.new) name.now text → IfOk result (λ rows. ReadsValid checker.entry MOST_CERTIFICATE_BYTES
+        (take read buffer.old ++ left_in text (given (D.reads desk.old) name.now)) (left_in text (given (D.reads desk.new) name.now)) rows) }
     ensures agree { OnOk result (Agree checker.entry.list checker.entry.table) }
     ensures wrong { (text : List ℕ) → MayHold (D.reads desk.new) name.now text → (w : wrong_row) → result ≡ Err (Stop.Wrong w) →
-        ReadsWrong checker.entry MOST_CERTIFICATE_BYTES (left_in text (given (D.reads desk.old) name.now)) w }
+        ReadsWrong checker.entry MOST_CERTIFICATE_BYTES (take read buffer.old ++ left_in text (given (D.reads desk.old) name.now)) w }
     ensures named { (w : wrong_row) → result ≡ Err (Stop.Wrong w) → HaveNames checker.entry.list checker.entry.table w.why }
     ensures too_long { (text : List ℕ) → MayHold (D.reads desk.new) name.now text → IsErrOf result Stop.TooLong →
-        ReadsTooMuch checker.entry MOST_CERTIFICATE_BYTES (left_in text (given (D.reads desk.old) name.now)) }
+        ReadsTooMuch checker.entry MOST_CERTIFICATE_BYTES (take read buffer.old ++ left_in text (given (D.reads desk.old) name.now)) }
     ensures fault { (text : List ℕ) → MayHold (D.reads desk.new) name.now text → IsErrOf result Stop.ReadFault → Rose (D.faults desk.old name.now) (D.faults desk.new name.now)
-        × ReadsUpTo checker.entry MOST_CERTIFICATE_BYTES (left_in text (given (D.reads desk.old) name.now)) (left_in text (given (D.reads desk.new) name.now)) }
+        × ReadsUpTo checker.entry MOST_CERTIFICATE_BYTES (take read buffer.old ++ left_in text (given (D.reads desk.old) name.now)) (left_in text (given (D.reads desk.new) name.now)) }
 
     // However else it ends, no read failed.
     ensures calm { UnlessFault result ((other : List ℕ) → D.faults desk.new other ≡ D.faults desk.old other) }
@@ -132,12 +136,8 @@ pub fn check_stream<D: Desk>(
     };
     let mut kept = 0;
     let mut room = MOST_CERTIFICATE_BYTES;
+    let mut count = read;
     'pieces: loop {
-        let count = read_behind(desk, name, buffer, kept)?;
-        if count == 0 {
-            let rows = reader.end(&buffer[..kept])?;
-            return Ok(rows);
-        }
         if count as u64 > room {
             let _rest = reader.take_lines(&buffer[..kept + room as usize])?;
             return Err(Stop::TooLong);
@@ -146,5 +146,10 @@ pub fn check_stream<D: Desk>(
         let start = reader.take_lines(&buffer[..end])?;
         room -= count as u64;
         kept = keep(buffer, start, end);
+        count = read_behind(desk, name, buffer, kept)?;
+        if count == 0 {
+            let rows = reader.end(&buffer[..kept])?;
+            return Ok(rows);
+        }
     }
 }

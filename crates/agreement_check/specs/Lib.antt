@@ -1,0 +1,16 @@
+pub mod Cubes
+pub mod RuleWords
+pub mod Steps
+pub mod Pairs
+pub mod Covers
+pub mod Claims
+pub mod Views
+pub mod Texts
+pub mod Verdict
+pub mod Answers
+pub mod Streams
+pub mod Stops
+pub mod Proofs
+pub mod Covering
+pub mod Standing
+pub mod Joins
