@@ -1,0 +1,5 @@
+pub mod Places
+pub mod Firsts
+pub mod Cubes
+pub mod Found
+pub mod Claimed
