@@ -44,6 +44,8 @@ forms =
     ∷ row names.Patch (codes "patch") NO_OPTION (codes "MEMORY TABLE")
     ∷ row names.Apply (codes "apply") NO_OPTION (codes "MEMORY PLAN")
     ∷ row names.Dump (codes "dump") NO_OPTION (codes "MEMORY")
+    ∷ row names.Verify (codes "verify") NO_OPTION (codes "LIST TABLE")
+    ∷ row names.Prove (codes "prove") NO_OPTION (codes "LIST TABLE")
     ∷ []
 
 -- how a table is made of a list: by direct expansion, by composition of the field-by-field least cost, in the order in which
@@ -76,6 +78,8 @@ pub data Command : Type 0 where
   Patch : List ℕ → List ℕ → Command
   Apply : List ℕ → List ℕ → Command
   Dump : List ℕ → Command
+  Verify : List ℕ → List ℕ → Command
+  Prove : List ℕ → List ℕ → Command
 
 -- the command of the name
 abbrev pub command_named : CommandName → Settings → List (List ℕ) → Option Command
@@ -101,6 +105,8 @@ command_named names.Place settings words = over_one (Place settings.slots) words
 command_named names.Patch settings words = over_two Patch words
 command_named names.Apply settings words = over_two Apply words
 command_named names.Dump settings words = over_one Dump words
+command_named names.Verify settings words = over_two Verify words
+command_named names.Prove settings words = over_two Prove words
 
 -- a method and a command of the code without where their words lie
 abbrev pub method_seen : code_method.Method → Method
@@ -128,3 +134,5 @@ command_seen (asked.Place slots table) = Place slots.count table.now
 command_seen (asked.Patch both) = Patch both.first.now both.second.now
 command_seen (asked.Apply both) = Apply both.first.now both.second.now
 command_seen (asked.Dump memory) = Dump memory.now
+command_seen (asked.Verify both) = Verify both.first.now both.second.now
+command_seen (asked.Prove both) = Prove both.first.now both.second.now

@@ -44,11 +44,13 @@ pub(crate) enum CommandName {
     Patch,
     Apply,
     Dump,
+    Verify,
+    Prove,
 }
 
 /// The forms of the commands that are built, in the order of the usage text.
 #[tactic(auto, unfolding(crate::specs::Commands::forms))]
-pub(crate) fn forms() -> [CommandForm; 21]
+pub(crate) fn forms() -> [CommandForm; 23]
     ensures { map form_seen result ≡ forms }
 {
     [
@@ -78,6 +80,8 @@ pub(crate) fn forms() -> [CommandForm; 21]
         row(CommandName::Patch, "patch", &NO_OPTION, "MEMORY TABLE"),
         row(CommandName::Apply, "apply", &NO_OPTION, "MEMORY PLAN"),
         row(CommandName::Dump, "dump", &NO_OPTION, "MEMORY"),
+        row(CommandName::Verify, "verify", &NO_OPTION, "LIST TABLE"),
+        row(CommandName::Prove, "prove", &NO_OPTION, "LIST TABLE"),
     ]
 }
 
@@ -115,7 +119,7 @@ pub enum Command<'a> {
     Equiv(TwoFiles<'a>),
     /// Writes the certificate that a list and a table decide every header alike, or the first on which they differ.
     Cert(TwoFiles<'a>),
-    /// Says whether a certificate shows that a list and a table decide every header alike.
+    /// Says whether a certificate or a proof shows that a list and a table decide every header alike.
     Check(ThreeFiles<'a>),
     /// Writes what a table answers to each header of a trace.
     Trace(TwoFiles<'a>),
@@ -152,6 +156,10 @@ pub enum Command<'a> {
     Apply(TwoFiles<'a>),
     /// Writes the table that stands in a memory.
     Dump(&'a str),
+    /// Says whether a list and a table decide every header alike, or on which header they first differ.
+    Verify(TwoFiles<'a>),
+    /// Writes a proof of that, which `check` takes.
+    Prove(TwoFiles<'a>),
 }
 
 /// The command that makes a table of the only file.
@@ -227,5 +235,7 @@ pub(crate) fn named<'a>(
         CommandName::Patch => Some(Command::Patch(two_files(words)?)),
         CommandName::Apply => Some(Command::Apply(two_files(words)?)),
         CommandName::Dump => Some(Command::Dump(one_file(words)?)),
+        CommandName::Verify => Some(Command::Verify(two_files(words)?)),
+        CommandName::Prove => Some(Command::Prove(two_files(words)?)),
     }
 }

@@ -4,7 +4,7 @@
 ghost use Rattle.std.specs.Prelude.{◌≡◌, ◌∷◌, [], ◌++◌, Some, None, codes};
 ghost use Rattle.std.specs.List.{flat_map};
 ghost use Rattle.field_boxes.specs.Headline.Fields.{stated};
-ghost use Rattle.command_words.specs.Commands.{Apply, Arrange, Audit, Cert, Compile, Expand, Check, Drive, Dump, Equiv, Gen, Make, Patch, Place, Query, Selfrun, Session, Shorten, Trim};
+ghost use Rattle.command_words.specs.Commands.{Apply, Arrange, Audit, Cert, Compile, Expand, Check, Drive, Dump, Equiv, Gen, Make, Patch, Place, Prove, Query, Selfrun, Session, Shorten, Trim, Verify};
 ghost use Rattle.command_words.specs.Orders.{Best, In};
 ghost use Rattle.command_words.specs.Questions.{span};
 ghost use Rattle.command_words.specs.Sessions.{CompiledIn, Shortened};
@@ -77,6 +77,15 @@ pub fn worked_memories()
     ensures same { command_of (codes "apply" ∷ codes "memory" ∷ codes "memory" ∷ []) ≡ None }
     ensures dumped { command_of (codes "dump" ∷ codes "memory" ∷ []) ≡ Some (Dump (codes "memory")) }
     ensures two { command_of (codes "dump" ∷ codes "a" ∷ codes "b" ∷ []) ≡ None }
+{}
+
+/// A list is verified against a table, and a proof of what they have to do with one another is made of the same words.
+pub fn worked_proofs()
+    ensures verified { command_of (codes "verify" ∷ codes "list" ∷ codes "table" ∷ []) ≡ Some (Verify (codes "list") (codes "table")) }
+    ensures proved { command_of (codes "prove" ∷ codes "list" ∷ codes "table" ∷ []) ≡ Some (Prove (codes "list") (codes "table")) }
+    ensures same { command_of (codes "verify" ∷ codes "list" ∷ codes "list" ∷ []) ≡ None }
+    ensures one { command_of (codes "prove" ∷ codes "list" ∷ []) ≡ None }
+    ensures no_option { command_of (codes "verify" ∷ codes "--slot" ∷ codes "104" ∷ codes "list" ∷ codes "table" ∷ []) ≡ None }
 {}
 
 /// The first `--` that is no value ends the options. Before it a word with a `-` in front is an option of the
@@ -205,5 +214,7 @@ pub fn worked_usage()
         ∷ codes "  patch MEMORY TABLE"
         ∷ codes "  apply MEMORY PLAN"
         ∷ codes "  dump MEMORY"
+        ∷ codes "  verify LIST TABLE"
+        ∷ codes "  prove LIST TABLE"
         ∷ []) }
 {}

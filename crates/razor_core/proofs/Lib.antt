@@ -14,6 +14,7 @@ pub mod SlotEnding
 pub mod Turns
 pub mod CertEnding
 pub mod CheckEnding
+pub mod SaidSo
 pub mod SelfrunEnding
 pub mod SpelledNames
 pub mod FieldOrders
@@ -21,9 +22,12 @@ pub mod OrderText
 pub mod Gave
 pub mod MadeTables
 pub mod StateLines
+pub mod AnswerEnding
 pub mod AnsweredBoxes
+pub mod VerifyEnding
 pub mod WordLengths
 pub mod FileWords
+pub mod Fronts
 mod PossibleTexts
 mod Calls
 mod FileCalls

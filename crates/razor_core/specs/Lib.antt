@@ -20,3 +20,4 @@ pub mod Promise
 pub mod Calls
 pub mod CallsByStatus
 pub mod PossibleTexts
+pub mod Front

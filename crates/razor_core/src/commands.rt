@@ -30,12 +30,14 @@ pub mod merge;
 pub mod migrate;
 pub mod patch;
 pub mod place;
+pub mod prove;
 pub mod query;
 pub mod selfrun;
 pub mod session;
 pub mod shorten;
 pub mod trace;
 pub mod trim;
+pub mod verify;
 
 use crate::ending::Ending;
 use apply::apply_plan;
@@ -52,6 +54,7 @@ use merge::merge_table;
 use migrate::migrate_table;
 use patch::plan_patch;
 use place::place_table;
+use prove::prove_table;
 use query::query_list;
 use razor_base::{Desk, Sink};
 use selfrun::run_load;
@@ -59,6 +62,7 @@ use session::run_session;
 use std::alloc::Global;
 use trace::answer_trace;
 use trim::trim_table;
+use verify::verify_table;
 
 /// Does what the command says. Each command is a call of its own, so that no frame holds what two of them want.
 pub(crate) fn run<'a, D: Desk, K: Sink>(
@@ -97,5 +101,7 @@ pub(crate) fn run<'a, D: Desk, K: Sink>(
         Command::Patch(files) => plan_patch(alloc, *files, desk, out),
         Command::Apply(files) => apply_plan(alloc, *files, desk, out),
         Command::Dump(file) => dump_memory(alloc, file, desk, out),
+        Command::Verify(files) => verify_table(alloc, *files, desk, out),
+        Command::Prove(files) => prove_table(alloc, *files, desk, out),
     }
 }

@@ -31,6 +31,12 @@ returns-in-Patch-clause-ends g c = λ texts is. rw c.in-Patch.is (c.plan_patch.e
 pub returns-in-Apply-clause-ends : goal.returns-in-Apply-clause-ends
 returns-in-Apply-clause-ends g c = λ texts is. rw c.in-Apply.is (c.apply_plan.ensures.ends texts is)
 
+pub returns-in-Verify-clause-ends : goal.returns-in-Verify-clause-ends
+returns-in-Verify-clause-ends g c = λ texts is. rw c.in-Verify.is (c.verify_table.ensures.ends texts is)
+
+pub returns-in-Prove-clause-ends : goal.returns-in-Prove-clause-ends
+returns-in-Prove-clause-ends g c = λ texts is. rw c.in-Prove.is (c.prove_table.ensures.ends texts is)
+
 -- the reads and the writes
 pub returns-in-Make-clause-calls : goal.returns-in-Make-clause-calls
 returns-in-Make-clause-calls g c = rw c.in-Make.is c.make_table.ensures.calls
@@ -85,3 +91,9 @@ returns-in-Apply-clause-calls g c = rw c.in-Apply.is c.apply_plan.ensures.calls
 
 pub returns-in-Dump-clause-calls : goal.returns-in-Dump-clause-calls
 returns-in-Dump-clause-calls g c = rw c.in-Dump.is c.dump_memory.ensures.calls
+
+pub returns-in-Verify-clause-calls : goal.returns-in-Verify-clause-calls
+returns-in-Verify-clause-calls g c = rw c.in-Verify.is c.verify_table.ensures.calls
+
+pub returns-in-Prove-clause-calls : goal.returns-in-Prove-clause-calls
+returns-in-Prove-clause-calls g c = rw c.in-Prove.is c.prove_table.ensures.calls

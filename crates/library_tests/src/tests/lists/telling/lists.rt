@@ -1,5 +1,6 @@
 //! Of lists, certificates and tables.
 use super::check;
+use agreement_check::{Counts, Stop as ProofStop, Why as ProofWhy, Wrong as WrongLine};
 use box_partition::CertError;
 use field_boxes::Header;
 use filter_reader::{ListError, Reason};
@@ -64,4 +65,53 @@ fn errors_of_certificates_say_what_is_wrong(rt: HostRuntime) -> Result<(), Fail>
     check(&rt, &CertError::NotPrefix { entry: 3 }, other)?;
     check(&rt, &CertError::Fault, "a write failed")?;
     check(&rt, &CertError::Memory, "memory was refused")
+}
+
+/// Why a proof is wrong, in words.
+const PROOF_WHYS: [(ProofWhy, &str); 10] = [
+    (ProofWhy::Form, "wrong line 4: form"),
+    (
+        ProofWhy::CountsDiffer {
+            stated: Counts {
+                rules: 1,
+                entries: 2,
+            },
+            found: Counts {
+                rules: 3,
+                entries: 4,
+            },
+        },
+        "wrong line 4: counts differ, stated 1 2 found 3 4",
+    ),
+    (
+        ProofWhy::DecidedAlike,
+        "wrong line 4: decisions do not differ",
+    ),
+    (ProofWhy::Order, "wrong line 4: order"),
+    (ProofWhy::EntryCover, "wrong line 4: cover of entry"),
+    (ProofWhy::RuleCover, "wrong line 4: cover of rule"),
+    (ProofWhy::PairCover, "wrong line 4: cover of pair"),
+    (
+        ProofWhy::PairMissing { rule: 5, entry: 6 },
+        "wrong line 4: pair 5 6 missing",
+    ),
+    (
+        ProofWhy::PairsDiffer {
+            stated: 7,
+            found: 8,
+        },
+        "wrong line 4: counts differ, stated 7 found 8",
+    ),
+    (ProofWhy::EndsEarly, "wrong line 4: ends early"),
+];
+
+#[test]
+fn errors_of_proofs_say_what_is_wrong(rt: HostRuntime) -> Result<(), Fail> {
+    for (why, words) in PROOF_WHYS {
+        check(&rt, &ProofStop::Wrong(WrongLine { line: 4, why }), words)?;
+    }
+    check(&rt, &ProofStop::ReadFault, "a read failed")?;
+    let long = "the proof is longer than the limit";
+    check(&rt, &ProofStop::TooLong, long)?;
+    check(&rt, &ProofStop::Memory, "memory was refused")
 }

@@ -58,25 +58,25 @@ returns-clause-ends g c = λ texts is.
     let start = left_of g.D.Desk.reads texts c.args.desk.now in
     let one = left_of g.D.Desk.reads texts c.take.new.desk in
     let two = left_of g.D.Desk.reads texts c.take-2.new.desk in
-    let end = left_of g.D.Desk.reads texts c.check_rows.new.desk in
+    let end = left_of g.D.Desk.reads texts c.check_text.new.desk in
     let faults = g.D.Desk.faults c.take-2.new.desk in
     let before = seen (left_of g.D.Desk.reads texts) g.D.Desk.faults g.K.Sink.written g.K.Sink.faults c.args.desk.now c.args.out.now in
-    let after = seen (left_of g.D.Desk.reads texts) g.D.Desk.faults g.K.Sink.written g.K.Sink.faults c.check_rows.new.desk c.check_rows.new.out in
+    let after = seen (left_of g.D.Desk.reads texts) g.D.Desk.faults g.K.Sink.written g.K.Sink.faults c.check_text.new.desk c.check_text.new.out in
     let counted = c.in-Ok.ensures.counts third in
     let counted_later = c.in-Ok-take.ensures.counts third in
     let checked : Checked first second third before after list table (two third) (faults third) = record {
       reads = record {
         list_taken = taken_before (list_input first) (start first) (two first) (end first) (value_of list)
-            (taken_before (list_input first) (start first) (one first) (two first) (value_of list) (c.in-Ok.ensures.turn (texts first) (still_may (c.in-Ok-take.ensures.others first c.args.files.front) (still_may (c.check_rows.ensures.others first c.args.files.ends) (is first)))) (kept_left (texts first) (c.in-Ok-take.ensures.others first c.args.files.front).0))
-            (kept_left (texts first) (c.check_rows.ensures.others first c.args.files.ends).0);
+            (taken_before (list_input first) (start first) (one first) (two first) (value_of list) (c.in-Ok.ensures.turn (texts first) (still_may (c.in-Ok-take.ensures.others first c.args.files.front) (still_may (c.check_text.ensures.others first c.args.files.ends) (is first)))) (kept_left (texts first) (c.in-Ok-take.ensures.others first c.args.files.front).0))
+            (kept_left (texts first) (c.check_text.ensures.others first c.args.files.ends).0);
         table_taken = taken_before (table_input second) (start second) (two second) (end second) (table_value_of table)
-            (taken_later (table_input second) (start second) (one second) (two second) (table_value_of table) (kept_left (texts second) (c.in-Ok.ensures.others second (λ e. c.args.files.front (sym e))).0) (c.in-Ok-take.ensures.turn (texts second) (still_may (c.check_rows.ensures.others second c.args.files.back) (is second))))
-            (kept_left (texts second) (c.check_rows.ensures.others second c.args.files.back).0);
+            (taken_later (table_input second) (start second) (one second) (two second) (table_value_of table) (kept_left (texts second) (c.in-Ok.ensures.others second (λ e. c.args.files.front (sym e))).0) (c.in-Ok-take.ensures.turn (texts second) (still_may (c.check_text.ensures.others second c.args.files.back) (is second))))
+            (kept_left (texts second) (c.check_text.ensures.others second c.args.files.back).0);
       };
       kept = (kept_left (texts third) (c.in-Ok-take.ensures.others third (λ e. c.args.files.back (sym e))).0) ∙ (kept_left (texts third) (c.in-Ok.ensures.others third (λ e. c.args.files.ends (sym e))).0);
       counts = omega (arith, counted, counted_later);
     } in
-    check_ends first second third before after list table two faults checked c.equal_lists_have_one_verdict.ensures c.check_rows.result (c.check_rows.ensures.ends texts is)
+    check_ends first second third before after list table two faults checked c.equal_lists_have_one_verdict.ensures c.equal_lists_have_one_verdict-2.ensures c.check_text.result (c.check_text.ensures.ends texts is)
 
 -- the reads and the writes
 pub returns-in-Err-clause-calls : goal.returns-in-Err-clause-calls
@@ -86,5 +86,5 @@ pub returns-in-Err-take-clause-calls : goal.returns-in-Err-take-clause-calls
 returns-in-Err-take-clause-calls g c = second_ends at_the_end c.args.files.first.now c.args.files.second.now (c.args.files.third.now ∷ []) c.in-Err-take.ending (g.D.Desk.reads c.args.desk.now) (g.D.Desk.reads c.take.new.desk) (g.D.Desk.reads c.take-2.new.desk) (g.K.Sink.written c.args.out.now) c.in-Ok.ensures.reads c.in-Err-take.ensures.reads
 
 pub returns-clause-calls : goal.returns-clause-calls
-returns-clause-calls g c = calls_behind at_the_end (c.args.files.first.now ∷ c.args.files.second.now ∷ []) (c.args.files.third.now ∷ []) c.check_rows.result (g.D.Desk.reads c.args.desk.now) (g.D.Desk.reads c.take-2.new.desk) (g.D.Desk.reads c.check_rows.new.desk) (g.K.Sink.written c.args.out.now) (g.K.Sink.written c.check_rows.new.out)
-    (two_turns c.args.files.first.now c.args.files.second.now (g.D.Desk.reads c.args.desk.now) (g.D.Desk.reads c.take.new.desk) (g.D.Desk.reads c.take-2.new.desk) c.in-Ok.ensures.reads c.in-Ok-take.ensures.reads) c.check_rows.ensures.calls
+returns-clause-calls g c = calls_behind at_the_end (c.args.files.first.now ∷ c.args.files.second.now ∷ []) (c.args.files.third.now ∷ []) c.check_text.result (g.D.Desk.reads c.args.desk.now) (g.D.Desk.reads c.take-2.new.desk) (g.D.Desk.reads c.check_text.new.desk) (g.K.Sink.written c.args.out.now) (g.K.Sink.written c.check_text.new.out)
+    (two_turns c.args.files.first.now c.args.files.second.now (g.D.Desk.reads c.args.desk.now) (g.D.Desk.reads c.take.new.desk) (g.D.Desk.reads c.take-2.new.desk) c.in-Ok.ensures.reads c.in-Ok-take.ensures.reads) c.check_text.ensures.calls
