@@ -66,17 +66,25 @@ def limited(command, seconds):
 
     It must end well, or say that more entries are needed than the limit.
     """
+    ended = within(command, seconds)
+    if ended is None:
+        return None
+    status, used, peak, said = ended
+    if status != 0 and not (status == 4 and " entries needed" in said):
+        fail(f"{command} ends with {status}: {said}")
+    return used, peak
+
+
+def within(command, seconds, out=subprocess.DEVNULL):
+    """The status of one run, its seconds of the processor, its peak memory in bytes, and what it said; none where it takes more seconds."""
     with tempfile.NamedTemporaryFile("r") as report:
         whole = [time_tool(), "-f", "%U %M", "-o", report.name, *map(str, command)]
         limit = lambda: resource.setrlimit(resource.RLIMIT_CPU, (seconds, seconds + 1))
-        ended = subprocess.run(whole, stdin=subprocess.DEVNULL, stdout=subprocess.DEVNULL, stderr=subprocess.PIPE, preexec_fn=limit)
+        ended = subprocess.run(whole, stdin=subprocess.DEVNULL, stdout=out, stderr=subprocess.PIPE, preexec_fn=limit)
         if ended.returncode in (128 + signal.SIGXCPU, 128 + signal.SIGKILL):
             return None
-        is_above = ended.returncode == 4 and b" entries needed" in ended.stderr
-        if ended.returncode != 0 and not is_above:
-            fail(f"{command} ends with {ended.returncode}: {ended.stderr.decode()}")
         used, peak = report.read().splitlines()[-1].split()
-        return float(used), int(peak) * 1024
+        return ended.returncode, float(used), int(peak) * 1024, ended.stderr.decode()
 
 
 class Builds:

@@ -20,18 +20,19 @@ The program decides, and its promises are of lists and tables. What makes lists 
 | `razor` | runs of the program in a folder, for scripts that try it |
 | `script`, `commands` | how scripts and commands read their words and end |
 """
-from .answers import Certificate, Difference, List, Memory, Plan, RuleState, Table, WrongRow
+from .answers import Certificate, Difference, List, Memory, Plan, Proof, RuleState, Table, WrongLine, WrongRow
 from .errors import (BadText, Flagged, Misuse, NotExported, NotFound, NotImported, OutOfMemory, RazorError, ReadFault, TooMany,
                      WriteFault)
 from .exporting import exported
 from .headers import Header
 from .importing import Imported, imported
-from .program import (apply, arrange, audit, cert, check, compile, dump, equiv, expand, gen, merge, migrate, patch, place, query,
-                      shorten, trace, trim)
+from .program import (apply, arrange, audit, cert, check, compile, dump, equiv, expand, gen, merge, migrate, patch, place, prove,
+                      query, shorten, trace, trim, verify)
 
 __all__ = [
     "BadText", "Certificate", "Difference", "Flagged", "Header", "Imported", "List", "Memory", "Misuse", "NotExported", "NotFound",
-    "NotImported", "OutOfMemory", "Plan", "RazorError", "ReadFault", "RuleState", "Table", "TooMany", "WriteFault", "WrongRow",
+    "NotImported", "OutOfMemory", "Plan", "Proof", "RazorError", "ReadFault", "RuleState", "Table", "TooMany", "WriteFault", "WrongLine",
+    "WrongRow",
     "apply", "arrange", "audit", "cert", "check", "compile", "dump", "equiv", "expand", "exported", "gen", "imported", "merge",
-    "migrate", "patch", "place", "query", "shorten", "trace", "trim",
+    "migrate", "patch", "place", "prove", "query", "shorten", "trace", "trim", "verify",
 ]

@@ -105,6 +105,24 @@ class Certificate(Text):
 
 
 @dataclass(frozen=True)
+class Proof(Text):
+    """That a list and a table decide every header alike, or which header is the least that they don't."""
+
+    name: str = "proof"
+
+    @property
+    def pairs(self) -> int:
+        """How many pairs of a rule and an entry have a line."""
+        return int(self.text.split()[-1])
+
+    @property
+    def header(self) -> Header | None:
+        """The least header that is decided otherwise; None where all are decided alike."""
+        _, _, values = self.text.split("\n", 1)[0].partition(" before ")
+        return Header(*map(int, values.split())) if values else None
+
+
+@dataclass(frozen=True)
 class Difference:
     """The least header on which two texts decide differently, and how; None stands for no decision."""
 
@@ -118,6 +136,14 @@ class WrongRow:
     """The first row of a certificate that is wrong, and why."""
 
     row: int
+    reason: str
+
+
+@dataclass(frozen=True)
+class WrongLine:
+    """The first line of a proof that is wrong, and why."""
+
+    line: int
     reason: str
 
 

@@ -18,14 +18,15 @@ import re
 import shutil
 import subprocess
 import tempfile
-from typing import Callable, Iterable, Sequence
+from typing import Callable, Iterable, Sequence, overload
 
 from . import flags as masks
-from .answers import Answered, Box, Certificate, Difference, List, Memory, Plan, RuleState, Span, State, Table, Text, WrongRow
+from .answers import Answered, Box, Certificate, Difference, List, Memory, Plan, Proof, RuleState, Span, State, Table, Text, WrongLine, WrongRow
 from .errors import BY_STATUS, BadText, NotFound, RazorError
 from .headers import Header
 
 MISS = "miss"
+VALID_DIFFERENCE = re.compile(r"valid (differ .*) pairs=\d+\n")
 RULES = re.compile(r"rules (\d+), flagged \d+.*\n")
 
 
@@ -153,6 +154,20 @@ def decided(word: str) -> str | None:
     return None if word == MISS else word
 
 
+def verify(rules: List, table: Table, *, flags: bool = False) -> Difference | None:
+    """The least header that a list and a table of any words decide differently, or None. It may take very long."""
+    answered = run("verify", texts=[rules, table])
+    expect_unflagged(flags, rules)
+    return difference(answered.text) if answered.status else None
+
+
+def prove(rules: List, table: Table, *, flags: bool = False) -> Proof:
+    """The proof of what `verify` answers, for `check`. It may take very long."""
+    answered = run("prove", texts=[rules, table])
+    expect_unflagged(flags, rules)
+    return Proof(answered.text)
+
+
 def cert(rules: List, table: Table, *, flags: bool = False) -> Certificate | Difference:
     """The certificate that list and table decide every header alike, or the least header on which they don't."""
     answered = run("cert", texts=[rules, table])
@@ -160,14 +175,32 @@ def cert(rules: List, table: Table, *, flags: bool = False) -> Certificate | Dif
     return difference(answered.text) if answered.status else Certificate(answered.text)
 
 
-def check(rules: List, table: Table, certificate: Certificate, *, flags: bool = False) -> WrongRow | None:
-    """The first row of a certificate that is wrong, or None where it is valid."""
-    answered = run("check", texts=[rules, table, certificate])
+@overload
+def check(rules: List, table: Table, shown: Certificate, *, flags: bool = False) -> WrongRow | None: ...
+
+
+@overload
+def check(rules: List, table: Table, shown: Certificate | Proof, *, flags: bool = False) -> Difference | WrongLine | WrongRow | None: ...
+
+
+def check(rules: List, table: Table, shown: Certificate | Proof, *, flags: bool = False) -> Difference | WrongLine | WrongRow | None:
+    """None where a certificate or a proof shows that list and table decide every header alike.
+
+    Else the least header that they decide differently, where a proof shows that; or the first row or line that is wrong.
+    """
+    answered = run("check", texts=[rules, table, shown])
     expect_unflagged(flags, rules)
     if not answered.status:
         return None
-    number, reason = answered.text.strip().removeprefix("wrong row ").split(": ", 1)
-    return WrongRow(int(number), reason)
+    differing = VALID_DIFFERENCE.fullmatch(answered.text)
+    return difference(differing[1]) if differing else wrong(answered.text.strip())
+
+
+def wrong(told: str) -> WrongLine | WrongRow:
+    """The row or the line that is told to be wrong."""
+    place, reason = told.removeprefix("wrong ").split(": ", 1)
+    kind, number = place.split()
+    return WrongLine(int(number), reason) if kind == "line" else WrongRow(int(number), reason)
 
 
 def audit(rules: List, *, flags: bool = False) -> list[RuleState]:

@@ -11,12 +11,12 @@ NAME = tables.NAME
 Span = tuple[int, int]
 
 # Five numbers with words before and behind them, five spans, and the states of rules.
-HEADER = re.compile(r"((?:[a-z]+ +(?:\d+ +[a-z]+ +)?)?)(\d+(?:\s+\d+){4})((?:\s.*)?)")
+HEADER = re.compile(r"((?:[a-z]{2,} +(?:(?:\d+ +)?[a-z]+ +)?)?)(\d+(?:\s+\d+){4})((?:\s.*)?)")
 BOX = re.compile(r"(\d+-\d+(?: \d+-\d+){4})((?: (?:\d+|-) (?:\d+|-))?)")
 STATE = re.compile(r"rule (\d+) (?:live|droppable|never)(?: .*)?")
 
 # What `equiv`, `cert` and others say where a header is decided differently, and how.
-DIFFER = re.compile(rf"differ((?: \d+){{5}}) {NAME} {NAME}")
+DIFFER = re.compile(rf"(?:valid )?differ((?: \d+){{5}}) {NAME} {NAME}(?: pairs=\d+)?")
 
 # An entry of a table in a slot, or a write of one.
 SLOT = re.compile(r"((?:set )?\d+) (.*)")
@@ -28,7 +28,8 @@ PLAIN = re.compile(
     r"|(rows|boxes|rules|begun|begin|drop|clear|no place) +\d+"
     r"|no room \d+ \d+( \d+)?"
     r"|rule \d+ never"
-    r"|equal|valid rows=\d+|wrong row \d+: .*"
+    r"|equal|valid (rows|equal pairs)=\d+|wrong (row|line) \d+: .*"
+    r"|proof 1 rules \d+ entries \d+( before( \d+){5})?|([er]|p \d+ \d+)( ([er]?\d+|-|>))+|pairs \d+"
     r"|busy|idle|device fault|list full|step|abort|stage|commit"
     r"|stage \d+ of \d+( back)?"
     r"|\d+ entries needed, limit \d+"

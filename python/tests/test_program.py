@@ -17,6 +17,7 @@ EDGE = razor.List("""@10.0.0.0/8 192.168.1.10/32 0 : 65535 443 : 443 0x06/0xFF a
 @0.0.0.0/0 192.168.1.10/32 0 : 65535 0 : 65535 0x06/0xFF deny
 """, "edge.list")
 FLAGGED = razor.List("# 0x06/0xFF 0x1/0x1\n@0.0.0.0/0 0.0.0.0/0 0 : 1 0 : 1 0x06/0xFF 0x0/0x0 a\n@0.0.0.0/0 0.0.0.0/0 0 : 1 0 : 1 0x06/0xFF 0x1/0x1 a\n", "mine")
+EMPTY = razor.Table("table 2 slot 144 composed 0 entries 0\n")
 HOST = (3232235786, 3232235786)
 
 
@@ -45,6 +46,23 @@ class Program(unittest.TestCase):
         self.assertEqual(certificate.text.count("\n") - 1, certificate.rows)
         self.assertEqual(razor.Difference(razor.Header(167772160, 0, 0, 22, 6), "deny", "accept"), razor.cert(OFFICE, table))
         self.assertEqual(razor.WrongRow(1, "form"), razor.check(LAB, table, razor.Certificate("none\n")))
+
+    def test_list_and_table_are_compared(self):
+        table = razor.merge(razor.compile(LAB))
+        self.assertIsNone(razor.verify(LAB, table))
+        self.assertEqual(razor.Difference(razor.Header(167772160, 0, 0, 22, 6), "deny", "accept"), razor.verify(OFFICE, table))
+        self.assertEqual(("deny", None), (razor.verify(LAB, EMPTY).left, razor.verify(LAB, EMPTY).right))
+
+    def test_proofs_are_made_and_checked(self):
+        table = razor.compile(LAB)
+        proof = razor.prove(LAB, table)
+        self.assertIsNone(razor.check(LAB, table, proof))
+        self.assertEqual((None, f"pairs {proof.pairs}"), (proof.header, proof.text.splitlines()[-1]))
+        other = razor.prove(OFFICE, table)
+        self.assertEqual(razor.Header(167772160, 0, 0, 22, 6), other.header)
+        self.assertEqual(razor.verify(OFFICE, table), razor.check(OFFICE, table, other))
+        self.assertEqual(razor.WrongLine(1, "decisions do not differ"), razor.check(LAB, table, other))
+        self.assertEqual(razor.WrongRow(1, "form"), razor.check(LAB, table, razor.Proof("none\n")))
 
     def test_rules_have_states(self):
         self.assertEqual(["live", "never", "droppable", "live"], [rule.state for rule in razor.audit(EDGE)])
@@ -90,6 +108,9 @@ class Program(unittest.TestCase):
             call(FLAGGED, flags=True)
         with self.assertRaises(razor.Flagged):
             razor.equiv(LAB, FLAGGED)
+        for call in (razor.verify, razor.prove):
+            with self.assertRaises(razor.Flagged):
+                call(FLAGGED, EMPTY)
         with self.assertRaises(razor.Flagged):
             razor.query(FLAGGED, "a")
         with self.assertRaises(razor.BadText) as told:

@@ -38,7 +38,7 @@ def findings(**parts):
     """What is found where nothing changes, but for these parts."""
     side = Side("a.list", "a.list", 2, 0, True, "0")
     usual = dict(version=1, program_sha256="0", seconds=60, deny=("deny",), old=side, new=side, is_alike=True, difference=None, permitted=NOTHING, denied=NOTHING, others=NOTHING)
-    rest = dict(put_in=0, taken_out=0, hunks=(), idle=(), entries=(Entries("shorten", Size(5), Size(6)),), writes=Writes(8, ("clear 1",), None), certificate=None)
+    rest = dict(put_in=0, taken_out=0, hunks=(), idle=(), entries=(Entries("shorten", Size(5), Size(6)),), writes=Writes(8, ("clear 1",), None), validation=None)
     return Findings(**(usual | rest | parts))
 
 
@@ -175,10 +175,10 @@ class Report(unittest.TestCase):
     def test_the_data_of_the_page_is_written_as_json(self):
         self.assertEqual(self.call("--json", self.folder / "data", "old", "new").returncode, 0)
         data = json.loads((self.folder / "data").read_text())
-        self.assertEqual((data["version"], data["is_alike"], data["deny"]), (1, False, ["deny", "drop"]))
+        self.assertEqual((data["version"], data["is_alike"], data["deny"]), (2, False, ["deny", "drop"]))
         self.assertEqual(data["permitted"]["boxes"], [{"box": {"source": ["10.0.0.0", "10.255.255.255"], "destination": ["0.0.0.0", "255.255.255.255"], "source_port": [0, 65535], "destination_port": [22, 22], "protocol": [6, 6]}, "old": "deny", "new": "accept"}])
         self.assertEqual(data["difference"]["new"], {"decision": "accept", "line": 2, "rule": "@0.0.0.0/0 0.0.0.0/0 0 : 65535 0 : 65535 0x00/0x00 accept"})
-        self.assertEqual(data["certificate"]["is_valid"], True)
+        self.assertEqual(data["validation"], {"is_valid": True, "says": "equal"})
 
     def test_the_rules_are_named_that_keep_another_one_from_being_first(self):
         ended = self.call("--json", self.folder / "data", "old", "halves")

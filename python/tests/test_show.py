@@ -40,6 +40,12 @@ class Show(unittest.TestCase):
         ended = call("show", "--list", self.list, given=f"{DIFFER}\n")
         self.assertEqual((ended.returncode, ended.stdout), (1, f"differ {SHOWN} deny #2  line 2: @10.0.0.0/8 0.0.0.0/0 0 : 65535 22 : 22 0x06/0xFF deny\n"))
         self.assertEqual(call("show", given="equal\n").returncode, 0)
+        self.assertEqual(call("show", given=f"valid {DIFFER} pairs=1\n").stdout, f"valid differ {SHOWN} deny #2 pairs=1\n")
+
+    def test_a_proof_is_shown_as_it_is(self):
+        proof = "proof 1 rules 1 entries 1 before 0 0 0 0 6\ne 9 8 7 6 5 r1 r1 r1 r1 r1 r1\nr e2\np 1 1 4 3 2 > - e1 e1\npairs 1\n"
+        ended = call("show", given=proof)
+        self.assertEqual((ended.returncode, ended.stdout), (0, proof))
 
     def test_faults_have_the_statuses_of_the_program(self):
         for status, words in (

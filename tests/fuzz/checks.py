@@ -33,10 +33,17 @@ LIMITS = {
 NUMBER = "(0|[1-9][0-9]*)"
 NAME = r"(miss|#[1-9][0-9]*|[A-Za-z0-9_.-]{1,32})"
 DIFFER = f"differ( {NUMBER}){{5}} {NAME} {NAME}\n"
-WRONG = (
+WRONG_ROW = (
     f"wrong row {NUMBER}: (form|not the next box|rule claim|entry claim|decisions differ, {NAME} {NAME}|ends early"
     f"|count differs, stated {NUMBER} found {NUMBER})\n"
 )
+WRONG_LINE = (
+    f"wrong line {NUMBER}: (form|counts differ, stated {NUMBER} {NUMBER} found {NUMBER} {NUMBER}|decisions do not differ|order"
+    f"|cover of (entry|rule|pair)|pair {NUMBER} {NUMBER} missing|counts differ, stated {NUMBER} found {NUMBER}|ends early)\n"
+)
+NO = f"{WRONG_ROW}|{WRONG_LINE}|valid differ( {NUMBER}){{5}} {NAME} {NAME} pairs={NUMBER}\n"
+STEPS = f"( ([er][1-9][0-9]*|{NUMBER}|-|>))+"
+CLAIMS = f"(e{STEPS}\n)+(r{STEPS}\n)+(p {NUMBER} {NUMBER}{STEPS}\n)*pairs {NUMBER}\n"
 ENTRY = f"[0-9A-F]{{8}}/[0-9A-F]{{8}} [0-9A-F]{{8}}/[0-9A-F]{{8}} [0-9A-F]{{4}}/[0-9A-F]{{4}} [0-9A-F]{{4}}/[0-9A-F]{{4}} [0-9A-F]{{2}}/[0-9A-F]{{2}} {NAME}\n"
 TABLE = f"table 2 slot (104|144|288) composed {NUMBER} entries {NUMBER}\n({ENTRY})*"
 MEMORY = f"memory 1 slots {NUMBER} width (104|144|288) entries {NUMBER}\n({NUMBER} {ENTRY})*"
@@ -56,8 +63,10 @@ OUTPUTS = {
     "agreement": "equal\n",
     "difference": DIFFER,
     "certificate": f"({SPAN} {SPAN} {SPAN} {SPAN} {SPAN} ({NUMBER}|-) ({NUMBER}|-)\n)*rows {NUMBER}\n",
-    "verdict": f"valid rows={NUMBER}\n",
-    "wrong row": WRONG,
+    "verdict": f"valid (rows|equal pairs)={NUMBER}\n",
+    "wrong": NO,
+    "proof": f"proof 1 rules {NUMBER} entries {NUMBER}\n{CLAIMS}",
+    "proof of a difference": f"proof 1 rules {NUMBER} entries {NUMBER} before( {NUMBER}){{5}}\n{CLAIMS}",
     "decisions": f"({NAME}\n)*",
     "script answers": f"({SCRIPT_LINE})*",
     "session answers": f"({SCRIPT_LINE}|{EDIT_LINE})*",
@@ -153,6 +162,8 @@ def is_counted(text, lines):
             return all(line.split()[1] == str(number) for number, line in enumerate(lines, 1))
         case "boxes" | "certificate":
             return lines[-1].split()[1] == str(len(lines) - 1)
+        case "proof":
+            return lines[-1] == f"pairs {sum(line[0] == 'p' for line in lines[1:-1])}"
         case "table" | "memory" | "plan":
             return lines[0].endswith(f" {len(lines) - 1}")
     return True

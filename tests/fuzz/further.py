@@ -34,6 +34,8 @@ class Further:
             return self.of_refused(run)
         if name == "equiv" and run.status in (0, 1):
             return self.of_compared(run)
+        if name in ("verify", "prove") and run.status in (0, 1):
+            return self.of_verified(run)
         if name == "cert" and run.status == 0:
             os.rename("out", "certificate of it")
             return "" if self.run("check", "--", *files, "certificate of it")[0] == 0 else "check refuses it"
@@ -48,6 +50,22 @@ class Further:
         words = run.out.split()
         words[6:] = reversed(words[6:])
         return "" if status == run.status and out.split() == words else "it compares otherwise from the other side"
+
+    def of_verified(self, run):
+        """What `verify` answers is shown by what `prove` writes, and by `cert` where that has an answer."""
+        files = run.files()
+        status, answer, _ = self.run("verify", "--", *files)
+        proved = self.run("prove", "--", *files)[0]
+        os.rename(FURTHER, "proof of it")
+        if status != run.status or proved != status or run.command.name == "verify" and answer != run.out:
+            return "it answers otherwise"
+        checked = self.run("check", "--", *files, "proof of it")
+        if checked[0] != status or not checked[1].startswith(f"valid {answer.strip()} pairs="):
+            return f"check says {checked[1].strip()}"
+        certified = self.run("cert", "--", *files)
+        if certified[0] in (0, 1) and (certified[0] != status or status and certified[1] != answer):
+            return "cert answers otherwise"
+        return ""
 
     def of_shortened(self, run):
         """A shortened table is that of its list, needs each of its entries, and has no more than are allowed and promised."""
@@ -64,6 +82,8 @@ class Further:
             arranged = self.run("arrange", "--order", options["--order"], "--", file)
             if arranged[0] == 0 and int(FIRST_LINE.match(arranged[1])[1]) < entries:
                 return "it is longer than the least cost in its order"
+        if self.run("verify", "--", file, MADE)[1] != "equal\n":
+            return "verify says that it isn't the table of its list"
         status, out, _ = self.run("cert", "--", file, MADE)
         os.rename(FURTHER, "certificate of it")
         if status != 0:

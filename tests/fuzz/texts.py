@@ -8,6 +8,7 @@ TOKENS = (
     b",", b"-", b"#", b"#1", b"#65537", b"*", b"miss", b"0x", b"0xFF", b"0XfF/0x00", b"\r", b"\n", b"\t", b" ", b"\x00", b"\x80", b"rows 0",
     b"table 1 slot 104 composed 0 entries 0", b"table 2 slot 288 composed 0 entries 1", b"begin 1", b"look", b"33", b"00", b"1e3", b"+1",
     b"memory 1 slots 2 width 144 entries 0", b"plan 1 slots 2 width 144 writes 1", b"set 1 ", b"clear 2\n", b"clear 30 ",
+    b"proof 1 rules 0 entries 0", b" before 0 0 0 0 6", b"e r1\n", b"r e1\n", b" 103 r1 r1", b" r2", b" e2", b" >", b"p 1 1 -\n", b"pairs 0\n", b"pairs 1\n",
 )
 
 
@@ -169,9 +170,21 @@ def asked_decision(random):
 
 
 def certificate(random):
-    """A certificate of one row, which is right for a list and a table without entries."""
+    """A certificate of one row, or a proof, which is right for a list and a table without entries."""
+    if random.random() < 0.5:
+        return proof(random)
     claims = random.choice(("- -", "1 1", "1 -", "- 1"))
     return f"0-4294967295 0-4294967295 0-65535 0-65535 0-255 {claims}\nrows 1\n".encode()
+
+
+def proof(random):
+    """A proof whose covers name the open rule or entry, or something else at times."""
+    rules, entries = random.choice((0, 1, 2)), random.choice((0, 1, 2))
+    first = f"proof 1 rules {rules} entries {entries}" + random.choice(("", "", " before 0 0 0 0 6"))
+    covers = (*[f"e r{rules + 1}"] * (entries + 1), *[f"r e{entries + 1}"] * (rules + 1))
+    pairs = sorted({(random.randint(1, entries + 1), random.randint(1, rules + 1)) for _ in range(random.choice((0, 0, 1, 3)))})
+    lines = (f"p {rule} {entry} {random.choice(('r1', 'e1', '-', '>', '7 r1 -'))}" for entry, rule in pairs)
+    return lines_text(first, (*covers, *lines, f"pairs {len(pairs)}"))
 
 
 DRAW = {

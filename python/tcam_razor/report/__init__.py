@@ -7,7 +7,7 @@
 What is newly permitted comes first: headers that a word of --deny decided (`deny` and `drop` without it), and that another word
 decides now, or none. Then come what is newly denied and what else is decided differently, box by box; the rules that were put
 in and taken out; those that became shadowed or redundant; the sizes of both lists' tables by command; the writes that lead
-from one table to the other in its slots beside those of a whole swap; and whether the certificate of the new table is valid.
+from one table to the other in its slots beside those of a whole swap; and whether the new table decides as its list.
 The page fetches nothing and runs nothing; the same lists and the same program give the same page. What the program doesn't
 answer in --seconds is said not to be known. --json writes what the page is made of.
 

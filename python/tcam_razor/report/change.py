@@ -28,7 +28,6 @@ DENY = ("deny", "drop")
 MOST_BOXES = 2_000
 
 NEEDED = re.compile(r"(\d+) entries needed, limit (\d+)\n")
-VALID = re.compile(r"valid rows=(\d+)\n")
 PLAN = re.compile(r"plan 1 slots (\d+) width \d+ writes (\d+)\n")
 
 
@@ -74,7 +73,7 @@ class Plan:
 
 @dataclasses.dataclass(frozen=True)
 class Verdict:
-    """Whether a certificate is valid, or none where that isn't known; and what was said."""
+    """Whether a table decides as its list, or none where that isn't known; and what was said."""
 
     is_valid: bool | None
     says: str
@@ -274,23 +273,15 @@ class Change:
 
     @functools.cached_property
     def verdict(self) -> Verdict | None:
-        """What `check` says of the certificate of the new version's table; none where there is no table."""
+        """What `verify` says of the new version's list and table; none where there is no table."""
         if not self.new.sizes["shorten"].is_made:
             return None
-        files, folder = (self.new.name, self.new.table), self.razor.folder
-        with subprocess.Popen([self.razor.program, "cert", *files], cwd=folder, stdout=subprocess.PIPE, stderr=subprocess.DEVNULL) as writing:
-            assert writing.stdout is not None
-            words = [self.razor.program, "check", *files, "-"]
-            try:
-                ended = subprocess.run(words, cwd=folder, stdin=writing.stdout, capture_output=True, text=True, timeout=self.new.seconds)
-            except subprocess.TimeoutExpired:
-                writing.kill()
-                return Verdict(None, f"no verdict in {self.new.seconds:g} seconds")
-            writing.stdout.close()
-        found = VALID.fullmatch(ended.stdout)
-        if ended.returncode > 1:
-            return Verdict(None, ended.stderr.strip().replace("-: ", "a certificate of ", 1))
-        return Verdict(ended.returncode == 0 and writing.returncode == 0, f"{int(found[1]):,} rows" if found else ended.stdout.strip())
+        ended = self.new.run("verify", self.new.name, self.new.table)
+        if ended is None:
+            return Verdict(None, f"no answer in {self.new.seconds:g} seconds")
+        if ended.status > 1:
+            return Verdict(None, ended.err.strip())
+        return Verdict(ended.status == 0, ended.out.strip())
 
 
 def context(rows: Sequence[tuple[int | None, int | None]], around: int) -> Iterator[list[tuple[int | None, int | None]]]:

@@ -15,7 +15,7 @@ from tcam_razor.lists import Rule
 from tcam_razor.report.boxes import Box, Search
 from tcam_razor.report.change import MAKERS, Change, Size, Turned, Version, context
 
-VERSION = 1
+VERSION = 2
 
 # So many rules stand around those that were put in or taken out.
 AROUND = 2
@@ -109,8 +109,8 @@ class Writes:
 
 
 @dataclasses.dataclass(frozen=True)
-class Certificate:
-    """Whether the certificate of the new shortened table is valid, and what was said."""
+class Validation:
+    """Whether the new shortened table decides every header as its list, and what was said."""
 
     is_valid: bool | None
     says: str
@@ -138,7 +138,7 @@ class Findings:
     idle: tuple[Idle, ...] | None
     entries: tuple[Entries, ...]
     writes: Writes | None
-    certificate: Certificate | None
+    validation: Validation | None
 
     @property
     def shortened(self) -> Entries:
@@ -168,7 +168,7 @@ def found(change: Change, titles: Sequence[str], paths: Sequence[str], program: 
         idle=tuple(map(idle, change.turned)) if change.turned is not None else None,
         entries=tuple(Entries(command, change.old.sizes[command], change.new.sizes[command]) for command in MAKERS),
         writes=Writes(plan.slots, tuple(plan.writes), plan.needed or None) if plan else None,
-        certificate=Certificate(verdict.is_valid, verdict.says) if verdict else None,
+        validation=Validation(verdict.is_valid, verdict.says) if verdict else None,
     )
 
 

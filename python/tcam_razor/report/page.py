@@ -44,7 +44,7 @@ def page(it: Findings) -> str:
         element("title", f"{it.old.title} → {it.new.title}"),
         element("style", Html(STYLE)),
     )
-    parts = (top, flags, permitted, denied, first_difference, others, rules, idle, sizes, writes, certificate, bottom)
+    parts = (top, flags, permitted, denied, first_difference, others, rules, idle, sizes, writes, validation, bottom)
     body = element("body", element("main", [part(it) for part in parts]))
     return f"<!DOCTYPE html>\n{element('html', head, body, lang='en')}\n"
 
@@ -105,8 +105,8 @@ def tiles(it: Findings) -> Iterator[Sequence[str]]:
     yield "Entries, shortened", " → ".join(f"{size.count:,}" if size.is_made else "–" for size in (before, after)), growth(before, after)
     if it.writes and not it.writes.needed:
         yield "Writes in place", f"{len(it.writes.lines):,}", f"{before.count + after.count:,} for a whole swap"
-    if it.certificate:
-        yield "Certificate", VERDICTS[it.certificate.is_valid], it.certificate.says, COLOURS[it.certificate.is_valid]
+    if it.validation:
+        yield "Validation", VERDICTS[it.validation.is_valid], it.validation.says, COLOURS[it.validation.is_valid]
 
 
 def of_kind(kind: Kind, none: str, colour: str) -> Sequence[str]:
@@ -321,11 +321,11 @@ def write_row(name: str, count: int, most: int) -> Html:
     return element("tr", cell(name, "nowrap"), element("td", element("div", parts, class_=f"bar {'new' if name == 'in place' else 'old'}")))
 
 
-def certificate(it: Findings) -> Html:
-    title, verdict = "Certificate", it.certificate
+def validation(it: Findings) -> Html:
+    title, verdict = "Validation", it.validation
     if verdict is None:
         return section(title, paragraph("There is no shortened table of the new list."))
-    says = (element("code", "cert"), " wrote the certificate of the new list's shortened table, and ", element("code", "check"), ", which knows nothing of the compiler, tested it: ", verdict.says, ".")
+    says = (element("code", "verify"), ", which knows nothing of the compiler, compared the new list and its shortened table on every header: ", verdict.says, ".")
     return section(title, paragraph(pill(VERDICTS[verdict.is_valid], COLOURS[verdict.is_valid]), " ", *says))
 
 
@@ -338,7 +338,7 @@ def bottom(it: Findings) -> Html:
         ("states of rules", f"razor audit {new}"),
         ("table", f"razor shorten {new} > TABLE"),
         ("writes", f"razor place --slots {it.writes.slots if it.writes else 'N'} OLD-TABLE > MEMORY; razor patch MEMORY TABLE"),
-        ("certificate", f"razor cert {new} TABLE | razor check {new} TABLE -"),
+        ("validation", f"razor verify {new} TABLE"),
         ("old list", f"sha256 {it.old.sha256}"),
         ("new list", f"sha256 {it.new.sha256}"),
         ("program", f"sha256 {it.program_sha256}"),
